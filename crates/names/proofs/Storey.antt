@@ -1,0 +1,106 @@
+-- The second storey: on the declarations and the environments that the table and the scopes stand for, the code answers what the rules say.
+use mathlib.Core.Path.{_≡_, refl, sym, ap, _∙_}
+use mathlib.Core.Bool.{Bool, true, false}
+use mathlib.Core.Logic.{_⊎_, inl, inr}
+use mathlib.Core.Option.{Option, none, some, Option·map}
+use mathlib.Core.List.{List, [], _∷_, _++_, append-assoc, append-nil}
+use native.Mathlib.Omega.{arith}
+use native.Mathlib.Nat.{zero-add, add-zero}
+use Prim.Native.Nat.{ℕ, zero, suc, _+_, _-_, _≤_, _<_}
+use borrow.Author.Tests.{eqb-true}
+use lib.Dec.{eqb}
+use lib.ListN.{length, getD, set, take, drop, length-set, length-drop}
+use lib.Seq.{take-take, take-set-le, take-suc-set, drop-set-add, getD-set-same, getD-set-other}
+use Rattle.kit.specs.Pick.{pick}
+use Rattle.kit.specs.Out.{_&_}
+use Rattle.kit.proofs.Laws.{lt-or-le}
+use Rattle.rules.specs.Tools.{if_then_else_, _orElse_}
+use Rattle.rules.specs.Tree.{Declaration}
+use Rattle.rules.specs.Rules.{Env, find, walk, named, nth}
+use Rattle.names.specs.Table.{Slot, spaceOf, nameOf, numberOf, between, pushed, findIn, scopeAt, slotsIn, metOr, metFrom, namedFrom}
+use Rattle.names.specs.Stands.{foundOf, metOf, namedOf, count, Is, Stands, Opens, Envs, Below}
+use Rattle.names.specs.declared.Found.{Found}
+use Rattle.names.specs.declared.Found.the-variants.{At, Nothing}
+use Rattle.names.proofs.Laws.{push-room}
+
+-- ---- slots and declarations
+
+-- one more where the test holds
+step-append : (t : Bool) (a b c : ℕ) → a ≡ b + c → pick t (suc a) a ≡ pick t (suc b) b + c
+unfolding pick
+step-append true a b c h = omega arith
+step-append false a b c h = h
+
+pub count-append : (space : ℕ) (ds es : List Declaration) → count space (ds ++ es) ≡ count space ds + count space es
+unfolding count
+count-append space [] es = omega arith
+count-append space (d ∷ ds) es = step-append (eqb (d .space) space) _ _ _ (count-append space ds es)
+
+-- one declaration more
+module _ (space : ℕ) (ds : List Declaration) (d : Declaration) where
+  pub count-same : eqb (d .space) space ≡ true → count space (ds ++ (d ∷ [])) ≡ suc (count space ds)
+  unfolding count pick
+  count-same h = count-append space ds (d ∷ []) ∙ rw h (omega arith)
+
+  pub count-other : eqb (d .space) space ≡ false → count space (ds ++ (d ∷ [])) ≡ count space ds
+  unfolding count pick
+  count-other h = count-append space ds (d ∷ []) ∙ rw h (omega arith)
+
+pub stands-length : (before : List Declaration) (ss : List Slot) (ds : List Declaration) → Stands before ss ds → length ss ≡ length ds
+unfolding Stands
+stands-length before [] [] st = refl
+stands-length before (s ∷ ss) (d ∷ ds) st = ap suc (stands-length (before ++ (d ∷ [])) ss ds (st .1))
+
+pub stands-append : (before : List Declaration) (ss ss′ : List Slot) (ds ds′ : List Declaration) → Stands before ss ds → Stands (before ++ ds) ss′ ds′ → Stands before (ss ++ ss′) (ds ++ ds′)
+unfolding Stands
+stands-append before [] ss′ [] ds′ st st′ = rw append-nil at st′
+stands-append before (s ∷ ss) ss′ (d ∷ ds) ds′ st st′ =
+    (st .0, stands-append (before ++ (d ∷ [])) ss ss′ ds ds′ (st .1) (rw append-assoc st′))
+
+-- the inverse, at a seam that both lists have
+pub stands-split : (before : List Declaration) (ss ss′ : List Slot) (ds ds′ : List Declaration) → length ss ≡ length ds → Stands before (ss ++ ss′) (ds ++ ds′) → Stands before ss ds × Stands (before ++ ds) ss′ ds′
+unfolding Stands
+stands-split before [] ss′ [] ds′ e st = (tt, rw append-nil st)
+stands-split before [] ss′ (d ∷ ds) ds′ e st = absurd (omega arith)
+stands-split before (s ∷ ss) ss′ [] ds′ e st = absurd (omega arith)
+stands-split before (s ∷ ss) ss′ (d ∷ ds) ds′ e st =
+    let rest = stands-split (before ++ (d ∷ [])) ss ss′ ds ds′ (omega arith) (st .1) in
+    ((st .0, rest .0), rw append-assoc at (rest .1))
+
+-- ---- the search in one scope
+
+-- an answer, k further on
+abbrev from : ℕ → Option ℕ → Option ℕ
+from k o = Option·map (λ n. k + n) o
+
+from-zero : (o : Option ℕ) → from 0 o ≡ o
+from-zero none = refl
+from-zero (some n) = rw zero-add
+
+from-suc : (k : ℕ) (o : Option ℕ) → from (suc k) o ≡ from k (Option·map suc o)
+from-suc k none = refl
+from-suc k (some n) = ap some (omega arith)
+
+-- one slot: k of the space were passed, t and u are the tests on its space and its name
+turn : (t u : Bool) (n k : ℕ) (F : Found) (o : Option ℕ) → (t ≡ true → n ≡ k) → (t ≡ true → F ≡ foundOf (from (suc k) o)) → (t ≡ false → F ≡ foundOf (from k o)) → pick t (pick u (At n) F) F ≡ foundOf (from k (if t then if u then some 0 else Option·map suc o else o))
+unfolding pick if_then_else_
+turn true true n k F o number same other = ap At (number refl ∙ sym (add-zero k))
+turn true false n k F o number same other = same refl ∙ ap foundOf (from-suc k o)
+turn false u n k F o number same other = other refl
+
+module _ (space name : ℕ) where
+  -- the search past `before`, of which k are of the space
+  find-from : (before : List Declaration) (ss : List Slot) (ds : List Declaration) (k : ℕ) → count space before ≡ k → Stands before ss ds → findIn ss space name ≡ foundOf (from k (find ds space name))
+  unfolding Stands findIn find
+  find-from before [] [] k e st = refl
+  find-from before (s ∷ ss) (d ∷ ds) k e st =
+      rw (st .0 .space, st .0 .name)
+      (turn (eqb (d .space) space) (eqb (d .name) name) (numberOf s) k (findIn ss space name) (find ds space name)
+      (λ h. st .0 .number ∙ (rw (eqb-true (d .space) space h) e))
+      (λ h. find-from (before ++ (d ∷ [])) ss ds (suc k) (count-same space before d h ∙ ap suc e) (st .1))
+      (λ h. find-from (before ++ (d ∷ [])) ss ds k (count-other space before d h ∙ e) (st .1)))
+
+  -- in one scope: the number of a name
+  pub find-stands : (ss : List Slot) (ds : List Declaration) → Stands [] ss ds → findIn ss space name ≡ foundOf (find ds space name)
+  unfolding count
+  find-stands ss ds st = find-from [] ss ds 0 refl st ∙ ap foundOf (from-zero (find ds space name))
