@@ -21,6 +21,9 @@ use Rattle.names.specs.Table.{Slot, spaceOf, nameOf, numberOf, between, 
 use Rattle.names.specs.Stands.{foundOf, metOf, namedOf, count, Is, Stands, Opens, Envs, Below}
 use Rattle.names.specs.declared.Found.{Found}
 use Rattle.names.specs.declared.Found.the-variants.{At, Nothing}
+use Rattle.names.specs.declared.Met.{Met}
+use Rattle.names.specs.declared.Named.{Named}
+use Rattle.names.specs.declared.Named.the-variants.{Out as NamedOut}
 use Rattle.names.proofs.Laws.{push-room}
 
 -- ---- slots and declarations
@@ -104,3 +107,62 @@ module _ (space name : ℕ) where
   pub find-stands : (ss : List Slot) (ds : List Declaration) → Stands [] ss ds → findIn ss space name ≡ foundOf (find ds space name)
   unfolding count
   find-stands ss ds st = find-from [] ss ds 0 refl st ∙ ap foundOf (from-zero (find ds space name))
+
+-- ---- the scopes further out
+
+-- one scope, out by `out`
+scope-turn : (F : Found) (M : Met) (o : Option ℕ) (w : Option (ℕ × ℕ)) (out d : ℕ) → F ≡ foundOf o → out ≡ d → M ≡ metOf w → metOr F out M ≡ metOf (Option·map (λ n. (d, n)) o orElse w)
+unfolding metOr _orElse_
+scope-turn F M none w out d f e m = rw f m
+scope-turn F M (some n) w out d f e m = rw (f, e)
+
+-- one scope, t the test on its name
+named-turn : (t : Bool) (out k : ℕ) (N : Named) (o : Option ℕ) → out ≡ k → N ≡ namedOf (from (suc k) o) → pick t (NamedOut out) N ≡ namedOf (from k (if t then some 0 else Option·map suc o))
+unfolding pick if_then_else_
+named-turn true out k N o e n = ap NamedOut (e ∙ sym (add-zero k))
+named-turn false out k N o e n = n ∙ ap namedOf (from-suc k o)
+
+module _ (table : List Slot) (scopes : List (List ℕ)) where
+  pub envs-length : (depth : ℕ) (es : List Env) → Envs table scopes depth es → length es ≡ depth
+  unfolding Envs
+  envs-length zero [] en = refl
+  envs-length (suc k) (e ∷ es) en = ap suc (envs-length k es (en .1))
+
+  module _ (space name : ℕ) where
+    -- the walk with `left` scopes left, the next of them d scopes out
+    walk-from : (depth left d : ℕ) (es : List Env) → d + left ≡ suc depth → Envs table scopes left es → metFrom table scopes depth left space name ≡ metOf (walk es d space name)
+    unfolding Envs metFrom walk
+    walk-from depth zero d [] h en = refl
+    walk-from depth (suc k) d (e ∷ es) h en =
+        scope-turn _ _ (find (e .decls) space name) (walk es (suc d) space name) (depth - k) d (find-stands space name _ (e .decls) (en .0 .stands)) (omega arith)
+        (walk-from depth k (suc d) es (omega arith) (en .1))
+
+    -- outward: how far out a name is declared, and its number there
+    pub outward-walk : (depth : ℕ) (es : List Env) → Envs table scopes depth es → metFrom table scopes depth depth space name ≡ metOf (walk es 1 space name)
+    outward-walk depth es en = walk-from depth depth 1 es (omega arith) en
+
+  module _ (name : ℕ) where
+    named-from : (depth left k : ℕ) (es : List Env) → k + left ≡ depth → Envs table scopes left es → namedFrom scopes depth left name ≡ namedOf (from k (named es name))
+    unfolding Envs namedFrom named
+    named-from depth zero k [] h en = refl
+    named-from depth (suc l) k (e ∷ es) h en =
+        rw (en .0 .name)
+        (named-turn (eqb (e .name) name) (depth - 1 - l) k _ (named es name) (omega arith) (named-from depth l (suc k) es (omega arith) (en .1)))
+
+    -- how far out the scope of a name is
+    pub scope-named : (depth : ℕ) (es : List Env) → Envs table scopes depth es → namedFrom scopes depth depth name ≡ namedOf (named es name)
+    scope-named depth es en = named-from depth depth 0 es (omega arith) en ∙ ap namedOf (from-zero (named es name))
+
+  -- the scope d out is the environment d out
+  pub scope-nth : (depth d : ℕ) (es : List Env) → Envs table scopes depth es → d < depth → (e : Env) × (nth es d ≡ some e) × Opens table (scopeAt scopes (depth - 1 - d)) e
+  unfolding Envs nth
+  scope-nth (suc k) zero (e ∷ es) en h = let q : suc k - 1 - 0 ≡ k = omega arith in (e, refl, rw q (en .0))
+  scope-nth (suc k) (suc d) (e ∷ es) en h =
+      let q : suc k - 1 - suc d ≡ k - 1 - d = omega arith in
+      rw q (scope-nth k d es (en .1) (omega arith))
+
+  pub scope-past : (depth d : ℕ) (es : List Env) → Envs table scopes depth es → depth ≤ d → nth es d ≡ none
+  unfolding Envs nth
+  scope-past zero d [] en h = refl
+  scope-past (suc k) zero (e ∷ es) en h = absurd (omega arith)
+  scope-past (suc k) (suc d) (e ∷ es) en h = scope-past k d es (en .1) (omega arith)
