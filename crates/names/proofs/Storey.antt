@@ -17,7 +17,7 @@ use Rattle.kit.proofs.Laws.{lt-or-le}
 use Rattle.rules.specs.Tools.{if_then_else_, _orElse_}
 use Rattle.rules.specs.Tree.{Declaration}
 use Rattle.rules.specs.Rules.{Env, find, walk, named, nth}
-use Rattle.names.specs.Table.{Slot, spaceOf, nameOf, numberOf, between, pushed, findIn, scopeAt, slotsIn, metOr, metFrom, namedFrom}
+use Rattle.names.specs.Table.{Slot, spaceOf, nameOf, numberOf, between, pushed, findIn, scopeAt, slotsIn, metOr, metFrom, namedFrom, noScope}
 use Rattle.names.specs.Stands.{foundOf, metOf, namedOf, count, Is, Stands, Opens, Envs, Below}
 use Rattle.names.specs.declared.Found.{Found}
 use Rattle.names.specs.declared.Found.the-variants.{At, Nothing}
@@ -166,3 +166,96 @@ module _ (table : List Slot) (scopes : List (List ℕ)) where
   scope-past zero d [] en h = refl
   scope-past (suc k) zero (e ∷ es) en h = absurd (omega arith)
   scope-past (suc k) (suc d) (e ∷ es) en h = scope-past k d es (en .1) (omega arith)
+
+-- ---- frames: what a change of the table, or of the scopes, leaves as it was
+
+-- a part of the first n elements
+part-take : {A : Type 0} (m f n : ℕ) (l : List A) → f + m ≤ n → take m (drop f (take n l)) ≡ take m (drop f l)
+part-take m zero n l h = take-take m n l (omega arith)
+part-take m (suc f) zero l h = absurd (omega arith)
+part-take m (suc f) (suc n) [] h = refl
+part-take m (suc f) (suc n) (x ∷ l) h = part-take m f n l (omega arith)
+
+module _ (n : ℕ) (table table′ : List Slot) (same : take n table ≡ take n table′) where
+  -- slots below n are those of any table that agrees below n
+  pub between-kept : (first last : ℕ) → last ≤ n → between first last table ≡ between first last table′
+  unfolding between
+  between-kept first last h = go (lt-or-le last first)
+    where
+      go : ((last < first) ⊎ (first ≤ last)) → take (last - first) (drop first table) ≡ take (last - first) (drop first table′)
+      go (inl l) = let e : last - first ≡ 0 = omega arith in rw e
+      go (inr l) =
+          sym (part-take (last - first) first n table (omega arith)) ∙ ap (λ t. take (last - first) (drop first t)) same
+          ∙ part-take (last - first) first n table′ (omega arith)
+
+  pub opens-kept : (s : List ℕ) (e : Env) → getD s 2 0 ≤ n → n ≤ length table′ → Opens table s e → Opens table′ s e
+  unfolding slotsIn
+  opens-kept s e h r o =
+      record {
+        name = o .name;
+        order = o .order;
+        room = omega arith;
+        stands = rw (between-kept (getD s 1 0) (getD s 2 0) h) at (o .stands);
+      }
+
+  pub envs-kept : (scopes : List (List ℕ)) (depth : ℕ) (es : List Env) → n ≤ length table′ → Below n scopes depth → Envs table scopes depth es → Envs table′ scopes depth es
+  unfolding Envs Below
+  envs-kept scopes zero [] r b en = tt
+  envs-kept scopes (suc k) (e ∷ es) r b en = (opens-kept (scopeAt scopes k) e (b .0) r (en .0), envs-kept scopes k es r (b .1) (en .1))
+
+pub below-more : (n m : ℕ) (scopes : List (List ℕ)) (depth : ℕ) → n ≤ m → Below n scopes depth → Below m scopes depth
+unfolding Below
+below-more n m scopes zero h b = tt
+below-more n m scopes (suc k) h b = (omega arith, below-more n m scopes k h (b .1))
+
+-- a scope written past the open ones
+module _ (scopes : List (List ℕ)) (j : ℕ) (s : List ℕ) where
+  pub below-set : (n depth : ℕ) → depth ≤ j → Below n scopes depth → Below n (set scopes j s) depth
+  unfolding Below
+  below-set n zero h b = tt
+  below-set n (suc k) h b = (rw (getD-set-other scopes j k s noScope (omega arith)) (b .0), below-set n k (omega arith) (b .1))
+
+  pub envs-set : (table : List Slot) (depth : ℕ) (es : List Env) → depth ≤ j → Envs table scopes depth es → Envs table (set scopes j s) depth es
+  unfolding Envs
+  envs-set table zero [] h en = tt
+  envs-set table (suc k) (e ∷ es) h en = (rw (getD-set-other scopes j k s noScope (omega arith)) (en .0), envs-set table k es (omega arith) (en .1))
+
+module _ (scopes : List (List ℕ)) (depth name first last : ℕ) (room : depth < length scopes) where
+  -- one scope more
+  pub envs-push : (table : List Slot) (decls : List Declaration) (es : List Env) → first ≤ last → last ≤ length table → Stands [] (between first last table) decls → Envs table scopes depth es → Envs table (set scopes depth (name ∷ first ∷ last ∷ [])) (suc depth) (record { name = name; decls = decls } ∷ es)
+  unfolding Envs slotsIn
+  envs-push table decls es o r st en =
+      let s : List ℕ = name ∷ first ∷ last ∷ [] in
+      (rw (getD-set-same scopes depth s noScope room) (record { name = refl; order = o; room = r; stands = st }), envs-set scopes depth s table depth es (omega arith) en)
+
+  pub below-push : (n : ℕ) → last ≤ n → Below n scopes depth → Below n (set scopes depth (name ∷ first ∷ last ∷ [])) (suc depth)
+  unfolding Below
+  below-push n h b =
+      let s : List ℕ = name ∷ first ∷ last ∷ [] in
+      (rw (getD-set-same scopes depth s noScope room) h, below-set scopes depth s n depth (omega arith) b)
+
+-- ---- a slot entered
+
+module _ (table : List Slot) (used : ℕ) (slot : Slot) where
+  pub pushed-room : used < length table → pushed table used slot ≡ (used + 1 & set table used slot)
+  pushed-room h = sym (push-room table used slot h)
+
+  -- slots before it stay
+  pub between-set : (first last : ℕ) → last ≤ used → between first last (set table used slot) ≡ between first last table
+  between-set first last h = between-kept used (set table used slot) table (take-set-le used table used slot (omega arith)) first last h
+
+  -- and it comes behind them
+  pub between-push : (first : ℕ) → first ≤ used → used < length table → between first (used + 1) (set table used slot) ≡ between first used table ++ (slot ∷ [])
+  unfolding between
+  between-push first h g =
+      let i : ℕ = used - first in
+      let e : used + 1 - first ≡ suc i = omega arith in
+      let l = length-drop first table in
+      rw e
+      (ap (λ u. take (suc i) (drop first (set table u slot))) (let q : used ≡ first + i = omega arith in q)
+      ∙ rw (drop-set-add first table i slot) (take-suc-set (drop first table) i slot (omega arith)))
+
+  -- one declaration more
+  pub stands-push : (first : ℕ) (ds : List Declaration) (d : Declaration) → first ≤ used → used < length table → Is ds slot d → Stands [] (between first used table) ds → Stands [] (between first (used + 1) (set table used slot)) (ds ++ (d ∷ []))
+  unfolding Stands
+  stands-push first ds d h g is st = rw (between-push first h g) (stands-append [] (between first used table) (slot ∷ []) ds (d ∷ []) st (is, tt))
