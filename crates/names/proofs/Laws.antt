@@ -25,10 +25,12 @@ any-default (x ∷ xs) (suc i) d e h = any-default xs i d e (omega arith)
 
 -- ---- the slots from one up to another
 
+-- the first of them, and the rest
 pub between-cons : (i to : ℕ) (table : List Slot) → i < to → i < length table → between i to table ≡ getD table i [] ∷ between (i + 1) to table
 unfolding between
 between-cons i to table h g = rw (left-suc i to h, drop-next table i [] g)
 
+-- none from the end on
 pub between-nil : (i to : ℕ) (table : List Slot) → to - (to - length table) ≤ i → between i to table ≡ []
 unfolding between
 between-nil i to table h = go (lt-or-le i to)

@@ -9,7 +9,7 @@ use native.Mathlib.Nat.{zero-add, add-zero}
 use Prim.Native.Nat.{ℕ, zero, suc, _+_, _-_, _≤_, _<_}
 use borrow.Author.Tests.{eqb-true}
 use lib.Dec.{eqb}
-use lib.ListN.{length, getD, set, take, drop, length-set, length-drop}
+use lib.ListN.{length, getD, set, take, drop, length-drop}
 use lib.Seq.{take-take, take-set-le, take-suc-set, drop-set-add, getD-set-same, getD-set-other}
 use Rattle.kit.specs.Pick.{pick}
 use Rattle.kit.specs.Out.{_&_}
@@ -17,10 +17,10 @@ use Rattle.kit.proofs.Laws.{lt-or-le}
 use Rattle.rules.specs.Tools.{if_then_else_, _orElse_}
 use Rattle.rules.specs.Tree.{Declaration}
 use Rattle.rules.specs.Rules.{Env, find, walk, named, nth}
-use Rattle.names.specs.Table.{Slot, spaceOf, nameOf, numberOf, between, pushed, findIn, scopeAt, slotsIn, metOr, metFrom, namedFrom, noScope}
+use Rattle.names.specs.Table.{Slot, numberOf, between, pushed, findIn, noScope, scopeAt, slotsIn, metOr, metFrom, namedFrom}
 use Rattle.names.specs.Stands.{foundOf, metOf, namedOf, count, Is, Stands, Opens, Envs, Below}
 use Rattle.names.specs.declared.Found.{Found}
-use Rattle.names.specs.declared.Found.the-variants.{At, Nothing}
+use Rattle.names.specs.declared.Found.the-variants.{At}
 use Rattle.names.specs.declared.Met.{Met}
 use Rattle.names.specs.declared.Named.{Named}
 use Rattle.names.specs.declared.Named.the-variants.{Out as NamedOut}
@@ -34,6 +34,7 @@ unfolding pick
 step-append true a b c h = omega arith
 step-append false a b c h = h
 
+-- two lists of declarations are counted one by one
 pub count-append : (space : ℕ) (ds es : List Declaration) → count space (ds ++ es) ≡ count space ds + count space es
 unfolding count
 count-append space [] es = omega arith
@@ -49,11 +50,13 @@ module _ (space : ℕ) (ds : List Declaration) (d : Declaration) where
   unfolding count pick
   count-other h = count-append space ds (d ∷ []) ∙ rw h (omega arith)
 
+-- there are as many slots as declarations
 pub stands-length : (before : List Declaration) (ss : List Slot) (ds : List Declaration) → Stands before ss ds → length ss ≡ length ds
 unfolding Stands
 stands-length before [] [] st = refl
 stands-length before (s ∷ ss) (d ∷ ds) st = ap suc (stands-length (before ++ (d ∷ [])) ss ds (st .1))
 
+-- slots behind slots are declarations behind declarations
 pub stands-append : (before : List Declaration) (ss ss′ : List Slot) (ds ds′ : List Declaration) → Stands before ss ds → Stands (before ++ ds) ss′ ds′ → Stands before (ss ++ ss′) (ds ++ ds′)
 unfolding Stands
 stands-append before [] ss′ [] ds′ st st′ = rw append-nil at st′
@@ -123,6 +126,7 @@ named-turn true out k N o e n = ap NamedOut (e ∙ sym (add-zero k))
 named-turn false out k N o e n = n ∙ ap namedOf (from-suc k o)
 
 module _ (table : List Slot) (scopes : List (List ℕ)) where
+  -- there are as many environments as open scopes
   pub envs-length : (depth : ℕ) (es : List Env) → Envs table scopes depth es → length es ≡ depth
   unfolding Envs
   envs-length zero [] en = refl
@@ -142,6 +146,7 @@ module _ (table : List Slot) (scopes : List (List ℕ)) where
     outward-walk depth es en = walk-from depth depth 1 es (omega arith) en
 
   module _ (name : ℕ) where
+    -- the search for a name with `left` scopes left, the next of them k scopes out
     named-from : (depth left k : ℕ) (es : List Env) → k + left ≡ depth → Envs table scopes left es → namedFrom scopes depth left name ≡ namedOf (from k (named es name))
     unfolding Envs namedFrom named
     named-from depth zero k [] h en = refl
@@ -161,6 +166,7 @@ module _ (table : List Slot) (scopes : List (List ℕ)) where
       let q : suc k - 1 - suc d ≡ k - 1 - d = omega arith in
       rw q (scope-nth k d es (en .1) (omega arith))
 
+  -- past the outermost scope there is no environment
   pub scope-past : (depth d : ℕ) (es : List Env) → Envs table scopes depth es → depth ≤ d → nth es d ≡ none
   unfolding Envs nth
   scope-past zero d [] en h = refl
@@ -188,6 +194,7 @@ module _ (n : ℕ) (table table′ : List Slot) (same : take n table ≡ take n 
           sym (part-take (last - first) first n table (omega arith)) ∙ ap (λ t. take (last - first) (drop first t)) same
           ∙ part-take (last - first) first n table′ (omega arith)
 
+  -- a scope whose slots lie below n stays what it is
   pub opens-kept : (s : List ℕ) (e : Env) → getD s 2 0 ≤ n → n ≤ length table′ → Opens table s e → Opens table′ s e
   unfolding slotsIn
   opens-kept s e h r o =
@@ -198,17 +205,19 @@ module _ (n : ℕ) (table table′ : List Slot) (same : take n table ≡ take n 
         stands = rw (between-kept (getD s 1 0) (getD s 2 0) h) at (o .stands);
       }
 
+  -- and so do all open scopes
   pub envs-kept : (scopes : List (List ℕ)) (depth : ℕ) (es : List Env) → n ≤ length table′ → Below n scopes depth → Envs table scopes depth es → Envs table′ scopes depth es
   unfolding Envs Below
   envs-kept scopes zero [] r b en = tt
   envs-kept scopes (suc k) (e ∷ es) r b en = (opens-kept (scopeAt scopes k) e (b .0) r (en .0), envs-kept scopes k es r (b .1) (en .1))
 
+-- slots below n are below what is more than n
 pub below-more : (n m : ℕ) (scopes : List (List ℕ)) (depth : ℕ) → n ≤ m → Below n scopes depth → Below m scopes depth
 unfolding Below
 below-more n m scopes zero h b = tt
 below-more n m scopes (suc k) h b = (omega arith, below-more n m scopes k h (b .1))
 
--- a scope written past the open ones
+-- a scope written past the open ones leaves these as they were
 module _ (scopes : List (List ℕ)) (j : ℕ) (s : List ℕ) where
   pub below-set : (n depth : ℕ) → depth ≤ j → Below n scopes depth → Below n (set scopes j s) depth
   unfolding Below
@@ -220,14 +229,16 @@ module _ (scopes : List (List ℕ)) (j : ℕ) (s : List ℕ) where
   envs-set table zero [] h en = tt
   envs-set table (suc k) (e ∷ es) h en = (rw (getD-set-other scopes j k s noScope (omega arith)) (en .0), envs-set table k es (omega arith) (en .1))
 
+-- a scope written as the next open one
 module _ (scopes : List (List ℕ)) (depth name first last : ℕ) (room : depth < length scopes) where
-  -- one scope more
+  -- it stands for an environment more
   pub envs-push : (table : List Slot) (decls : List Declaration) (es : List Env) → first ≤ last → last ≤ length table → Stands [] (between first last table) decls → Envs table scopes depth es → Envs table (set scopes depth (name ∷ first ∷ last ∷ [])) (suc depth) (record { name = name; decls = decls } ∷ es)
   unfolding Envs slotsIn
   envs-push table decls es o r st en =
       let s : List ℕ = name ∷ first ∷ last ∷ [] in
       (rw (getD-set-same scopes depth s noScope room) (record { name = refl; order = o; room = r; stands = st }), envs-set scopes depth s table depth es (omega arith) en)
 
+  -- whose slots lie below n too
   pub below-push : (n : ℕ) → last ≤ n → Below n scopes depth → Below n (set scopes depth (name ∷ first ∷ last ∷ [])) (suc depth)
   unfolding Below
   below-push n h b =
@@ -237,6 +248,7 @@ module _ (scopes : List (List ℕ)) (depth name first last : ℕ) (room : depth 
 -- ---- a slot entered
 
 module _ (table : List Slot) (used : ℕ) (slot : Slot) where
+  -- where the table has room, the slot is entered and counted
   pub pushed-room : used < length table → pushed table used slot ≡ (used + 1 & set table used slot)
   pushed-room h = sym (push-room table used slot h)
 

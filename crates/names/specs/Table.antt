@@ -55,6 +55,7 @@ scopeAt scopes k = getD scopes k noScope
 unfoldable pub slotsIn : List Slot → (scope : List ℕ) → List Slot
 slotsIn table scope = between (getD scope 1 0) (getD scope 2 0) table
 
+-- what the scope `out` says, or what those further out say
 unfoldable pub metOr : Found → (out : ℕ) → Met → Met
 metOr (At number) out rest = MetAt out number
 metOr Nothing out rest = rest
