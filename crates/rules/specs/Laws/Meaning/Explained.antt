@@ -443,11 +443,6 @@ walked-at : (s : Scope) (p : Place) (u : Readings.Use) (x : ℕ × ℕ) → Read
 unfolding Readings.walkedAt _then_
 walked-at s p u x e₁ e₂ = rw e₁ e₂
 
-use-is : (s : Scope) (p : Place) (ls : List Level) (u : Readings.Use) → Readings.around (p .way) (Readings.root s) [] ≡ some ls → Readings.useIn ls (p .field) (p .at) ≡ some u
-    → Readings.useAt s p ≡ some u
-unfolding Readings.useAt _then_
-use-is s p ls u e₁ e₂ = rw e₁ e₂
-
 explained-is : (ls : List Level) (space new count index z : ℕ) → explained (record { around = ls; head = outerAlias space new count index z }) ≡ Explainer.denotes ls space count index
 unfolding explained Explainer.outerDenotes outerAlias if_then_else_
 explained-is ls space new count index z = refl
@@ -534,7 +529,7 @@ module _ {s t : Scope} {fs : Fields} {outside : List Env} {here : Env} {out : Fi
       at-place = record { way = H .w; field = f; at = S .served .o }
 
       was : Readings.useAt s at-place ≡ some (record { levels = level (H .w) fs ∷ H .ins; head = headOf i; operand = ref space (Id name) [] (Q .z) })
-      was = use-is s at-place _ _ (H .in-input) (Agree.use-there (level (H .w) fs) (H .ins) f (S .served .o) i (headOf i) _ ei refl had)
+      was = Agree.use-is s at-place _ _ (H .in-input) (Agree.use-there (level (H .w) fs) (H .ins) f (S .served .o) i (headOf i) _ ei refl had)
 
       meets : (o : Option Place) → outward (H .ins) space name ≡ o → Walks (H .outs) space 1 (some (Q .at)) o → Explained s t (record { around = level (H .w′) out ∷ H .els; head = h })
       meets none q m = absurd m
@@ -556,7 +551,7 @@ module _ {s t : Scope} {fs : Fields} {outside : List Env} {here : Env} {out : Fi
             name = name;
             walks-for = walked-at s at-place _ (space, name) was (walked-is (headOf i) space name (Q .z) (S .walks));
             becomes = _;
-            stands = use-is t at-place _ _ (H .in-output) (Agree.use-there (level (H .w) out) (H .outs) f (S .served .o) (A .q .0) (A .h) _ (A .there) (A .head) (N .2));
+            stands = Agree.use-is t at-place _ _ (H .in-output) (Agree.use-there (level (H .w) out) (H .outs) f (S .served .o) (A .q .0) (A .h) _ (A .there) (A .head) (N .2));
             here = level (H .w) out;
             outside = H .outs;
             number = N .0;
