@@ -1,6 +1,6 @@
 -- Runs beside P1 to P10, one list with one claim: for each rule that those do not touch, the smallest input that tells it from an easy error.
 use mathlib.Core.Path.{_≡_, refl}
-use mathlib.Core.Bool.{true, _&&_}
+use mathlib.Core.Bool.{true}
 use mathlib.Core.List.{List, [], _∷_, _++_}
 use Prim.Native.Nat.{ℕ, zero, suc}
 use Rattle.rules.specs.Tools
