@@ -126,16 +126,19 @@ cases =
     ∷ record { input = root (raw 1 12 0 0 0 0 ∷ raw 2 9 0 0 0 0 ∷ raw 3 9 0 0 0 0 ∷ raw 6 0 0 1 0 0 ∷ []); expected = refusal 4 4 }
     -- field 20 with a DECL after its REF
     ∷ record { input = root (raw 1 20 0 0 0 0 ∷ raw 3 8 0 0 0 0 ∷ raw 2 12 0 0 0 0 ∷ []); expected = refusal 4 3 }
+    -- a heap type is of space 9, and not of space 4
+    ∷ record { input = root (raw 1 16 0 0 0 0 ∷ raw 2 9 0 1 0 0 ∷ raw 3 9 0 0 0 0 ∷ []); expected = rows (root (raw 1 16 0 0 0 0 ∷ raw 2 9 0 1 0 0 ∷ raw 3 9 0 0 0 0 ∷ [])) }
+    ∷ record { input = root (raw 1 16 0 0 0 0 ∷ raw 2 9 0 1 0 0 ∷ raw 3 4 0 0 0 0 ∷ []); expected = refusal 4 3 }
     -- step A: a name twice in one space of one scope, here in one field
     ∷ record { input = root (raw 1 5 0 0 0 0 ∷ raw 2 4 0 1 0 10 ∷ raw 2 4 0 1 0 11 ∷ []); expected = refusal 6 11 }
     -- the nearest scope of a name; the final number of an item; not number 0 everywhere
     ∷ record { input = twiceDeclared; expected = rows (twiceDeclaredOut 1) }
     ∷ record { input = movedType; expected = rows (movedTypeOut 1) }
     ∷ record { input = twoTypes; expected = rows (twoTypesOut 1 1) }
-    -- a written number stays, though the alias inserted before its field takes that number
+    -- a written number stays, though the alias inserted before the type that it counted to takes that number
     ∷ record {
-      input = root (raw 1 12 0 0 0 0 ∷ raw 2 9 0 1 0 0 ∷ raw 1 6 0 0 0 0 ∷ raw 2 11 0 0 0 0 ∷ raw 7 0 0 0 0 0 ∷ raw 1 12 0 0 0 0 ∷ raw 2 9 0 3 0 0 ∷ raw 3 9 1 1 0 70 ∷ raw 3 9 0 0 0 71 ∷ raw 8 0 0 0 0 0 ∷ []);
-      expected = rows (root (raw 1 12 0 0 0 0 ∷ raw 2 9 0 1 0 0 ∷ raw 1 6 0 0 0 0 ∷ raw 2 11 0 0 0 0 ∷ raw 7 0 0 0 0 0 ∷ raw 1 11 0 0 0 70 ∷ raw 2 9 0 2147483648 0 70 ∷ raw 5 9 0 1 0 70 ∷ raw 1 12 0 0 0 0 ∷ raw 2 9 0 3 0 0 ∷ raw 3 9 0 0 0 70 ∷ raw 3 9 0 0 0 71 ∷ raw 8 0 0 0 0 0 ∷ []));
+      input = root (raw 1 12 0 0 0 0 ∷ raw 2 9 0 1 0 0 ∷ raw 1 6 0 0 0 0 ∷ raw 2 11 0 0 0 0 ∷ raw 7 0 0 0 0 0 ∷ raw 1 12 0 0 0 0 ∷ raw 2 9 0 3 0 0 ∷ raw 3 9 1 1 0 70 ∷ raw 1 12 0 0 0 0 ∷ raw 2 9 0 4 0 0 ∷ raw 3 9 0 0 0 71 ∷ raw 8 0 0 0 0 0 ∷ []);
+      expected = rows (root (raw 1 12 0 0 0 0 ∷ raw 2 9 0 1 0 0 ∷ raw 1 6 0 0 0 0 ∷ raw 2 11 0 0 0 0 ∷ raw 7 0 0 0 0 0 ∷ raw 1 11 0 0 0 70 ∷ raw 2 9 0 2147483648 0 70 ∷ raw 5 9 0 1 0 70 ∷ raw 1 12 0 0 0 0 ∷ raw 2 9 0 3 0 0 ∷ raw 3 9 0 0 0 70 ∷ raw 1 12 0 0 0 0 ∷ raw 2 9 0 4 0 0 ∷ raw 3 9 0 0 0 71 ∷ raw 8 0 0 0 0 0 ∷ []));
     }
     -- two PATHs: an instance of the instance, then the func, each alias on the one before it
     ∷ record {
@@ -149,6 +152,11 @@ cases =
     }
     -- inserted aliases are resolved before the operands of their field: unknown is the instance at 2, not the component at 1
     ∷ record { input = root (raw 1 7 0 0 0 0 ∷ raw 2 10 0 0 0 0 ∷ raw 3 11 1 5 0 1 ∷ raw 3 8 1 6 1 2 ∷ raw 4 0 0 9 0 0 ∷ []); expected = refusal 9 2 }
+    -- k counts the root's insertions before those of the component in it, though its field comes first
+    ∷ record {
+      input = root (raw 1 12 0 0 0 0 ∷ raw 2 9 0 1 0 0 ∷ raw 1 8 0 0 0 0 ∷ raw 2 10 0 2 0 0 ∷ raw 1 6 0 0 0 0 ∷ raw 2 11 0 0 0 0 ∷ raw 7 0 0 0 0 0 ∷ raw 1 13 0 0 0 0 ∷ raw 2 9 0 0 0 0 ∷ raw 3 9 1 1 0 70 ∷ raw 8 0 0 0 0 0 ∷ raw 1 22 0 0 0 0 ∷ raw 2 8 0 0 0 0 ∷ raw 3 8 1 2 1 71 ∷ raw 4 0 0 5 0 0 ∷ []);
+      expected = rows (root (raw 1 12 0 0 0 0 ∷ raw 2 9 0 1 0 0 ∷ raw 1 8 0 0 0 0 ∷ raw 2 10 0 2 0 0 ∷ raw 1 6 0 0 0 0 ∷ raw 2 11 0 0 0 0 ∷ raw 7 0 0 0 0 0 ∷ raw 1 11 0 0 0 70 ∷ raw 2 9 0 2147483649 0 70 ∷ raw 5 9 0 1 0 70 ∷ raw 1 13 0 0 0 0 ∷ raw 2 9 0 0 0 0 ∷ raw 3 9 0 0 0 70 ∷ raw 8 0 0 0 0 0 ∷ raw 1 9 0 0 0 71 ∷ raw 2 8 0 2147483648 0 71 ∷ raw 3 10 0 0 0 71 ∷ raw 9 0 0 5 0 0 ∷ raw 1 22 0 0 0 0 ∷ raw 2 8 0 0 0 0 ∷ raw 3 8 0 0 0 71 ∷ []));
+    }
     -- an OUTER whose scope no open one is named; two CASEs of one name
     ∷ record { input = root (raw 1 11 0 0 0 50 ∷ raw 2 9 0 1 0 0 ∷ raw 5 9 1 7 0 51 ∷ []); expected = refusal 10 50 }
     ∷ record { input = root (raw 1 12 0 0 0 0 ∷ raw 2 9 0 0 0 0 ∷ raw 6 0 0 1 0 60 ∷ raw 6 0 0 1 0 61 ∷ []); expected = refusal 12 61 }
