@@ -13,7 +13,7 @@ use Rattle.rules.specs.Shapes.{FOUR}
 use Rattle.rules.specs.Readings
 use Rattle.rules.specs.Readings.{isInserted, Place, Level, Spot, original, inserted, inOriginal, inInserted, standings, ofSpace, place, counted}
 use Rattle.rules.specs.Explainer
-use Rattle.rules.specs.Explainer.{Standing, Definition, definitions, indexSpace, renumbered, reached, amongOriginals}
+use Rattle.rules.specs.Explainer.{Definition, definitions, indexSpace, renumbered, reached, amongOriginals}
 use Rattle.rules.specs.Laws.ToolLaws.{false-not, or-cases, eqb-true, then-some}
 use Rattle.rules.specs.Laws.Results.{some-same, no-option}
 

@@ -13,14 +13,13 @@ use Rattle.rules.specs.Tree.{Declaration, Operand, ref, outer, case, Hea
 use Rattle.rules.specs.Shapes.{FOUR, hereOnly}
 use Rattle.rules.specs.Rules
 use Rattle.rules.specs.Rules.{ok, Env, find, fresh, walk, expandOperand, expandOperands, expandHead, pathAliases, exportAlias, outerAlias, _before_, resolveHead, resolveInserted, resolveFields}
-use Rattle.rules.specs.Readings.{isInserted, originals, inserted}
+use Rattle.rules.specs.Readings.{isInserted, originals}
 use Rattle.rules.specs.Explainer.{items, renumbered}
 use Rattle.rules.specs.Laws.ToolLaws.{if-ok, All, done, _&_, all-append, all-map}
 use Rattle.rules.specs.Laws.Meaning.Names.{LowFields}
 use Rattle.rules.specs.Laws.Meaning.Runs
 use Rattle.rules.specs.Laws.Meaning.Runs.{AllNew, Ran, ran, ran-end}
 use Rattle.rules.specs.Laws.Meaning.StepC.{alias-resolved}
-use Rattle.rules.specs.Laws.Meaning.Frames.{walks}
 use Rattle.rules.specs.Laws.Meaning.Lookups
 use Rattle.rules.specs.Laws.Meaning.Agree
 use Rattle.rules.specs.Laws.Meaning.Agree.{At, at-first, at-later}
