@@ -1,12 +1,13 @@
--- Runs beside P1 to P10, one list with one claim: for each rule that those do not touch, the smallest input that tells it from an easy error.
+-- Runs beside P1 to P10: for each rule that those do not touch, the smallest input that tells it from an easy error.
 use mathlib.Core.Path.{_≡_, refl}
-use mathlib.Core.Bool.{true}
+use mathlib.Core.Bool.{Bool, true, _&&_}
 use mathlib.Core.List.{List, [], _∷_, _++_}
 use Prim.Native.Nat.{ℕ, zero, suc}
+use lib.ListN.{take, replicate}
 use Rattle.rules.specs.Tools
 use Rattle.rules.specs.Versions.{version1, today, base}
 use Rattle.rules.specs.Rows
-use Rattle.rules.specs.Rows.{Raw, raw}
+use Rattle.rules.specs.Rows.{bytes, Raw, raw}
 use Rattle.rules.specs.Tree
 use Rattle.rules.specs.Shapes
 use Rattle.rules.specs.Reader
@@ -172,3 +173,47 @@ depth-right :
     (record { input = root (nested 31); expected = rows (root (nested 31)) } ∷ record { input = root (nested 32); expected = refusal 5 96 } ∷ []) ≡ true
 unfolding root nested Examples.all Examples.right Examples.agrees Examples.inputBytes Examples.rawsBytes Tools.computes Rows.computes Tree.computes Shapes.computes Reader.computes Rules.computes Answer.computes
 depth-right = refl
+
+-- ---- refusals 1 to 3, on bytes
+
+-- an input, the length of the output buffer, and the refusal
+record Header : Type 0 where
+  input : List ℕ
+  room : ℕ
+  refusal-number : ℕ
+
+-- a header of these six bytes, with this row count
+header : List ℕ → (count : ℕ) → List ℕ
+header mark count = mark ++ bytes 2 count
+
+wnt : List ℕ
+wnt = 87 ∷ 78 ∷ 84 ∷ 1 ∷ 0 ∷ 0 ∷ []
+
+-- the empty form, OPEN and CLOSE
+empty : List ℕ
+empty = Examples.rawsBytes (raw 7 0 0 0 0 0 ∷ raw 8 0 0 0 0 0 ∷ [])
+
+headers : List Header
+headers =
+    -- no byte; one byte short of a header; another mark, version, rule set
+    record { input = []; room = 0; refusal-number = 1 }
+    ∷ record { input = take 7 (header wnt 2); room = 136; refusal-number = 1 }
+    ∷ record { input = header (87 ∷ 78 ∷ 85 ∷ 1 ∷ 0 ∷ 0 ∷ []) 2 ++ empty; room = 136; refusal-number = 1 }
+    ∷ record { input = header (87 ∷ 78 ∷ 84 ∷ 2 ∷ 0 ∷ 0 ∷ []) 2 ++ empty; room = 136; refusal-number = 1 }
+    ∷ record { input = header (87 ∷ 78 ∷ 84 ∷ 1 ∷ 0 ∷ 1 ∷ []) 2 ++ empty; room = 136; refusal-number = 1 }
+    -- no row; too many; one more than there are; a byte too much
+    ∷ record { input = header wnt 0; room = 136; refusal-number = 2 }
+    ∷ record { input = header wnt 1024 ++ replicate 16384 0; room = 136; refusal-number = 2 }
+    ∷ record { input = header wnt 3 ++ empty; room = 200; refusal-number = 2 }
+    ∷ record { input = header wnt 2 ++ (empty ++ (0 ∷ [])); room = 136; refusal-number = 2 }
+    -- an output buffer one byte short
+    ∷ record { input = header wnt 2 ++ empty; room = 135; refusal-number = 3 }
+    ∷ []
+
+headersAll : List Header → Bool
+headersAll [] = true
+headersAll (h ∷ hs) = Examples.agrees (Answer.answer base (h .input) (h .room)) (refusal (h .refusal-number) 0) && headersAll hs
+
+headers-right : headersAll headers ≡ true
+unfolding header wnt empty headers headersAll Examples.agrees Examples.rawsBytes Tools.computes Rows.computes Tree.computes Shapes.computes Reader.computes Rules.computes Answer.computes
+headers-right = refl
