@@ -66,8 +66,8 @@ indexSpace way sort n (i ▸ fs) = definitions way sort n 0 (headOf i .decls) ++
 
 unfoldable pub denotes : (around : List Level) (sort count index : ℕ) → Option Definition
 denotes around sort count index =
-    only (aliasable sort) sort then λ sort. getElem? around count then λ l.
-    getElem? (indexSpace (l .way) sort 0 (l .fields)) index
+    if aliasable sort then (getElem? around count then λ l. getElem? (indexSpace (l .way) sort 0 (l .fields)) index)
+    else none
 
 -- of the operands of a field with code 11: one OUTER of two numbers
 unfoldable pub outerDenotes : List Level → List Operand → Option Definition

@@ -141,7 +141,7 @@ among-is t d l m e₁ e₂ = rw (e₁, e₂)
 
 denotes-is : (ls : List Level) (space count index : ℕ) (l : Level) (d : Definition) → isIn space FOUR ≡ true → getElem? ls count ≡ some l
     → getElem? (indexSpace (l .way) space 0 (l .fields)) index ≡ some d → Explainer.denotes ls space count index ≡ some d
-unfolding Explainer.denotes only _then_
+unfolding Explainer.denotes if_then_else_ _then_
 denotes-is ls space count index l d four e₁ e₂ = rw (four-aliasable space four, e₁) e₂
 
 -- what counting finds `i` scopes out in an original field, the explainer finds there too
