@@ -1,0 +1,3 @@
+-- What the contracts cite, and under `Apart` what only the proofs do.
+pub mod Taken
+pub mod Apart
