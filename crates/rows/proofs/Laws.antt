@@ -122,7 +122,7 @@ module _ (b e x y z : ℕ) where
       rw (ne-eqb c 1 (omega arith), ne-eqb c 2 (omega arith), ne-eqb c 3 (omega arith), ne-eqb c 4 (omega arith), ne-eqb c 5 (omega arith), ne-eqb c 6 (omega arith), ne-eqb c 7 (omega arith), ne-eqb c 8 (omega arith), ne-eqb c 9 (omega arith))
 
 -- the row in the sixteen bytes from a
-row-from : (l : List ℕ) (a : ℕ) → rowOf (parts (getD l a 0) (getD l (a + 1) 0) (two l (a + 2)) (four l (a + 4)) (four l (a + 8)) (four l (a + 12))) ≡ taken (decodeRow topName (drop a l))
+pub row-from : (l : List ℕ) (a : ℕ) → rowOf (parts (getD l a 0) (getD l (a + 1) 0) (two l (a + 2)) (four l (a + 4)) (four l (a + 8)) (four l (a + 12))) ≡ taken (decodeRow topName (drop a l))
 unfolding decodeRow rawAt
 row-from l a =
     row-right _ _ _ _ _ _
