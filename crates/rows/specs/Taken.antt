@@ -72,11 +72,11 @@ unfoldable pub rowBytes : Row → List ℕ
 rowBytes row = bytesOf (ruleRow row)
 
 -- a row written at `to`, and the next place; nothing, where there is no room
-unfoldable pub putRow : (out : List ℕ) (to : ℕ) → Row → Out ℕ
+unfoldable pub putRow : (out : List ℕ) (to : ℕ) → Row → Out ℕ (List ℕ)
 putRow out to row = pick (ltb to (length out / 16)) (to + 1 & sets out (16 * to) (rowBytes row)) (to & out)
 
 -- the bytes of the row at i copied to `to`, and the next place; nothing, where there is no such row or no room
-unfoldable pub copyRow : (rows : List ℕ) (i : ℕ) (out : List ℕ) (to : ℕ) → Out ℕ
+unfoldable pub copyRow : (rows : List ℕ) (i : ℕ) (out : List ℕ) (to : ℕ) → Out ℕ (List ℕ)
 copyRow rows i out to =
     pick (ltb i (length rows / 16))
     (pick (ltb to (length out / 16)) (to + 1 & sets out (16 * to) (take 16 (drop (16 * i) rows))) (to & out))
