@@ -18,7 +18,7 @@ use Rattle.rules.specs.Rows as rules
 use Rattle.rules.specs.Rows.{value, bytes, raw, rawAt, rawBytes, index, byCode, decode, encode, flag, number, decodeRow, encodeRow}
 use Rattle.rules.specs.Versions.{topName}
 use Rattle.rows.specs.Taken.{asIndex, taken, ruleIndex, ruleRow, bytesOf, rowBytes}
-use Rattle.rows.specs.Apart.{two, four, isIndex, indexOf, isLone, fieldOf, declOf, refOf, outerOf, caseOf, openOf, pathOf, closeOf, exportOf, rowOf, flagOf, valueOf, parts, partsOf, partBytes}
+use Rattle.rows.specs.Apart.{two, four, isIndex, indexOf, isLone, fieldOf, declOf, refOf, outerOf, caseOf, openOf, pathOf, closeOf, exportOf, rowOf, flagOf, valueOf, parts, rowParts, partBytes}
 use Rattle.rows.specs.declared.row.Parts.{Parts}
 use Rattle.rows.specs.declared.row.Row.{Row}
 use Rattle.rows.specs.declared.row.Row.the-variants.{Field, Decl, Ref, Path, Outer, Case, Open, Close, Export, Broken}
@@ -136,34 +136,34 @@ row-found l a e x y z r h he hx hy hz = h ∙ rw (he, hx, hy, hz) (row-from l a)
 
 -- the parts of each kind of row, as `parts_of` finds them
 module _ {row : Row} {r : Parts} where
-  pub field-parts : {c e z : ℕ} → row ≡ Field c e z → r ≡ parts 1 c e 0 0 z → r ≡ partsOf row
+  pub field-parts : {c e z : ℕ} → row ≡ Field c e z → r ≡ parts 1 c e 0 0 z → r ≡ rowParts row
   field-parts h g = g ∙ rw h
 
-  pub decl-parts : {s n z : ℕ} → row ≡ Decl s n z → r ≡ parts 2 s 0 n 0 z → r ≡ partsOf row
+  pub decl-parts : {s n z : ℕ} → row ≡ Decl s n z → r ≡ parts 2 s 0 n 0 z → r ≡ rowParts row
   decl-parts h g = g ∙ rw h
 
-  pub ref-parts : {s e x y z : ℕ} {at : Index} → row ≡ Ref s at y z → e ≡ flagOf at → x ≡ valueOf at → r ≡ parts 3 s e x y z → r ≡ partsOf row
+  pub ref-parts : {s e x y z : ℕ} {at : Index} → row ≡ Ref s at y z → e ≡ flagOf at → x ≡ valueOf at → r ≡ parts 3 s e x y z → r ≡ rowParts row
   ref-parts h he hx g = g ∙ rw (h, he, hx)
 
-  pub path-parts : {n : ℕ} → row ≡ Path n → r ≡ parts 4 0 0 n 0 0 → r ≡ partsOf row
+  pub path-parts : {n : ℕ} → row ≡ Path n → r ≡ parts 4 0 0 n 0 0 → r ≡ rowParts row
   path-parts h g = g ∙ rw h
 
-  pub outer-parts : {s e x y z : ℕ} {up at : Index} → row ≡ Outer s up at z → e ≡ flagOf up + 2 * flagOf at → x ≡ valueOf up → y ≡ valueOf at → r ≡ parts 5 s e x y z → r ≡ partsOf row
+  pub outer-parts : {s e x y z : ℕ} {up at : Index} → row ≡ Outer s up at z → e ≡ flagOf up + 2 * flagOf at → x ≡ valueOf up → y ≡ valueOf at → r ≡ parts 5 s e x y z → r ≡ rowParts row
   outer-parts h he hx hy g = g ∙ rw (h, he, hx, hy)
 
-  pub case-parts : {n z : ℕ} → row ≡ Case n z → r ≡ parts 6 0 0 n 0 z → r ≡ partsOf row
+  pub case-parts : {n z : ℕ} → row ≡ Case n z → r ≡ parts 6 0 0 n 0 z → r ≡ rowParts row
   case-parts h g = g ∙ rw h
 
-  pub open-parts : {k n : ℕ} → row ≡ Open k n → r ≡ parts 7 k 0 n 0 0 → r ≡ partsOf row
+  pub open-parts : {k n : ℕ} → row ≡ Open k n → r ≡ parts 7 k 0 n 0 0 → r ≡ rowParts row
   open-parts h g = g ∙ rw h
 
-  pub close-parts : row ≡ Close → r ≡ parts 8 0 0 0 0 0 → r ≡ partsOf row
+  pub close-parts : row ≡ Close → r ≡ parts 8 0 0 0 0 0 → r ≡ rowParts row
   close-parts h g = g ∙ rw h
 
-  pub export-parts : {n : ℕ} → row ≡ Export n → r ≡ parts 9 0 0 n 0 0 → r ≡ partsOf row
+  pub export-parts : {n : ℕ} → row ≡ Export n → r ≡ parts 9 0 0 n 0 0 → r ≡ rowParts row
   export-parts h g = g ∙ rw h
 
-  pub broken-parts : row ≡ Broken → r ≡ parts 0 0 0 0 0 0 → r ≡ partsOf row
+  pub broken-parts : row ≡ Broken → r ≡ parts 0 0 0 0 0 0 → r ≡ rowParts row
   broken-parts h g = g ∙ rw h
 
 pub ruleset parts-ways = (field-parts, decl-parts, ref-parts, path-parts, outer-parts, case-parts, open-parts, close-parts, export-parts, broken-parts, needs)
@@ -175,7 +175,7 @@ word-bytes v h =
     let q : v / 16777216 ≡ v / 256 / 256 / 256 % 256 = omega arith in
     cc
 
-pub row-bytes : (row : Row) → partBytes (partsOf row) ≡ rowBytes row
+pub row-bytes : (row : Row) → partBytes (rowParts row) ≡ rowBytes row
 unfolding partBytes rowBytes ruleRow ruleIndex bytesOf encodeRow encode rawBytes bytes flag number
 row-bytes (Field code builtin z) = refl
 row-bytes (Decl space name z) = refl

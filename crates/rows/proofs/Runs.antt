@@ -9,7 +9,7 @@ use lib.ListN.{length, getD, take, drop, length-drop}
 use lib.Seq.{drop-drop, take-add, length-take-le, getD-drop, getD-take}
 use borrow.Author.Tests.{lt-ltb, le-ltb}
 use Rattle.kit.specs.Pick.{pick}
-use Rattle.kit.proofs.Laws.{lt-or-le, yes!, no!}
+use Rattle.kit.proofs.Laws.{lt-or-le, yes!, no! }
 use Rattle.rules.specs.Rows.{Row, Raw, value, bytes, rawAt, rawBytes, decode, encode, decodeRow, encodeRow}
 use Rattle.rules.specs.Versions.{topName}
 use Rattle.rules.specs.Answer.{rowsOf}

@@ -92,17 +92,17 @@ valueOf (Name n) = n
 abbrev pub parts : (code b e x y z : ℕ) → Parts
 parts code b e x y z = record { code = code; b = b; e = e; x = x; y = y; z = z }
 
-abbrev pub partsOf : Row → Parts
-partsOf (Field code builtin z) = parts 1 code builtin 0 0 z
-partsOf (Decl space name z) = parts 2 space 0 name 0 z
-partsOf (Ref space at paths z) = parts 3 space (flagOf at) (valueOf at) paths z
-partsOf (Path name) = parts 4 0 0 name 0 0
-partsOf (Outer space up at z) = parts 5 space (flagOf up + 2 * flagOf at) (valueOf up) (valueOf at) z
-partsOf (Case name z) = parts 6 0 0 name 0 z
-partsOf (Open kind name) = parts 7 kind 0 name 0 0
-partsOf Close = parts 8 0 0 0 0 0
-partsOf (Export name) = parts 9 0 0 name 0 0
-partsOf Broken = parts 0 0 0 0 0 0
+abbrev pub rowParts : Row → Parts
+rowParts (Field code builtin z) = parts 1 code builtin 0 0 z
+rowParts (Decl space name z) = parts 2 space 0 name 0 z
+rowParts (Ref space at paths z) = parts 3 space (flagOf at) (valueOf at) paths z
+rowParts (Path name) = parts 4 0 0 name 0 0
+rowParts (Outer space up at z) = parts 5 space (flagOf up + 2 * flagOf at) (valueOf up) (valueOf at) z
+rowParts (Case name z) = parts 6 0 0 name 0 z
+rowParts (Open kind name) = parts 7 kind 0 name 0 0
+rowParts Close = parts 8 0 0 0 0 0
+rowParts (Export name) = parts 9 0 0 name 0 0
+rowParts Broken = parts 0 0 0 0 0 0
 
 -- the sixteen bytes of six parts
 unfoldable pub partBytes : Parts → List ℕ

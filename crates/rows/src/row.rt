@@ -7,7 +7,7 @@ ghost use lib.Seq.{sets};
 ghost use Rattle.kit.specs.Out.{_&_};
 ghost use Rattle.rules.specs.Rows.{bytes};
 ghost use Rattle.rows.specs.Taken.{rowAt, codeAt, putRow, copyRow};
-ghost use Rattle.rows.specs.Apart.{two, four, isIndex, indexOf, isLone, fieldOf, declOf, refOf, outerOf, caseOf, openOf, pathOf, closeOf, exportOf, rowOf, flagOf, valueOf, parts, partsOf, partBytes};
+ghost use Rattle.rows.specs.Apart.{two, four, isIndex, indexOf, isLone, fieldOf, declOf, refOf, outerOf, caseOf, openOf, pathOf, closeOf, exportOf, rowOf, flagOf, valueOf, parts, rowParts, partBytes};
 
 // An operand of REF and OUTER is a number or a name.
 pub enum Index {
@@ -334,7 +334,7 @@ fn six(code: u8, b: u8, e: u32, x: u32, y: u32, z: u32) -> Parts
 
 // The parts of a row, all zero where it is Broken.
 fn parts_of(row: Row) -> Parts
-    ensures { λ r. ⌜ r ≡ partsOf row ⌝ }
+    ensures { λ r. ⌜ r ≡ rowParts row ⌝ }
 {
     match row {
         Row::Field { code, builtin, z } => six(1, code, builtin, 0, 0, z),

@@ -1,0 +1,14 @@
+-- `rows::shape::is_complete` meets its contract.
+use Rattle.rows.proofs.ShapeLaws.{complete-right}
+use mathlib.Core.Path.{_∙_}
+use borrow.Author.Needs.{needs}
+use Rattle.rows.proofs.shape.is_complete.Statement.{statement}
+use Rattle.rows.proofs.shape.is_complete.Tie as tie
+
+pub is-complete-spec : {M : Type 1} → statement M
+is-complete-spec =
+    tie.close (tie.spec
+    (λ c κs. search needs)
+    (λ c κs. search needs)
+    (λ c κs. search needs)
+    (λ c. cc (complete-right (c .before .before .before .args .shape))))
