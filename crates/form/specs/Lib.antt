@@ -1,0 +1,5 @@
+-- What the contracts cite.
+pub mod Header
+pub mod Part
+-- What only the proofs do.
+pub mod Marks
