@@ -1,2 +1,4 @@
+pub mod EndsStorey
 pub mod Marked
 pub mod Marks
+pub mod Storey

@@ -2,3 +2,4 @@
 pub mod ends;
 pub mod header;
 pub mod part;
+pub mod read;
