@@ -6,19 +6,19 @@ use mathlib.Core.List.{List, [], _∷_, _++_}
 use native.Mathlib.Omega.{arith}
 use native.Mathlib.Nat.{add-zero, add-assoc}
 use Prim.Native.Nat.{ℕ, zero, suc, _+_, _*_, _/_, _%_, _^_, _<_, _≤_}
-use lib.Dec.{eqb, leb, ltb}
+use lib.Dec.{eqb}
 use lib.ListN.{length, getD, take, drop, length-drop}
 use lib.Seq.{sets, getD-drop, drop-drop, take-add, length-take-le}
 use borrow.Author.Needs.{needs}
 use borrow.Author.Tests.{ne-eqb}
 use Rattle.kit.specs.Pick.{pick}
 use Rattle.kit.proofs.Laws.{sets-append}
-use Rattle.rules.specs.Tools.{only, _then_, between, zeros}
+use Rattle.rules.specs.Tools.{only, _then_}
 use Rattle.rules.specs.Rows as rules
 use Rattle.rules.specs.Rows.{value, bytes, raw, rawAt, rawBytes, index, byCode, decode, encode, flag, number, decodeRow, encodeRow}
 use Rattle.rules.specs.Versions.{topName}
 use Rattle.rows.specs.Taken.{asIndex, taken, ruleIndex, ruleRow, bytesOf, rowBytes}
-use Rattle.rows.specs.Apart.{two, four, isIndex, indexOf, isLone, fieldOf, declOf, refOf, outerOf, caseOf, openOf, pathOf, closeOf, exportOf, rowOf, flagOf, valueOf, parts, rowParts, partBytes}
+use Rattle.rows.specs.Apart.{two, four, isIndex, indexOf, fieldOf, declOf, refOf, outerOf, caseOf, openOf, pathOf, closeOf, exportOf, rowOf, flagOf, valueOf, parts, rowParts, partBytes}
 use Rattle.rows.specs.declared.row.Parts.{Parts}
 use Rattle.rows.specs.declared.row.Row.{Row}
 use Rattle.rows.specs.declared.row.Row.the-variants.{Field, Decl, Ref, Path, Outer, Case, Open, Close, Export, Broken}

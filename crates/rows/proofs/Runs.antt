@@ -1,6 +1,6 @@
 -- Rows one after another: the row at a place is the rules' row there, a part of a run of rows has its rows, and the bytes of a row are those it was read from.
 use mathlib.Core.Path.{_≡_, refl, sym, ap, _∙_}
-use mathlib.Core.Option.{Option, none, some}
+use mathlib.Core.Option.{none, some}
 use mathlib.Core.List.{List, [], _∷_, _++_}
 use mathlib.Core.Logic.{⊎-elim}
 use native.Mathlib.Omega.{arith}
@@ -8,12 +8,11 @@ use Prim.Native.Nat.{ℕ, zero, suc, _+_, _*_, _-_, _/_, _%_, _<_, _≤_}
 use lib.ListN.{length, getD, take, drop, length-drop}
 use lib.Seq.{drop-drop, take-add, length-take-le, getD-drop, getD-take}
 use borrow.Author.Tests.{lt-ltb, le-ltb}
-use Rattle.kit.specs.Pick.{pick}
 use Rattle.kit.proofs.Laws.{lt-or-le, yes!, no! }
-use Rattle.rules.specs.Rows.{Row, Raw, value, bytes, rawAt, rawBytes, decode, encode, decodeRow, encodeRow}
+use Rattle.rules.specs.Rows.{Row, value, bytes, rawAt, rawBytes, decodeRow, encodeRow}
 use Rattle.rules.specs.Versions.{topName}
 use Rattle.rules.specs.Answer.{rowsOf}
-use Rattle.rules.specs.Laws.ToolLaws.{ok-at, done, _&_}
+use Rattle.rules.specs.Laws.ToolLaws.{ok-at, _&_}
 use Rattle.rules.specs.Laws.RowLaws.{Bytes, bytes-drop, decode-parts}
 use Rattle.rows.specs.Taken.{taken, rowAt}
 use Rattle.rows.specs.declared.row.Row.the-variants.{Broken}

@@ -1,26 +1,26 @@
 -- The code's shapes are the rules' tables, and a row against a shape is the rules' `next`.
-use mathlib.Core.Path.{_≡_, refl, sym, ap, _∙_}
+use mathlib.Core.Path.{_≡_, refl, sym, _∙_}
 use mathlib.Core.Bool.{Bool, true, false, _&&_, _||_, not, or-false, and-true, and-false}
-use mathlib.Core.Option.{Option, none, some}
+use mathlib.Core.Option.{none, some}
 use mathlib.Core.Logic.{⊎-elim}
 use mathlib.Core.List.{List, [], _∷_, _++_}
 use native.Mathlib.Omega.{arith}
-use native.Mathlib.Nat.{add-zero, add-suc}
+use native.Mathlib.Nat.{add-zero}
 use Prim.Native.Nat.{ℕ, zero, suc, _+_, _-_, _<_, _≤_, zero-le}
 use lib.Dec.{eqb, leb}
 use lib.ListN.{getD, List·getD-eq-default}
-use borrow.Author.Tests.{ne-eqb, lt-leb, le-leb, eq-eqb}
+use borrow.Author.Tests.{ne-eqb, lt-leb}
 use Rattle.kit.specs.Pick.{pick}
 use Rattle.kit.proofs.Laws.{lt-or-le, yes!, no! }
-use Rattle.rules.specs.Tools.{if_then_else_, only, isIn, between}
+use Rattle.rules.specs.Tools.{if_then_else_, only, isIn}
 use Rattle.rules.specs.Versions.{today}
 use Rattle.rules.specs.Tree.{Declaration}
 use Rattle.rules.specs.Shapes as rules
-use Rattle.rules.specs.Shapes.{FIVE, SIX, FOUR, Want, r, p, out, cas, one, opt, any, cases, variants, options, signature, builtinOk, builtinParts, declared, isEmpty, parts, hereOnly, allowed, fitsRef, fitsOuter, isCase, pathsOk, next, complete, mayDeclare}
-use Rattle.rows.specs.Shape.{spacesOf, wantOf, partOf, partsOf, leftOf, asOption, asDeclares, fitsOf, partsBy}
-use Rattle.rows.specs.Turns.{shape, takesRef, takesOuter, takesCase, takes, afterRef, after, needed, turn, ended}
+use Rattle.rules.specs.Shapes.{Want, cas, builtinParts, declared, isEmpty, parts, allowed, fitsRef, fitsOuter, isCase, pathsOk, next, complete}
+use Rattle.rows.specs.Shape.{spacesOf, wantOf, partOf, partsOf, leftOf, fitsOf, partsBy}
+use Rattle.rows.specs.Turns.{shape, takesRef, takesOuter, takes, after, needed, turn, ended}
 use Rattle.rows.specs.declared.shape.Spaces.{Spaces}
-use Rattle.rows.specs.declared.shape.Spaces.the-variants.{Just, Five, Six, Four, Options}
+use Rattle.rows.specs.declared.shape.Spaces.the-variants.{Just}
 use Rattle.rows.specs.declared.shape.Part.{Part}
 use Rattle.rows.specs.declared.shape.Part.the-variants.{Nothing, One, May, Many, Outer, Cases, CaseMay, Variants}
 use Rattle.rows.specs.declared.shape.Shape.{Shape}

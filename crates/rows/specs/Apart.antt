@@ -1,6 +1,6 @@
 -- Rows as the code takes them apart and puts them together: nested tests on numbers. `proofs/RowLaws` has that they are the rules'.
 use mathlib.Core.Bool.{Bool, _&&_, _||_}
-use mathlib.Core.List.{List, [], _∷_, _++_}
+use mathlib.Core.List.{List}
 use Prim.Native.Nat.{ℕ, _+_, _*_, _/_, _%_}
 use lib.Dec.{eqb, leb}
 use lib.ListN.{getD}
@@ -20,9 +20,6 @@ two l a = getD l a 0 + getD l (a + 1) 0 * 256
 
 abbrev pub four : List ℕ → ℕ → ℕ
 four l a = getD l a 0 + getD l (a + 1) 0 * 256 + getD l (a + 2) 0 * 65536 + getD l (a + 3) 0 * 16777216
-
-unfoldable pub fourBytes : ℕ → List ℕ
-fourBytes v = v % 256 ∷ v / 256 % 256 ∷ v / 65536 % 256 ∷ v / 16777216 ∷ []
 
 -- ---- a row taken apart
 

@@ -1,5 +1,5 @@
 -- The row at a place of a run of bytes, and a row written there, by the rules' `decodeRow` and `encodeRow`.
-use mathlib.Core.List.{List, [], _∷_}
+use mathlib.Core.List.{List}
 use mathlib.Core.Option.{Option, none, some}
 use Prim.Native.Nat.{ℕ, _+_, _*_, _/_}
 use lib.Dec.{ltb}

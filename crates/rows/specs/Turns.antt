@@ -1,6 +1,6 @@
 -- A row of a field against its shape, part by part, as the code goes. `proofs/ShapeLaws` has that it is the rules' `next` and `complete`.
 use mathlib.Core.Bool.{Bool, true, false, _&&_, not}
-use mathlib.Core.List.{List, [], _∷_}
+use mathlib.Core.List.{[], _∷_}
 use Prim.Native.Nat.{ℕ}
 use lib.Dec.{eqb}
 use Rattle.kit.specs.Pick.{pick}

@@ -1,6 +1,5 @@
 -- `rows::shape::is_complete` meets its contract.
 use Rattle.rows.proofs.ShapeLaws.{complete-right}
-use mathlib.Core.Path.{_∙_}
 use borrow.Author.Needs.{needs}
 use Rattle.rows.proofs.shape.is_complete.Statement.{statement}
 use Rattle.rows.proofs.shape.is_complete.Tie as tie
