@@ -1,4 +1,5 @@
 pub mod EndsStorey
 pub mod Marked
 pub mod Marks
+pub mod Steps
 pub mod Storey

@@ -25,7 +25,7 @@ use Rattle.rules.specs.Answer.{rowsOf}
 use Rattle.rows.specs.Taken.{taken, rowAt}
 use Rattle.rows.specs.Shape.{partsBy}
 use Rattle.rows.proofs.Runs.{row-of-rows}
-use Rattle.form.specs.Machine.{Standing, declaring, wanting, pathing, exported, Current, between-fields, within, Place, place, Outcome, on, whole, wrong, deep, newField, moreT, declaredT, wantedT, isExported, settledT, mayEndT, fieldT, declT, pathedT, stays, operandT, wantingT, refT, outerT, caseT, pathT, exportT, openT, closeT, stepT, goOn, rowsT, isRoot, inRoot, readT}
+use Rattle.form.specs.Machine.{Standing, declaring, wanting, pathing, exported, Current, between-fields, within, Place, place, Outcome, on, whole, wrong, deep, newField, moreT, declaredT, firstWantedT, wantedT, isExported, settledT, mayEndT, fieldT, declaringT, declT, nextPathT, betweenT, pathedT, stays, operandT, wantingT, refT, outerT, caseT, pathT, mayExportT, exportT, mayOpenT, openT, closeT, stepT, goOn, rowsT, isRoot, inRoot, readT}
 use Rattle.form.specs.Readings.{answerOf, readOf}
 use Rattle.form.specs.declared.read.Field.{Field}
 use Rattle.form.specs.declared.read.Reading.{Reading}
@@ -92,7 +92,7 @@ parts-few code builtin (d ∷ []) = refl
 parts-few code builtin (d ∷ e ∷ ds) = refl
 
 wanted-right : (h : Head) (stage : reader.Stage) → wantedT (within (fieldOf h) (inStage stage)) ≡ wanted today h stage
-unfolding wantedT wanted
+unfolding wantedT firstWantedT wanted
 wanted-right h reader.declaring = rw (enough-few (declares (h .code)) (h .decls), parts-few (h .code) (h .builtin) (h .decls))
 wanted-right h (reader.wanting ps) = refl
 wanted-right h (reader.pathing space at paths z left ps) = refl
@@ -118,11 +118,10 @@ declared-more code builtin (e ∷ f ∷ g ∷ ds) d = refl
 
 -- ---- what a row leads to, in the scope of this kind and name
 
-by-both : (s t : Bool) (c : Place) (S : reader.State) → c ≡ placeIn S → pick s (pick t (on c) wrong) wrong ≡ nextIn (if s && t then reader.on S else reader.wrong)
+by-if : (t : Bool) (p : Place) (s : reader.State) → p ≡ placeIn s → pick t (on p) wrong ≡ nextIn (if t then reader.on s else reader.wrong)
 unfolding pick if_then_else_
-by-both true true c S e = ap on e
-by-both true false c S e = refl
-by-both false t c S e = refl
+by-if true p s e = ap on e
+by-if false p s e = refl
 
 module _ (a : Around) (kind name : ℕ) (before : Fields) where
   by-test : (t : Bool) (c : reader.Current) → pick t (on (place (depth a) kind (inField c))) wrong ≡ nextIn (reader.stays a kind name before (only t c))
@@ -130,9 +129,9 @@ module _ (a : Around) (kind name : ℕ) (before : Fields) where
   by-test true c = refl
   by-test false c = refl
 
-  starts-if : (t : Bool) (fs : Fields) (code builtin z : ℕ) → pick t (pick (allowed kind code) (pick (builtinOk code builtin) (on (place (depth a) kind (within (newField code builtin) declaring))) wrong) wrong) wrong ≡ nextIn (starts a kind name code builtin z (only t fs))
+  starts-if : (t : Bool) (fs : Fields) (code builtin z : ℕ) → pick (t && (allowed kind code && builtinOk code builtin)) (on (place (depth a) kind (within (newField code builtin) declaring))) wrong ≡ nextIn (starts a kind name code builtin z (only t fs))
   unfolding pick only starts newField newHead declared firstName
-  starts-if true fs code builtin z = by-both (allowed kind code) (builtinOk code builtin) _ _ refl
+  starts-if true fs code builtin z = by-if (allowed kind code && builtinOk code builtin) _ _ refl
   starts-if false fs code builtin z = refl
 
   field-right : (c : reader.Current) (code builtin z : ℕ) → fieldT (place (depth a) kind (inField c)) code builtin ≡ nextIn (starts a kind name code builtin z (upTo today before c))
@@ -141,7 +140,7 @@ module _ (a : Around) (kind name : ℕ) (before : Fields) where
   field-right (reader.within h stage) code builtin z = rw (settled-right h stage) (starts-if _ (before ◂ plain h) code builtin z)
 
   decl-right : (c : reader.Current) (space n z : ℕ) → declT (place (depth a) kind (inField c)) space n ≡ nextIn (reader.stays a kind name before (fieldRow c (λ h stage. declaration h stage (record { space = space; name = n; z = z }))))
-  unfolding declT fieldRow declaration reader.stays
+  unfolding declT declaringT fieldRow declaration reader.stays
   decl-right reader.between-fields space n z = refl
   decl-right (reader.within h reader.declaring) space n z =
       unfold withDecl in rw (declared-more (h .code) (h .builtin) (h .decls) (record { space = space; name = n; z = z }), may-few (declares (h .code)) (h .decls) space) (by-test _ _)
@@ -183,7 +182,7 @@ module _ (a : Around) (kind name : ℕ) (before : Fields) where
   case-right c n z = operand-right _ _ _ (λ h ps. refl) c
 
   path-right : (c : reader.Current) (n : ℕ) → pathT (place (depth a) kind (inField c)) ≡ nextIn (step today (state a kind name before c) (rules.Path n))
-  unfolding pathT step fieldRow path reader.stays pick
+  unfolding pathT nextPathT step fieldRow path reader.stays pick
   path-right reader.between-fields n = refl
   path-right (reader.within h reader.declaring) n = refl
   path-right (reader.within h (reader.wanting ps)) n = refl
@@ -194,7 +193,7 @@ module _ (a : Around) (kind name : ℕ) (before : Fields) where
   path-right (reader.within h reader.exported) n = refl
 
   export-right : (c : reader.Current) (n : ℕ) → exportT (place (depth a) kind (inField c)) ≡ nextIn (step today (state a kind name before c) (rules.Export n))
-  unfolding exportT step fieldRow exporting reader.stays
+  unfolding exportT mayExportT step fieldRow exporting reader.stays
   export-right reader.between-fields n = refl
   export-right (reader.within h stage) n = rw (wanted-right h stage) (unfold withExport in by-test _ _)
 
@@ -230,7 +229,7 @@ closes-if kinds a kind name true fs ks = closes-right kinds a kind name fs ks
 closes-if kinds a kind name false fs ks = unfold closes in refl
 
 close-right : (kinds : List ℕ) (a : Around) (kind name : ℕ) (before : Fields) (c : reader.Current) → Kinds kinds a → closeT (place (depth a) kind (inField c)) kinds ≡ nextIn (closes a kind name (upTo today before c))
-unfolding closeT mayEndT upTo
+unfolding closeT betweenT mayEndT upTo
 close-right kinds a kind name before reader.between-fields ks = unfold only in closes-if kinds a kind name true before ks
 close-right kinds a kind name before (reader.within h stage) ks = rw (settled-right h stage) (closes-if kinds a kind name _ (before ◂ plain h) ks)
 
@@ -323,7 +322,7 @@ module _ (n i : ℕ) (rows : List (Option rules.Row)) (here : i + suc (length ro
   opened-if a kind name before h kind′ name′ ks false = goes-on reader.wrong tt
 
   open-goes : (a : Around) (kind name : ℕ) (before : Fields) (c : reader.Current) (kind′ name′ : ℕ) → Kinds kinds a → goOn i (length rows) (openT (place (depth a) kind (inField c)) kinds kind′ name′) go ≡ answerOf (counted n (proceed 32 (opened today a kind name before kind′ name′ c) rows go′))
-  unfolding openT opened
+  unfolding openT mayOpenT betweenT opened pick
   open-goes a kind name before reader.between-fields kind′ name′ ks = goes-on reader.wrong tt
   open-goes a kind name before (reader.within h stage) kind′ name′ ks = rw (settled-right h stage) (opened-if a kind name before h kind′ name′ ks _)
 

@@ -53,6 +53,20 @@ currentOf f Wanting paths ps = within f (wanting ps)
 currentOf f Pathing paths ps = within f (pathing paths ps)
 currentOf f Exported paths ps = within f exported
 
+abbrev pub isBetweenAt : Stage → Bool
+isBetweenAt Between = true
+isBetweenAt Declaring = false
+isBetweenAt Wanting = false
+isBetweenAt Pathing = false
+isBetweenAt Exported = false
+
+abbrev pub isExportedAt : Stage → Bool
+isExportedAt Between = false
+isExportedAt Declaring = false
+isExportedAt Wanting = false
+isExportedAt Pathing = false
+isExportedAt Exported = true
+
 unfoldable pub currentIn : State → Current
 currentIn s = currentOf (s .field) (s .stage) (s .paths) (partsOf (s .shape))
 
@@ -79,11 +93,15 @@ declaredT f space name =
     (record { code = f .code; builtin = f .builtin; decls = 1; space = space; name = name })
     (record { code = f .code; builtin = f .builtin; decls = moreT (f .decls); space = f .space; name = f .name })
 
+-- what the field wants behind its DECLs, if it has enough of them
+unfoldable pub firstWantedT : Field → Option (List Part)
+firstWantedT f =
+    only (enough (declares (f .code)) (f .decls)) (partsBy (f .code) (f .builtin) (f .space) (ltb 0 (f .decls)))
+
 -- what the field wants where it stands
 unfoldable pub wantedT : Current → Option (List Part)
 wantedT between-fields = none
-wantedT (within f declaring) =
-    only (enough (declares (f .code)) (f .decls)) (partsBy (f .code) (f .builtin) (f .space) (ltb 0 (f .decls)))
+wantedT (within f declaring) = firstWantedT f
 wantedT (within f (wanting ps)) = some ps
 wantedT (within f (pathing left ps)) = none
 wantedT (within f exported) = none
@@ -108,16 +126,15 @@ mayEndT (within f stage) = settledT (within f stage) && isNone (opens (f .code))
 
 unfoldable pub fieldT : Place → (code builtin : ℕ) → Outcome
 fieldT (place d k c) code builtin =
-    pick (mayEndT c)
-    (pick (allowed k code)
-    (pick (builtinOk code builtin) (on (place d k (within (newField code builtin) declaring))) wrong)
-    wrong)
-    wrong
+    pick (mayEndT c && (allowed k code && builtinOk code builtin)) (on (place d k (within (newField code builtin) declaring))) wrong
+
+unfoldable pub declaringT : (depth kind : ℕ) → Field → (space name : ℕ) → Outcome
+declaringT d k f space name =
+    pick (mayDeclare (declares (f .code)) (f .decls) space) (on (place d k (within (declaredT f space name) declaring))) wrong
 
 unfoldable pub declT : Place → (space name : ℕ) → Outcome
 declT (place d k between-fields) space name = wrong
-declT (place d k (within f declaring)) space name =
-    pick (mayDeclare (declares (f .code)) (f .decls) space) (on (place d k (within (declaredT f space name) declaring))) wrong
+declT (place d k (within f declaring)) space name = declaringT d k f space name
 declT (place d k (within f (wanting ps))) space name = wrong
 declT (place d k (within f (pathing left ps))) space name = wrong
 declT (place d k (within f exported)) space name = wrong
@@ -147,29 +164,43 @@ outerT (place d k c) space = operandT c (λ w. fitsOuter w space) (wantingT d k)
 unfoldable pub caseT : Place → Outcome
 caseT (place d k c) = operandT c isCase (wantingT d k)
 
+unfoldable pub nextPathT : (depth kind : ℕ) → Field → (paths : ℕ) → List Part → Outcome
+nextPathT d k f paths ps = pick (eqb paths 0) wrong (pathedT d k f (paths - 1) ps)
+
 unfoldable pub pathT : Place → Outcome
 pathT (place d k between-fields) = wrong
 pathT (place d k (within f declaring)) = wrong
 pathT (place d k (within f (wanting ps))) = wrong
-pathT (place d k (within f (pathing left ps))) = pick (eqb left 0) wrong (pathedT d k f (left - 1) ps)
+pathT (place d k (within f (pathing left ps))) = nextPathT d k f left ps
 pathT (place d k (within f exported)) = wrong
+
+-- may the field's EXPORT stand here?
+unfoldable pub mayExportT : Current → Bool
+mayExportT between-fields = false
+mayExportT (within f stage) = isComplete (wantedT (within f stage)) && exports (f .code)
 
 unfoldable pub exportT : Place → Outcome
 exportT (place d k between-fields) = wrong
-exportT (place d k (within f stage)) =
-    pick (isComplete (wantedT (within f stage)) && exports (f .code)) (on (place d k (within f exported))) wrong
+exportT (place d k (within f stage)) = pick (mayExportT (within f stage)) (on (place d k (within f exported))) wrong
+
+-- may a scope of this kind and name be opened here?
+unfoldable pub mayOpenT : Current → (kind name : ℕ) → Bool
+mayOpenT between-fields kind name = false
+mayOpenT (within f stage) kind name = settledT (within f stage) && sameKind (opens (f .code)) kind && eqb name (f .name)
+
+unfoldable pub betweenT : (depth kind : ℕ) → Outcome
+betweenT d k = on (place d k between-fields)
 
 -- `kinds` holds the kind of each scope around the one at hand
 unfoldable pub openT : Place → (kinds : List ℕ) (kind name : ℕ) → Out Outcome (List ℕ)
-openT (place d k between-fields) kinds kind name = wrong & kinds
-openT (place d k (within f stage)) kinds kind name =
-    pick (settledT (within f stage) && sameKind (opens (f .code)) kind && eqb name (f .name))
-    (pick (leb (length kinds) d) (deep & kinds) (on (place (d + 1) kind between-fields) & set kinds d k))
+openT (place d k c) kinds kind name =
+    pick (mayOpenT c kind name)
+    (pick (leb (length kinds) d) (deep & kinds) (betweenT (d + 1) kind & set kinds d k))
     (wrong & kinds)
 
 unfoldable pub closeT : Place → (kinds : List ℕ) → Outcome
 closeT (place d k c) kinds =
-    pick (mayEndT c) (pick (leb d 1) whole (on (place (d - 1) (getD kinds (d - 1) 0) between-fields))) wrong
+    pick (mayEndT c) (pick (leb d 1) whole (betweenT (d - 1) (getD kinds (d - 1) 0))) wrong
 
 unfoldable pub stepT : Place → (kinds : List ℕ) → Row → Out Outcome (List ℕ)
 stepT p kinds (row.Field code builtin z) = fieldT p code builtin & kinds

@@ -1,0 +1,11 @@
+-- `form::read::kind_at` meets its contract.
+use Rattle.kit.proofs.Laws.{past}
+use borrow.Author.Needs.{needs}
+use Rattle.form.proofs.read.kind_at.Statement.{statement}
+use Rattle.form.proofs.read.kind_at.Tie as tie
+
+pub kind-at-spec : {M : Type 1} → statement M
+kind-at-spec = tie.close (tie.spec
+    (λ c. search needs)  -- shared-slice-read-result
+    (λ c. search needs)  -- returns
+    (λ c. search (past, needs)))  -- returns-2
