@@ -1,0 +1,4 @@
+-- Definitions that the contracts of this crate cite, of the code's own shape; the crate `agree` shows that they do what the rules say.
+pub mod Views
+pub mod Enter
+pub mod Plan
