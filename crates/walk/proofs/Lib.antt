@@ -1,0 +1,4 @@
+pub mod Else
+pub mod LawsAlias
+pub mod LawsOwn
+pub mod LawsWalk
