@@ -161,7 +161,14 @@ fn chain_on(chain: Chain, instance: u32) -> Chain
 }
 
 // One alias for each PATH, from row i of the field on.
-fn write_chain(field: &[u8], i: usize, names: &[Slot], out: &mut [u8], s: State, chain: Chain) -> State
+fn write_chain(
+    field: &[u8],
+    i: usize,
+    names: &[Slot],
+    out: &mut [u8],
+    s: State,
+    chain: Chain,
+) -> State
     ensures { λ r. ⌜ (r & now (out .exit)) ≡ chainT (now (field .entry)) i (now (names .entry)) (now (out .entry)) s chain (chain .left) ⌝ }
 {
     let n = field.len() / 16;

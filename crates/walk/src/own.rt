@@ -33,8 +33,11 @@ ghost use Rattle.walk.specs.State.{writtenT, aliasedT, seenT, arrivedT};
 ghost use Rattle.walk.specs.Own.{aheadT, nameNumberT, refNumberT, refT, indexOutT, scopeOutT, outerNumbersT, outerT, caseT, declT, copyT, innermostT, placeOf, rowT, ownT};
 
 const UNKNOWN_NAME: u32 = 9;
+
 const UNKNOWN_SCOPE: u32 = 10;
+
 const COUNT_TOO_LARGE: u32 = 11;
+
 const DUPLICATE_CASE: u32 = 12;
 
 const OPEN: u8 = 7;
@@ -254,7 +257,15 @@ fn place_of(field: &[u8]) -> u32
 // ---- CASE
 
 // The cases of the field stand in the table of entered names, which no step needs any more.
-fn write_case(field: &[u8], i: usize, entered: &mut [Slot], out: &mut [u8], s: State, name: u32, z: u32) -> Walked
+fn write_case(
+    field: &[u8],
+    i: usize,
+    entered: &mut [Slot],
+    out: &mut [u8],
+    s: State,
+    name: u32,
+    z: u32,
+) -> Walked
     ensures { λ r. ⌜ (r & now (entered .exit) & now (out .exit)) ≡ caseT (now (field .entry)) i (now (entered .entry)) (now (out .entry)) s name z ⌝ }
 {
     if is_twice(entered, s.seen, CASES, name) {

@@ -18,7 +18,7 @@ use rows::row::Row;
 use rows::row::code_at;
 use rows::row::copy_row;
 use rows::row::row_at;
-use plan::plan::here_only;
+use rows::shape::here_only;
 ghost use mathlib.Core.Path.{_≡_};
 ghost use Prim.Native.Nat.{_-_, _/_, _<_};
 ghost use lib.ListN.{length};
@@ -28,6 +28,7 @@ ghost use Rattle.walk.specs.State.{begunT, atDepthT, afterScopeT};
 ghost use Rattle.walk.specs.Walk.{insertedT, headT, beginT, openName, fieldT, closeT, fieldsT, scopeT};
 
 const FIELD: u8 = 1;
+
 const OPEN: u8 = 7;
 
 // The most scopes that are open at once.
@@ -183,7 +184,15 @@ fn field_walk(
             if code_at(rows, t.at) != OPEN {
                 return Walked::Done(t);
             }
-            match scope_walk(rows, ends, entered, names, *scopes, out, at_depth(t, s.depth)) {
+            match scope_walk(
+                rows,
+                ends,
+                entered,
+                names,
+                *scopes,
+                out,
+                at_depth(t, s.depth),
+            ) {
                 Walked::Refused(number, place) => Walked::Refused(number, place),
                 Walked::Done(u) => Walked::Done(after_scope(t, u)),
             }
