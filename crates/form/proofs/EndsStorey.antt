@@ -6,15 +6,15 @@ use mathlib.Core.List.{List, [], _∷_, _++_, map}
 use native.Mathlib.Omega.{arith}
 use native.Mathlib.Nat.{add-zero}
 use native.Mathlib.Numerals.{add-one}
-use Prim.Native.Nat.{ℕ, zero, suc, _+_, _*_, _-_, _/_, _≤_, _<_, max}
+use Prim.Native.Nat.{ℕ, zero, suc, _+_, _*_, _-_, _/_, _≤_, _<_}
 use lib.Dec.{eqb, leb, ltb}
 use lib.ListN.{length, getD, set, take, drop, replicate, length-set, length-append}
 use lib.Seq.{getD-set-same, getD-set-other, getD-drop, drop-drop}
 use Rattle.kit.specs.Pick.{pick}
-use Rattle.kit.specs.Out.{Out, _&_}
-use Rattle.kit.proofs.Laws.{yes!, no!, tests}
+use Rattle.kit.specs.Out.{_&_}
+use Rattle.kit.proofs.Laws.{tests}
 use Rattle.rules.specs.Versions.{topName}
-use Rattle.rules.specs.Rows.{Row, Field, Open, Close, Raw, raw, rawAt, value, decodeRow, encode}
+use Rattle.rules.specs.Rows.{Row, Close, Raw, raw, rawAt, value, decodeRow, encode}
 use Rattle.rules.specs.Tree.{Declaration, Operand, ref, outer, case, Head, Scope, scope, Fields, end, _▸_, Item, plain, holds, declRows, pathRows, operandRow, operandRows, exportRows, headRows, flatten, fieldsRows, itemRows}
 use Rattle.rules.specs.Good.{height, heights, heightItem}
 use Rattle.rules.specs.Answer.{rowsOf}
@@ -23,6 +23,7 @@ use Rattle.rules.specs.Laws.ToolLaws.{ok-at}
 use Rattle.rules.specs.Laws.RowLaws.{decode-parts}
 use Rattle.rows.specs.Taken.{codeAt}
 use Rattle.form.specs.Marked.{Noted, depthBefore, markT, withNoted, backT, endsIn, endsT}
+use Rattle.form.proofs.Storey.{rows-count}
 use Rattle.form.specs.Ends.{Ends, EndsWithin, EndsScope}
 
 -- ---- the codes of rows
@@ -358,11 +359,6 @@ mutual
 length-somes : (rs : List Row) → length (map some rs) ≡ length rs
 length-somes [] = refl
 length-somes (r ∷ rs) = ap suc (length-somes rs)
-
-rows-count : (names count : ℕ) (bs : List ℕ) → length (rowsOf names count bs) ≡ count
-unfolding rowsOf
-rows-count names zero bs = refl
-rows-count names (suc count) bs = ap suc (rows-count names count (drop 16 bs))
 
 fields-in : (tree : Scope) (e : List ℕ) → EndsScope e 0 tree → Ends e 1 (fieldsOf tree)
 unfolding Ends

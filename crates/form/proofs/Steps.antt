@@ -1,20 +1,19 @@
 -- Ways through the reading of rows.
-use mathlib.Core.Path.{_≡_, refl, sym, ap, _∙_}
+use mathlib.Core.Path.{_≡_, refl, sym, _∙_}
 use mathlib.Core.Bool.{Bool, true, false, _&&_, _||_, not, or-false}
-use mathlib.Core.Option.{Option, none, some}
+use mathlib.Core.Option.{Option}
 use mathlib.Core.List.{List}
 use native.Mathlib.Omega.{arith}
-use Prim.Native.Nat.{ℕ, zero, suc, _+_, _-_, _/_, _≤_, _<_}
+use Prim.Native.Nat.{ℕ, _+_, _-_, _/_, _≤_, _<_}
 use lib.Dec.{eqb, leb, ltb}
 use lib.ListN.{length, getD, set, replicate}
 use borrow.Author.Needs.{needs}
 use borrow.Author.Tests.{not-true, not-false}
 use Rattle.kit.specs.Pick.{pick}
-use Rattle.kit.specs.Out.{Out, _&_}
+use Rattle.kit.specs.Out.{_&_}
 use Rattle.kit.proofs.Laws.{yes!, no!, tests, left-suc}
 use Rattle.rules.specs.Tools.{only, _then_}
 use Rattle.rules.specs.Shapes.{Want, Part, declares, opens, allowed, builtinOk, exports, fitsRef, fitsOuter, isCase, next, complete, mayDeclare, enough}
-use Rattle.rules.specs.Shapes as rules
 use Rattle.rules.specs.Reader.{isComplete, isNone, sameKind}
 use Rattle.rows.specs.Taken.{rowAt}
 use Rattle.rows.specs.Shape.{partsOf, leftOf, partsBy, asOption, asDeclares}
@@ -27,7 +26,7 @@ use Rattle.rows.specs.declared.shape.Decls.{Decls}
 use Rattle.rows.specs.declared.row.Row.{Row}
 use Rattle.rows.specs.declared.row.Row.the-variants as row
 use Rattle.rows.specs.declared.row.Index.{Index}
-use Rattle.form.specs.Machine.{Standing, declaring, wanting, pathing, exported, Current, between-fields, within, Place, place, Outcome, on, whole, wrong, deep, currentOf, isBetweenAt, isExportedAt, currentIn, placeOf, nextOf, newField, declaredT, firstWantedT, wantedT, isExported, settledT, mayEndT, fieldT, declaringT, declT, pathedT, stays, operandT, wantingT, refT, outerT, caseT, nextPathT, pathT, mayExportT, exportT, mayOpenT, betweenT, openT, closeT, stepT, goOn, rowsT, isRoot, inRoot, readT}
+use Rattle.form.specs.Machine.{exported, within, Place, place, Outcome, on, wrong, currentOf, isBetweenAt, isExportedAt, currentIn, placeOf, nextOf, newField, declaredT, firstWantedT, wantedT, isExported, settledT, mayEndT, fieldT, declaringT, declT, pathedT, stays, operandT, wantingT, refT, outerT, caseT, nextPathT, pathT, mayExportT, exportT, mayOpenT, betweenT, openT, closeT, stepT, goOn, rowsT, isRoot, inRoot, readT}
 use Rattle.form.specs.Readings.{readOf}
 use Rattle.form.specs.declared.read.Stage.{Stage}
 use Rattle.form.specs.declared.read.Stage.the-variants.{Between, Declaring, Wanting, Pathing, Exported}

@@ -1,5 +1,5 @@
 -- The second storey: the machine answers as the rules' `Reader` does. `placeIn` is what it holds of the reader's state.
-use mathlib.Core.Path.{_≡_, refl, sym, ap, _∙_}
+use mathlib.Core.Path.{_≡_, refl, ap, _∙_}
 use mathlib.Core.Bool.{Bool, true, false, _&&_, not}
 use mathlib.Core.Option.{Option, none, some}
 use mathlib.Core.List.{List, [], _∷_, _++_}
@@ -9,22 +9,22 @@ use Prim.Native.Nat.{ℕ, zero, suc, _+_, _-_, _/_, _≤_, _<_}
 use lib.Dec.{eqb, leb, ltb}
 use lib.ListN.{length, getD, set, drop, replicate, length-set}
 use lib.Seq.{getD-set-same, getD-set-other}
-use borrow.Author.Tests.{ne-eqb, le-leb, lt-leb, leb-true, leb-false}
+use borrow.Author.Tests.{ne-eqb, leb-true, leb-false}
 use Rattle.kit.specs.Pick.{pick}
-use Rattle.kit.specs.Out.{Out, _&_}
+use Rattle.kit.specs.Out.{_&_}
 use Rattle.kit.proofs.Laws.{tests}
 use Rattle.rules.specs.Tools.{if_then_else_, only, _then_}
 use Rattle.rules.specs.Versions.{today, topName}
 use Rattle.rules.specs.Rows as rules
-use Rattle.rules.specs.Tree.{Declaration, Head, Fields, end, plain, bad, deep, form, withOperands}
+use Rattle.rules.specs.Tree.{Declaration, Head, Fields, end, plain, bad, deep, withOperands}
 use Rattle.rules.specs.Tree as tree
-use Rattle.rules.specs.Shapes.{Want, Part, Declares, nothing, single, several, declared, firstName, isEmpty, parts, declares, allowed, builtinOk, enough, mayDeclare, next}
+use Rattle.rules.specs.Shapes.{Want, Part, Declares, nothing, single, several, declared, firstName, isEmpty, declares, allowed, builtinOk, enough, mayDeclare, next}
 use Rattle.rules.specs.Reader as reader
-use Rattle.rules.specs.Reader.{Around, root, inside, start, state, depth, openHere, isNone, newHead, withDecl, withExport, more, fieldRow, declaration, path, closes, starts, firstRow, wanted, settled, upTo, operand, exporting, opened, step, ended, proceed, counted, run, _◂_}
+use Rattle.rules.specs.Reader.{Around, root, inside, start, state, depth, openHere, newHead, withDecl, withExport, more, fieldRow, declaration, path, closes, starts, firstRow, wanted, settled, upTo, operand, exporting, opened, step, ended, proceed, counted, run, _◂_}
 use Rattle.rules.specs.Answer.{rowsOf}
 use Rattle.rows.specs.Taken.{taken, rowAt}
-use Rattle.rows.specs.Shape.{partsBy}
 use Rattle.rows.proofs.Runs.{row-of-rows}
+use Rattle.rows.proofs.ShapeLaws.{parts-by}
 use Rattle.form.specs.Machine.{Standing, declaring, wanting, pathing, exported, Current, between-fields, within, Place, place, Outcome, on, whole, wrong, deep, newField, moreT, declaredT, firstWantedT, wantedT, isExported, settledT, mayEndT, fieldT, declaringT, declT, nextPathT, betweenT, pathedT, stays, operandT, wantingT, refT, outerT, caseT, pathT, mayExportT, exportT, mayOpenT, openT, closeT, stepT, goOn, rowsT, isRoot, inRoot, readT}
 use Rattle.form.specs.Readings.{answerOf, readOf}
 use Rattle.form.specs.declared.read.Field.{Field}
@@ -85,15 +85,15 @@ may-few (single spaces) (d ∷ []) space = refl
 may-few (single spaces) (d ∷ e ∷ ds) space = rw (not-zero (suc (length ds)))
 may-few (several spaces) ds space = refl
 
-parts-few : (code builtin : ℕ) (ds : List Declaration) → partsBy code builtin (declared ds) (ltb 0 (few ds)) ≡ parts today code builtin ds
-unfolding partsBy parts isEmpty if_then_else_
-parts-few code builtin [] = refl
-parts-few code builtin (d ∷ []) = refl
-parts-few code builtin (d ∷ e ∷ ds) = refl
+some-few : (ds : List Declaration) → ltb 0 (few ds) ≡ not (isEmpty ds)
+unfolding isEmpty
+some-few [] = refl
+some-few (d ∷ []) = refl
+some-few (d ∷ e ∷ ds) = refl
 
 wanted-right : (h : Head) (stage : reader.Stage) → wantedT (within (fieldOf h) (inStage stage)) ≡ wanted today h stage
 unfolding wantedT firstWantedT wanted
-wanted-right h reader.declaring = rw (enough-few (declares (h .code)) (h .decls), parts-few (h .code) (h .builtin) (h .decls))
+wanted-right h reader.declaring = rw (enough-few (declares (h .code)) (h .decls), some-few (h .decls), parts-by (h .code) (h .builtin) (h .decls))
 wanted-right h (reader.wanting ps) = refl
 wanted-right h (reader.pathing space at paths z left ps) = refl
 wanted-right h reader.exported = refl
@@ -376,7 +376,7 @@ from-all bytes (r ∷ rs) i f = (
   from-all bytes rs (i + 1) (λ j. let e : i + 1 + j ≡ i + suc j = omega arith in rw e (f (suc j))),
 )
 
-rows-count : (names count : ℕ) (bs : List ℕ) → length (rowsOf names count bs) ≡ count
+pub rows-count : (names count : ℕ) (bs : List ℕ) → length (rowsOf names count bs) ≡ count
 unfolding rowsOf
 rows-count names zero bs = refl
 rows-count names (suc count) bs = ap suc (rows-count names count (drop 16 bs))

@@ -1,7 +1,7 @@
 // Where each field ends: noted once for the whole form, so that no inner scope is passed over row by row again.
 use rows::row::code_at;
 ghost use mathlib.Core.Path.{_≡_};
-ghost use Prim.Native.Nat.{_/_, _≤_, _<_};
+ghost use Prim.Native.Nat.{_/_, _<_};
 ghost use lib.ListN.{length};
 ghost use Rattle.kit.specs.Out.{_&_};
 ghost use Rattle.form.specs.Marked.{depthBefore, markT, backT, endsT};
