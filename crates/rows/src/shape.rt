@@ -237,6 +237,13 @@ const TYPE_AND_OPTIONS: Shape = Shape {
     third: Part::Nothing,
 };
 
+// r 9, r 0, options.
+const LIFT: Shape = Shape {
+    first: Part::One(Spaces::Just(9), true),
+    second: Part::One(Spaces::Just(0), true),
+    third: OPTIONS,
+};
+
 // Any number of r 3, r 0, r 4.
 const OPTIONS: Part = Part::Many(Spaces::Options, true);
 
@@ -337,11 +344,7 @@ pub fn shape_of(code: u8, builtin: u32, space: u8, some: bool) -> Shape
             Part::May(Spaces::Just(9), false),
             Part::May(Spaces::Just(0), true),
         ),
-        18 => Shape {
-            first: Part::One(Spaces::Just(9), true),
-            second: Part::One(Spaces::Just(0), true),
-            third: OPTIONS,
-        },
+        18 => LIFT,
         19 => builtin_shape(builtin),
         20 => two(
             Part::One(Spaces::Just(8), false),

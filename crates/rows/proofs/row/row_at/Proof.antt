@@ -1,4 +1,4 @@
--- `rows::row::row_at` meets its contract. The tests pick the case, and congruence closure joins what the calls ensure.
+-- `rows::row::row_at` meets its contract. The test picks the case, and `row-found` joins what the calls ensure.
 use Rattle.kit.proofs.Laws.{yes!, no!, tests}
 use Rattle.rows.proofs.Laws.{row-found}
 use Rattle.rows.specs.Taken.{rowAt}
