@@ -120,7 +120,10 @@ module _ {a : Planned} {ns : List Slot} {cs : List ℕ} {W : Step} (w : (a & ns 
   unfolding stepThen
   then-stop m = rw (← w, m)
 
--- ---- plan_operands
+-- ---- referring, plan_operands
+
+pub refers : (space : ℕ) (at : Index) (paths z from i n : ℕ) → n ≡ rowNumber from i → _≡_ {A = Reference} (record { space = space; at = at; paths = paths; z = z; row = n }) (record { space = space; at = at; paths = paths; z = z; row = rowNumber from i })
+refers space at paths z from i n q = rw q
 
 module _ (field : List ℕ) (entered names : List Slot) (scopes : List (List ℕ)) (counts : List ℕ) (p : Plan) (row i n : ℕ) (T : Step) (inv : operandsT field entered names scopes counts p row i (n - i) ≡ T) where
   pub operands-end : n ≤ i → (Done p & names & counts) ≡ T
@@ -139,14 +142,14 @@ module _ (field : List ℕ) (entered names : List Slot) (scopes : List (List ℕ
     unfolding ifRef
     operands-open k x e = rw e at turn
 
-    module _ (space : ℕ) (at : Index) (paths z : ℕ) (is : r ≡ Ref space at paths z) (number : ℕ) (q : number ≡ rowNumber row i) (a : Planned) (ns : List Slot) (cs : List ℕ) (w : (a & ns & cs) ≡ refT entered names scopes counts p (record { space = space; at = at; paths = paths; z = z; row = number })) where
+    module _ (space : ℕ) (at : Index) (paths z : ℕ) (is : r ≡ Ref space at paths z) (ref : Reference) (made : ref ≡ record { space = space; at = at; paths = paths; z = z; row = rowNumber row i }) (a : Planned) (ns : List Slot) (cs : List ℕ) (w : (a & ns & cs) ≡ refT entered names scopes counts p ref) where
       pub operands-turn : (next : Plan) → a ≡ Done next → operandsT field entered ns scopes cs next row (i + 1) (n - (i + 1)) ≡ T
       unfolding ifRef
-      operands-turn next m = then-done (rw q at w) _ m refl ∙ (rw is at turn)
+      operands-turn next m = then-done (rw made at w) _ m refl ∙ (rw is at turn)
 
       pub operands-stop : (x y : ℕ) → a ≡ Refused x y → (Refused x y & ns & cs) ≡ T
       unfolding ifRef
-      operands-stop x y m = then-stop (rw q at w) _ m ∙ (rw is at turn)
+      operands-stop x y m = then-stop (rw made at w) _ m ∙ (rw is at turn)
 
 -- ---- plan_decls
 
@@ -242,6 +245,7 @@ pub ruleset ways = (
   ref-paths,
   ref-number,
   ref-name,
+  refers,
   operands-end,
   operands-other,
   operands-open,

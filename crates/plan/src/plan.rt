@@ -20,6 +20,7 @@ ghost use Prim.Native.Nat.{_-_, _/_};
 ghost use lib.ListN.{length};
 ghost use Rattle.kit.specs.Out.{_&_};
 ghost use Rattle.names.specs.declared.Met.the-variants.{At as MetAt};
+ghost use Rattle.plan.specs.Enter.{rowNumber};
 ghost use Rattle.plan.specs.Plan.{bumpT, declareT, insertT, pathsT, metT, nameT, refT, operandsT, declsT, fieldCodeT, insertionsT, fieldT, movedT, fieldsT, scopeT};
 
 const FIELD: u8 = 1;
@@ -197,6 +198,19 @@ fn plan_ref(
     }
 }
 
+// The REF in row i of the field that begins at row `from`.
+fn referring(space: u8, at: Index, paths: u32, z: u32, from: usize, i: usize) -> Reference
+    ensures { λ r. ⌜ r ≡ record { space = space; at = at; paths = paths; z = z; row = rowNumber from i } ⌝ }
+{
+    Reference {
+        space: space as u32,
+        at,
+        paths,
+        z,
+        row: row_number(from, i),
+    }
+}
+
 // The references of one field, up to the scope that it may open.
 fn plan_operands(
     field: &[u8],
@@ -221,13 +235,7 @@ fn plan_operands(
                 paths,
                 z,
             } => {
-                let r = Reference {
-                    space: space as u32,
-                    at,
-                    paths,
-                    z,
-                    row: row_number(plan.at, k),
-                };
+                let r = referring(space, at, paths, z, plan.at, k);
                 match plan_ref(entered, names, scopes, counts, p, r) {
                     Planned::Done(next) => {
                         p = next;

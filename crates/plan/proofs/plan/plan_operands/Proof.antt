@@ -25,8 +25,7 @@ plan-operands-spec =
     (λ c. search needs)  -- add-i
     (λ c κs. search needs)  -- row-at-requires
     (λ c. search needs)  -- enum-known-space
-    (λ c. search needs)  -- cast-t22
-    (λ c κs. search needs)  -- row-number-requires
+    (λ c κs. search needs)  -- referring-requires
     (λ c κs. search needs)  -- plan-ref-requires
     (λ c. search needs)  -- enum-known-next
     (λ c. search needs)  -- loop-less
