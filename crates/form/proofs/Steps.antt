@@ -16,13 +16,13 @@ use Rattle.rules.specs.Tools.{only, _then_}
 use Rattle.rules.specs.Shapes.{Want, Part, declares, opens, allowed, builtinOk, exports, fitsRef, fitsOuter, isCase, next, complete, mayDeclare, enough}
 use Rattle.rules.specs.Reader.{isComplete, isNone, sameKind}
 use Rattle.rows.specs.Taken.{rowAt}
-use Rattle.rows.specs.Shape.{partsOf, leftOf, partsBy, asOption, asDeclares}
-use Rattle.rows.specs.declared.shape.Shape.{Shape}
-use Rattle.rows.specs.declared.shape.Left.{Left}
-use Rattle.rows.specs.declared.shape.Left.the-variants.{Fits, Not}
-use Rattle.rows.specs.declared.shape.Inner.{Inner}
-use Rattle.rows.specs.declared.shape.Inner.the-variants as inner
-use Rattle.rows.specs.declared.shape.Decls.{Decls}
+use Rattle.shapes.specs.Shape.{partsOf, leftOf, partsBy, asOption, asDeclares}
+use Rattle.shapes.specs.declared.Shape.{Shape}
+use Rattle.shapes.specs.declared.Left.{Left}
+use Rattle.shapes.specs.declared.Left.the-variants.{Fits, Not}
+use Rattle.shapes.specs.declared.Inner.{Inner}
+use Rattle.shapes.specs.declared.Inner.the-variants as inner
+use Rattle.shapes.specs.declared.Decls.{Decls}
 use Rattle.rows.specs.declared.row.Row.{Row}
 use Rattle.rows.specs.declared.row.Row.the-variants as row
 use Rattle.rows.specs.declared.row.Index.{Index}

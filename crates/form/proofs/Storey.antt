@@ -24,7 +24,7 @@ use Rattle.rules.specs.Reader.{Around, root, inside, start, state, depth, openH
 use Rattle.rules.specs.Answer.{rowsOf}
 use Rattle.rows.specs.Taken.{taken, rowAt}
 use Rattle.rows.proofs.Runs.{row-of-rows}
-use Rattle.rows.proofs.ShapeLaws.{parts-by}
+use Rattle.shapes.proofs.Laws.{parts-by}
 use Rattle.form.specs.Machine.{Standing, declaring, wanting, pathing, exported, Current, between-fields, within, Place, place, Outcome, on, whole, wrong, deep, newField, moreT, declaredT, firstWantedT, wantedT, isExported, settledT, mayEndT, fieldT, declaringT, declT, nextPathT, betweenT, pathedT, stays, operandT, wantingT, refT, outerT, caseT, pathT, mayExportT, exportT, mayOpenT, openT, closeT, stepT, goOn, rowsT, isRoot, inRoot, readT}
 use Rattle.form.specs.Readings.{answerOf, readOf}
 use Rattle.form.specs.declared.read.Field.{Field}

@@ -11,7 +11,7 @@ use Rattle.rules.specs.Tools.{only, _then_}
 use Rattle.rules.specs.Shapes.{Want, Part, declares, opens, allowed, builtinOk, exports, fitsRef, fitsOuter, isCase, next, mayDeclare, enough}
 use Rattle.rules.specs.Reader.{isComplete, isNone, sameKind}
 use Rattle.rows.specs.Taken.{rowAt}
-use Rattle.rows.specs.Shape.{partsOf, partsBy}
+use Rattle.shapes.specs.Shape.{partsOf, partsBy}
 use Rattle.rows.specs.declared.row.Row.{Row}
 use Rattle.rows.specs.declared.row.Row.the-variants as row
 use Rattle.form.specs.declared.read.Stage.{Stage}

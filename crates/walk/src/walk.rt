@@ -18,7 +18,7 @@ use rows::row::Row;
 use rows::row::code_at;
 use rows::row::copy_row;
 use rows::row::row_at;
-use rows::shape::here_only;
+use shapes::here_only;
 ghost use mathlib.Core.Path.{_≡_};
 ghost use Prim.Native.Nat.{_-_, _/_, _<_};
 ghost use lib.ListN.{length};

@@ -1,8 +1,0 @@
--- `rows::shape::in_five` meets its contract.
-use mathlib.Core.Bool.{or-false}
-use Rattle.rows.proofs.shape.in_five.Statement.{statement}
-use Rattle.rows.proofs.shape.in_five.Tie as tie
-
-pub in-five-spec : {M : Type 1} → statement M
-in-five-spec = tie.close (tie.spec
-    (λ c. simp or-false))
