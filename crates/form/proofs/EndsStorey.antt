@@ -24,7 +24,7 @@ use Rattle.rules.specs.Laws.RowLaws.{decode-parts}
 use Rattle.rows.specs.Taken.{codeAt}
 use Rattle.form.specs.Marked.{Noted, depthBefore, markT, withNoted, backT, endsIn, endsT}
 use Rattle.form.proofs.Storey.{rows-count}
-use Rattle.form.specs.Ends.{Ends, EndsWithin, EndsScope}
+use Rattle.form.specs.Ends.{Ends, Inside, EndsIn}
 
 -- ---- the codes of rows
 
@@ -230,16 +230,16 @@ open-left p d ends bounds =
 mutual
   unfolding Ends
 
-  ends-stay : (fs : Fields) (p : ℕ) (e e′ : List ℕ) → ((k : ℕ) → p ≤ k → getD e′ k 0 ≡ getD e k 0) → Ends e p fs → Ends e′ p fs
+  ends-stay : (fs : Fields) (p : ℕ) (e e′ : List ℕ) → ((k : ℕ) → p ≤ k → getD e′ k 0 ≡ getD e k 0) → Ends fs e p → Ends fs e′ p
   ends-stay end p e e′ f h = tt
   ends-stay (i ▸ fs) p e e′ f h =
       (f p (omega arith) ∙ h .0, within-stay i p e e′ f (h .1), ends-stay fs (p + length (itemRows i)) e e′ (λ k g. f k (omega arith)) (h .2))
 
-  within-stay : (i : Item) (p : ℕ) (e e′ : List ℕ) → ((k : ℕ) → p ≤ k → getD e′ k 0 ≡ getD e k 0) → EndsWithin e p i → EndsWithin e′ p i
+  within-stay : (i : Item) (p : ℕ) (e e′ : List ℕ) → ((k : ℕ) → p ≤ k → getD e′ k 0 ≡ getD e k 0) → Inside i e p → Inside i e′ p
   within-stay (plain h) p e e′ f r = tt
   within-stay (holds h s) p e e′ f r = scope-stay s (p + length (headRows h)) e e′ (λ k g. f k (omega arith)) r
 
-  scope-stay : (s : Scope) (p : ℕ) (e e′ : List ℕ) → ((k : ℕ) → p ≤ k → getD e′ k 0 ≡ getD e k 0) → EndsScope e p s → EndsScope e′ p s
+  scope-stay : (s : Scope) (p : ℕ) (e e′ : List ℕ) → ((k : ℕ) → p ≤ k → getD e′ k 0 ≡ getD e k 0) → EndsIn s e p → EndsIn s e′ p
   scope-stay (scope kind name fs) p e e′ f r = ends-stay fs (p + 1) e e′ (λ k g. f k (omega arith)) r
 
 -- ---- one case of the induction each
@@ -249,15 +249,15 @@ abbrev Fits : (q : ℕ) (ends bounds : List ℕ) → Type 0
 Fits q ends bounds = (length bounds ≡ 33) × (q ≤ length ends)
 
 abbrev EndsItem : (p : ℕ) → Item → List ℕ → Type 0
-EndsItem p i e = (getD e p 0 ≡ p + length (itemRows i)) × EndsWithin e p i
+EndsItem p i e = (getD e p 0 ≡ p + length (itemRows i)) × Inside i e p
 
-no-fields : (p q d : ℕ) (ends bounds : List ℕ) → Fits q ends bounds → getD bounds d 0 ≡ p → Left p q d ends bounds (λ e. Ends e p end) (markRows p (fieldsRows end) (notes d ends bounds))
+no-fields : (p q d : ℕ) (ends bounds : List ℕ) → Fits q ends bounds → getD bounds d 0 ≡ p → Left p q d ends bounds (λ e. Ends end e p) (markRows p (fieldsRows end) (notes d ends bounds))
 unfolding fieldsRows markRows Ends
 no-fields p q d ends bounds f b =
     record { ends′ = ends; bounds′ = bounds; is = refl; wide = f .0; long = refl; bound = b; outward = λ j g. refl; later = λ k g. refl; holds = tt }
 
 module _ (p q q₁ d : ℕ) (ends bounds : List ℕ) (i : Item) (fs : Fields) (at : p + length (itemRows i) ≡ q₁) (up : q₁ ≤ q) where
-  more-fields : (r : Left q₁ q d ends bounds (λ e. Ends e q₁ fs) (markRows q₁ (fieldsRows fs) (notes d ends bounds))) → Left p q₁ d (r .ends′) (r .bounds′) (EndsItem p i) (markRows p (itemRows i) (notes d (r .ends′) (r .bounds′))) → Left p q d ends bounds (λ e. Ends e p (i ▸ fs)) (markRows p (fieldsRows (i ▸ fs)) (notes d ends bounds))
+  more-fields : (r : Left q₁ q d ends bounds (λ e. Ends fs e q₁) (markRows q₁ (fieldsRows fs) (notes d ends bounds))) → Left p q₁ d (r .ends′) (r .bounds′) (EndsItem p i) (markRows p (itemRows i) (notes d (r .ends′) (r .bounds′))) → Left p q d ends bounds (λ e. Ends (i ▸ fs) e p) (markRows p (fieldsRows (i ▸ fs)) (notes d ends bounds))
   unfolding fieldsRows Ends
   more-fields r s =
       record {
@@ -288,7 +288,7 @@ plain-field h p q d ends bounds e l f g b =
       holds = (r .holds ∙ sym e, tt);
     }
 
-holding-field : (h : Head) (s : Scope) (p q d : ℕ) (ends bounds : List ℕ) → p + length (headRows h ++ flatten s) ≡ q → p < p + length (headRows h) → p < q → Fits q ends bounds → d ≤ 32 → getD bounds d 0 ≡ q → Left (getD bounds d 0) q d ends bounds (λ e. EndsScope e (p + length (headRows h)) s) (markRows (p + length (headRows h)) (flatten s) (notes d ends bounds)) → Left p q d ends bounds (EndsItem p (holds h s)) (markRows p (itemRows (holds h s)) (notes d ends bounds))
+holding-field : (h : Head) (s : Scope) (p q d : ℕ) (ends bounds : List ℕ) → p + length (headRows h ++ flatten s) ≡ q → p < p + length (headRows h) → p < q → Fits q ends bounds → d ≤ 32 → getD bounds d 0 ≡ q → Left (getD bounds d 0) q d ends bounds (λ e. EndsIn s e (p + length (headRows h))) (markRows (p + length (headRows h)) (flatten s) (notes d ends bounds)) → Left p q d ends bounds (EndsItem p (holds h s)) (markRows p (itemRows (holds h s)) (notes d ends bounds))
 unfolding itemRows Ends
 holding-field h s p q d ends bounds e x l f g b r =
     let n = r .long in
@@ -306,7 +306,7 @@ holding-field h s p q d ends bounds e x l f g b r =
     }
 
 module _ (kind name : ℕ) (fs : Fields) (p q c d : ℕ) (ends bounds : List ℕ) (at : p + 1 + length (fieldsRows fs) ≡ c) (up : c ≤ q) where
-  around-fields : (r : Left c 0 (d + 1) ends bounds (λ e. Unit {0}) (markOne 8 c (notes d ends bounds))) → Left (p + 1) c (d + 1) (r .ends′) (r .bounds′) (λ e. Ends e (p + 1) fs) (markRows (p + 1) (fieldsRows fs) (notes (d + 1) (r .ends′) (r .bounds′))) → Left (getD bounds d 0) q d ends bounds (λ e. EndsScope e p (scope kind name fs)) (markRows p (flatten (scope kind name fs)) (notes d ends bounds))
+  around-fields : (r : Left c 0 (d + 1) ends bounds (λ e. Unit {0}) (markOne 8 c (notes d ends bounds))) → Left (p + 1) c (d + 1) (r .ends′) (r .bounds′) (λ e. Ends fs e (p + 1)) (markRows (p + 1) (fieldsRows fs) (notes (d + 1) (r .ends′) (r .bounds′))) → Left (getD bounds d 0) q d ends bounds (λ e. EndsIn (scope kind name fs) e p) (markRows p (flatten (scope kind name fs)) (notes d ends bounds))
   unfolding flatten Ends markRows rowCode encode
   around-fields r s =
       record {
@@ -330,7 +330,7 @@ head-some h = omega arith
 mutual
   unfolding fieldsRows heights
 
-  fields-left : (fs : Fields) (p q d : ℕ) (ends bounds : List ℕ) → p + length (fieldsRows fs) ≡ q → d + heights fs ≤ 32 → Fits q ends bounds → getD bounds d 0 ≡ q → Left p q d ends bounds (λ e. Ends e p fs) (markRows p (fieldsRows fs) (notes d ends bounds))
+  fields-left : (fs : Fields) (p q d : ℕ) (ends bounds : List ℕ) → p + length (fieldsRows fs) ≡ q → d + heights fs ≤ 32 → Fits q ends bounds → getD bounds d 0 ≡ q → Left p q d ends bounds (λ e. Ends fs e p) (markRows p (fieldsRows fs) (notes d ends bounds))
   fields-left end p q d ends bounds e h f b = no-fields p q d ends bounds f (b ∙ (let x : q ≡ p = omega arith in x))
   fields-left (i ▸ fs) p q d ends bounds e h f b =
       let l = length-append (itemRows i) (fieldsRows fs) in
@@ -346,7 +346,7 @@ mutual
       let l = length-append (headRows h) (flatten s) in
       holding-field h s p q d ends bounds e (omega arith) (omega arith) f (omega arith) b (scope-left s (p + length (headRows h)) q d ends bounds (omega arith) g f)
 
-  scope-left : (s : Scope) (p q d : ℕ) (ends bounds : List ℕ) → p + length (flatten s) ≡ q → d + height s ≤ 32 → Fits q ends bounds → Left (getD bounds d 0) q d ends bounds (λ e. EndsScope e p s) (markRows p (flatten s) (notes d ends bounds))
+  scope-left : (s : Scope) (p q d : ℕ) (ends bounds : List ℕ) → p + length (flatten s) ≡ q → d + height s ≤ 32 → Fits q ends bounds → Left (getD bounds d 0) q d ends bounds (λ e. EndsIn s e p) (markRows p (flatten s) (notes d ends bounds))
   scope-left (scope kind name fs) p q d ends bounds e h f =
       let l = length-append (fieldsRows fs) (Close ∷ []) in
       let c = p + 1 + length (fieldsRows fs) in
@@ -360,12 +360,12 @@ length-somes : (rs : List Row) → length (map some rs) ≡ length rs
 length-somes [] = refl
 length-somes (r ∷ rs) = ap suc (length-somes rs)
 
-fields-in : (tree : Scope) (e : List ℕ) → EndsScope e 0 tree → Ends e 1 (fieldsOf tree)
+fields-in : (tree : Scope) (e : List ℕ) → EndsIn tree e 0 → Ends (fieldsOf tree) e 1
 unfolding Ends
 fields-in (scope kind name fs) e h = h
 
 -- THE SECOND STOREY: where the bytes are those of a tree, not too deep, the ends are right, whatever stood there before
-pub ends-right : (bytes ends : List ℕ) (tree : Scope) → map some (flatten tree) ≡ rowsOf topName (length bytes / 16) bytes → height tree ≤ 32 → length bytes / 16 ≤ length ends → Ends (endsT bytes ends) 1 (fieldsOf tree)
+pub ends-right : (bytes ends : List ℕ) (tree : Scope) → map some (flatten tree) ≡ rowsOf topName (length bytes / 16) bytes → height tree ≤ 32 → length bytes / 16 ≤ length ends → Ends (fieldsOf tree) (endsT bytes ends) 1
 ends-right bytes ends tree e h l =
     let n = sym (length-somes (flatten tree)) ∙ ap length e ∙ rows-count topName (length bytes / 16) bytes in
     let r = scope-left tree 0 (length bytes / 16) 0 ends (replicate 33 0) (omega arith) (omega arith) (refl, l) in
