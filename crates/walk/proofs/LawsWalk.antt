@@ -25,16 +25,16 @@ use Rattle.plan.specs.declared.enter.Entered.the-variants.{Upto, Twice}
 use Rattle.plan.specs.declared.plan.Plan.{Plan}
 use Rattle.plan.specs.declared.plan.Planned.{Planned}
 use Rattle.plan.specs.declared.plan.Planned.the-variants.{Done as PlanDone, Refused as PlanRefused}
-use Rattle.walk.specs.declared.alias.State.{State}
-use Rattle.walk.specs.declared.alias.Walked.{Walked}
-use Rattle.walk.specs.declared.alias.Walked.the-variants.{Done, Refused}
-use Rattle.walk.specs.State.{begunT, atDepthT, afterScopeT, Wrote}
-use Rattle.walk.specs.Alias.{aliasesT}
-use Rattle.walk.specs.Own.{innermostT, Wrote₂, ownT}
+use Rattle.write.specs.declared.alias.State.{State}
+use Rattle.write.specs.declared.alias.Walked.{Walked}
+use Rattle.write.specs.declared.alias.Walked.the-variants.{Done, Refused}
+use Rattle.write.specs.State.{begunT, atDepthT, afterScopeT, Wrote}
+use Rattle.write.specs.Alias.{aliasesT}
+use Rattle.write.specs.Own.{innermostT, Wrote₂, ownT}
 use Rattle.walk.specs.Walk.{Wrote₃, insertedT, headT, besideT, plannedT, beginT, openName, wroteThen₃, fieldT, closeT, closedT, endedT, fieldsT, scopedT, scopeT}
 use Rattle.walk.proofs.Else.{not-open}
-use Rattle.walk.proofs.LawsAlias.{put-then, wrote-done, wrote-stop}
-use Rattle.walk.proofs.LawsOwn.{wrote₂-done, wrote₂-stop}
+use Rattle.write.proofs.LawsAlias.{put-then, wrote-done, wrote-stop}
+use Rattle.write.proofs.LawsOwn.{wrote₂-done, wrote₂-stop}
 
 -- ---- on from an answer
 

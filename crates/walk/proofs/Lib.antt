@@ -1,4 +1,2 @@
 pub mod Else
-pub mod LawsAlias
-pub mod LawsOwn
 pub mod LawsWalk

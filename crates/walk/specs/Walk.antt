@@ -19,12 +19,12 @@ use Rattle.plan.specs.declared.enter.Entered.the-variants.{Upto, Twice}
 use Rattle.plan.specs.declared.plan.Plan.{Plan}
 use Rattle.plan.specs.declared.plan.Planned.{Planned}
 use Rattle.plan.specs.declared.plan.Planned.the-variants.{Done as PlanDone, Refused as PlanRefused}
-use Rattle.walk.specs.declared.alias.State.{State}
-use Rattle.walk.specs.declared.alias.Walked.{Walked}
-use Rattle.walk.specs.declared.alias.Walked.the-variants.{Done, Refused}
-use Rattle.walk.specs.State.{begunT, atDepthT, afterScopeT, Wrote, wroteThen, putThen}
-use Rattle.walk.specs.Alias.{aliasesT}
-use Rattle.walk.specs.Own.{innermostT, Wrote₂, wroteThen₂, ownT}
+use Rattle.write.specs.declared.alias.State.{State}
+use Rattle.write.specs.declared.alias.Walked.{Walked}
+use Rattle.write.specs.declared.alias.Walked.the-variants.{Done, Refused}
+use Rattle.write.specs.State.{begunT, atDepthT, afterScopeT, Wrote, wroteThen, putThen}
+use Rattle.write.specs.Alias.{aliasesT}
+use Rattle.write.specs.Own.{innermostT, Wrote₂, wroteThen₂, ownT}
 
 -- an answer, the table of entered names, the table of declarations, and the output
 abbrev pub Wrote₃ : Type 0

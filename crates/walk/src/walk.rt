@@ -1,9 +1,4 @@
 // A scope goes through its fields, and a field may open a scope.
-use crate::alias::State;
-use crate::alias::Walked;
-use crate::alias::write_aliases;
-use crate::own::innermost;
-use crate::own::write_own;
 use form::part::field_rows;
 use names::Scope;
 use names::Slot;
@@ -19,12 +14,17 @@ use rows::row::code_at;
 use rows::row::copy_row;
 use rows::row::row_at;
 use shapes::here_only;
+use write::alias::State;
+use write::alias::Walked;
+use write::alias::write_aliases;
+use write::own::innermost;
+use write::own::write_own;
 ghost use mathlib.Core.Path.{_≡_};
 ghost use Prim.Native.Nat.{_-_, _/_, _<_};
 ghost use lib.ListN.{length};
 ghost use Rattle.kit.specs.Out.{_&_};
 ghost use Rattle.rows.specs.Taken.{rowAt};
-ghost use Rattle.walk.specs.State.{begunT, atDepthT, afterScopeT};
+ghost use Rattle.write.specs.State.{begunT, atDepthT, afterScopeT};
 ghost use Rattle.walk.specs.Walk.{insertedT, headT, beginT, openName, fieldT, closeT, fieldsT, scopeT};
 
 const FIELD: u8 = 1;

@@ -5,7 +5,7 @@ use native.Mathlib.Omega.{arith}
 use lib.ListN.{length}
 use borrow.Author.Needs.{needs}
 use Rattle.walk.specs.Walk.{fieldsT, scopeT}
-use Rattle.walk.proofs.LawsWalk.{ways, fields-turn, field-fail, field-deep}
+use Rattle.walk.proofs.LawsWalk.{ways, fields-turn, field-fail, field-deep, scope-on}
 use borrow.Fn.Kinds.{In}
 use borrow.Fn.PlainCycle.{Measures, is, falls, and}
 use Rattle.walk.proofs.walk.field_walk.Reads as field-walk
@@ -187,4 +187,5 @@ pub +field-walk+fields-walk+scope-walk-spec : {M : Type 1} → statement M
     (λ c. search needs)  -- scope-walk-same-length-3
     (λ c. search needs)  -- scope-walk-same-length-4
     (λ c. search needs)  -- scope-walk-same-length-5
-    (λ c. search ways)  -- scope-walk-returns-3
+    (λ c. let l = c .before .before .before .before in let y = l .before .before .before .before .before .before .before .before in let b = y .before .before .before .before .before .before .before .before in
+    scope-on _ _ _ _ _ _ _ (b .before .before .before .before .if1 .left) _ _ _ (b .begin .ensures) _ (y .before .before .before .before .p .given .1) _ (y .before .before .scope-name .ensures) _ _ (y .copy-row .ensures) _ (l .before .before .before .before .before .row-number .ensures) _ (l .fields-walk .ensures))  -- scope-walk-returns-3

@@ -1,0 +1,3 @@
+pub mod Else
+pub mod LawsAlias
+pub mod LawsOwn
