@@ -1,0 +1,239 @@
+-- The fields of a scope, one after another, up to its CLOSE.
+use mathlib.Core.Path.{_≡_, refl, sym, ap, _∙_}
+use mathlib.Core.Bool.{Bool, true, false}
+use mathlib.Core.List.{List, [], _∷_, _++_, append-assoc}
+use native.Mathlib.Omega.{arith}
+use Prim.Native.Nat.{ℕ, zero, suc, _+_, _/_, _≤_, _<_}
+use lib.Dec.{eqb}
+use lib.ListN.{length, getD}
+use Rattle.kit.specs.Pick.{pick}
+use Rattle.kit.specs.Out.{Out, _&_}
+use Rattle.rules.specs.Tools.{if_then_else_}
+use Rattle.rules.specs.Versions.{today}
+use Rattle.rules.specs.Rows.{Close}
+use Rattle.rules.specs.Tree.{Declaration, Head, scope, Fields, end, _▸_, Item, headOf, flatten, fieldsRows, itemRows}
+use Rattle.rules.specs.Shapes.{hereOnly}
+use Rattle.rules.specs.Good.{GoodFields, heightItem, heights}
+use Rattle.rules.specs.Rules
+use Rattle.rules.specs.Rules.{Result, refused, ok, _>>=_, Env, fresh, Expanded, as-it-is, expandHead, expandFields, headsDecls, resolveInserted, resolveHead, resolveScope, resolveFields, resolveItem}
+use Rattle.rules.specs.Laws.Results.{ok-same, bind-inv, holds-of}
+use Rattle.rules.specs.Laws.Meaning.Names.{LowDecls, LowFields}
+use Rattle.rules.specs.Laws.Meaning.Runs.{head-grown}
+use Rattle.rules.specs.Laws.Output.FourTimes.{inner, item-size, fields-size}
+use Rattle.rules.specs.Laws.Output.Counts.{deep}
+use Rattle.rows.specs.Taken.{codeAt}
+use Rattle.names.specs.Table.{Slot}
+use Rattle.names.specs.Stands.{Envs, Below}
+use Rattle.names.proofs.Storey.{between-kept, envs-kept}
+use Rattle.plan.specs.Enter.{rowNumber}
+use Rattle.write.specs.declared.alias.State.{State}
+use Rattle.write.specs.declared.alias.Walked.the-variants.{Done}
+use Rattle.write.specs.State.{begunT, putThen}
+use Rattle.write.specs.Own.{innermostT}
+use Rattle.walk.specs.Walk.{Wrote₃, wroteThen₃, fieldT, closedT, endedT, fieldsT, scopeT}
+use Rattle.agree.specs.At.{Is, At, putAll}
+use Rattle.agree.specs.AtLaws.{at-left, at-right, at-head, row-number, code-is}
+use Rattle.form.specs.Ends.{Ends}
+use Rattle.agree.specs.ItemRows.{item-rows, some-rows}
+use Rattle.agree.specs.Slots.{ifOk, declSlots, operandsSlots, headSlots, fieldsSlots}
+use Rattle.agree.specs.SlotLaws.{decl-length}
+use Rattle.agree.specs.GoodSpaces.{good-spaces}
+use Rattle.agree.specs.WriteAgrees.{headsRows, put-then, put-one, row-copied}
+use Rattle.agree.specs.Cursor.{Left, left-past, Under, under-append, fields-apart}
+use Rattle.agree.specs.Answers.{Says, says-map}
+use Rattle.agree.specs.AliasAgrees.{grown-under}
+use Rattle.agree.specs.HeadAgrees.{headSays, head-made, here-made, slots-inserted, innermost-is}
+use Rattle.agree.specs.WalkStates.{Ready, Gone, FieldGone, says-then₃, itemSays, ItemGoes, FieldsGo}
+
+-- ---- what the rules say of the fields
+
+fields-made : (here : List Declaration) (outside : List Env) (b : ℕ) (i : Item) (fs : Fields) (X : List Declaration × ℕ) → expandFields here outside b (i ▸ fs) ≡ ok X
+    → (e : Expanded Head) × (r : List Declaration × ℕ) × (expandHead here outside b (headOf i) ≡ ok e) × (expandFields here outside (e .k) fs ≡ ok r) × (X .0 ≡ headsDecls (e .inserted) ++ (headOf i .decls ++ r .0))
+unfolding expandFields
+fields-made here outside b i fs X q =
+    let c₁ = bind-inv (expandHead here outside b (headOf i)) _ X q in
+    let c₂ = bind-inv (expandFields here outside (c₁ .0 .k) fs) _ X (c₁ .2) in
+    (c₁ .0, c₂ .0, c₁ .1, c₂ .1, ap (λ (x : List Declaration × ℕ). x .0) (sym (ok-same _ X (c₂ .2))))
+
+-- the field and what was inserted before it, and then the others
+unfoldable laterSays : (fs : Fields) (here₀ : List Declaration) (env : Env) (outside : List Env) (b : ℕ) → List Head × (Item × ℕ) → Result (Fields × ℕ)
+laterSays fs here₀ env outside b x = resolveFields fs here₀ env outside b (x .1 .1) >>= λ rs. ok (Rules._before_ (x .0) (x .1 .0 ▸ rs .0), rs .1)
+
+fields-says : (i : Item) (fs : Fields) (here₀ : List Declaration) (env : Env) (outside : List Env) (b k : ℕ) (e : Expanded Head) → expandHead here₀ outside b (headOf i) ≡ ok e
+    → resolveFields (i ▸ fs) here₀ env outside b k ≡ (itemSays i env outside k e >>= laterSays fs here₀ env outside (e .k))
+unfolding resolveScope itemSays headSays laterSays _>>=_
+fields-says i fs here₀ env outside b k e q = rw q (go (resolveInserted env outside (e .inserted)))
+  where
+    third : (new : List Head) (h : Head) (m : Result (Item × ℕ)) → _≡_ {A = Result (Fields × ℕ)} (m >>= λ r. resolveFields fs here₀ env outside (e .k) (r .1) >>= λ rs. ok (Rules._before_ new (r .0 ▸ rs .0), rs .1))
+        (_>>=_ {B = List Head × (Item × ℕ)} m (λ r. ok (new, r)) >>= laterSays fs here₀ env outside (e .k))
+    third new h (refused n z) = unfold _>>=_ in refl
+    third new h (ok r) = unfold _>>=_ laterSays in refl
+
+    second : (new : List Head) (m : Result Head) → _≡_ {A = Result (Fields × ℕ)} (m >>= λ h. resolveItem i h env outside k >>= λ r. resolveFields fs here₀ env outside (e .k) (r .1) >>= λ rs. ok (Rules._before_ new (r .0 ▸ rs .0), rs .1))
+        (_>>=_ {B = List Head × (Item × ℕ)} (_>>=_ {B = List Head × Head} m (λ h′. ok (new, h′))) (λ p. resolveItem i (p .1) env outside k >>= λ r. ok (p .0, r)) >>= laterSays fs here₀ env outside (e .k))
+    second new (refused n z) = unfold _>>=_ in refl
+    second new (ok h) = unfold _>>=_ in third new h (resolveItem i h env outside k)
+
+    go : (m : Result (List Head)) → _≡_ {A = Result (Fields × ℕ)} (m >>= λ new. resolveHead env outside (e .now) >>= λ h. resolveItem i h env outside k >>= λ r. resolveFields fs here₀ env outside (e .k) (r .1) >>= λ rs. ok (Rules._before_ new (r .0 ▸ rs .0), rs .1))
+        (_>>=_ {B = List Head × (Item × ℕ)} (_>>=_ {B = List Head × Head} m (λ new. resolveHead env outside (e .now) >>= λ h′. ok (new, h′))) (λ p. resolveItem i (p .1) env outside k >>= λ r. ok (p .0, r)) >>= laterSays fs here₀ env outside (e .k))
+    go (refused n z) = unfold _>>=_ in refl
+    go (ok new) = unfold _>>=_ in second new (resolveHead env outside (e .now))
+
+-- ---- small facts
+
+before-rows : (hs : List Head) (i : Item) (fs : Fields) → fieldsRows (Rules._before_ hs (i ▸ fs)) ≡ headsRows hs ++ (itemRows i ++ fieldsRows fs)
+unfolding Rules._before_ flatten headsRows
+before-rows [] i fs = refl
+before-rows (h ∷ hs) i fs = rw (before-rows hs i fs, append-assoc)
+
+low-under : (k : ℕ) (ds : List Declaration) → LowDecls ds → Under (fresh k) ds
+unfolding fresh
+low-under k [] l = tt
+low-under k (d ∷ ds) l = (omega arith, low-under k ds (l .1))
+
+heads-slots : (here : List Declaration) (outside : List Env) (before : List Declaration) (k row : ℕ) (h : Head) (e : Expanded Head) → expandHead here outside k h ≡ ok e → length (headSlots here outside before k row h) ≡ length (e .inserted)
+unfolding headSlots if_then_else_ as-it-is
+heads-slots here outside before k row h e q = go (hereOnly (h .code)) refl
+  where
+    go : (t : Bool) → hereOnly (h .code) ≡ t → length (if t then [] else operandsSlots here outside before k (row + 1 + length (h .decls)) (h .operands)) ≡ length (e .inserted)
+    go true c = unfold if_then_else_ as-it-is in rw (← here-made here outside k h e q c)
+    go false c =
+        let m = head-made here outside k h e q c in
+        unfold if_then_else_ in rw (← m .2) (slots-inserted here outside (h .operands) before k (row + 1 + length (h .decls)) (m .0) (m .1))
+
+-- the slots of the innermost scope lie below those that are used
+below-innermost : (names : List Slot) (n : ℕ) (scopes : List (List ℕ)) (depth : ℕ) (env : Env) (es : List Env) → Envs names scopes depth (env ∷ es) → Below n scopes depth → getD (innermostT scopes depth) 2 0 ≤ n
+unfolding Envs Below
+below-innermost names n scopes zero env es en b = absurd en
+below-innermost names n scopes (suc depth) env es en b = rw (innermost-is scopes depth) (b .0)
+
+module _ (rows ends : List ℕ) (short : length rows / 16 ≤ 1023) where
+  -- behind a field comes a FIELD or the CLOSE
+  next-code : (fs : Fields) (p : ℕ) → At rows p (fieldsRows fs ++ (Close ∷ [])) → eqb (codeAt rows p) 7 ≡ false
+  unfolding flatten
+  next-code end p at = rw (code-is rows p Close (at-head rows p Close [] at)) refl
+  next-code (i ▸ fs) p at = rw (code-is rows p _ (at-head rows p _ _ (rw (item-rows i) at (at-left rows p (itemRows i) (fieldsRows fs ++ (Close ∷ [])) (rw append-assoc at at))))) refl
+
+  abbrev closed : State → (to : ℕ) → State
+  closed s to = record { at = rowNumber (s .at) 1; to = to; used = s .used; fresh = s .fresh; depth = s .depth; next = s .next; alias = s .alias; seen = s .seen }
+
+  close-is : (entered names : List Slot) (out : List ℕ) (s : State) (to : ℕ) (out′ : List ℕ) → Is rows (s .at) Close → putAll out (s .to) (Close ∷ []) ≡ (to & out′) → endedT rows ends (closedT rows ends out s) entered names ≡ (Done (closed s to) & entered & names & out′)
+  unfolding closedT endedT putThen
+  close-is entered names out s to out′ is e = rw (row-copied rows (s .at) Close out (s .to) is, ← put-one out (s .to) Close, e)
+
+  pub fields-end : FieldsGo rows ends end
+  unfolding flatten resolveScope fieldsT pick heights deep
+  fields-end allowed kind b k here₀ env outside before X entered names scopes out s depth zero h at en good low x ds u l ready t = absurd (omega arith)
+  fields-end allowed kind b k here₀ env outside before X entered names scopes out s depth (suc turns) h at en good low x ds u l ready t =
+      let is = at-head rows (s .at) Close [] at in
+      let there = is .there in
+      rw (code-is rows (s .at) Close is) (go (putAll out (s .to) (Close ∷ [])) refl)
+    where
+      go : (w : Out ℕ (List ℕ)) → putAll out (s .to) (Close ∷ []) ≡ w → Gone s names out (s .at + 0 + 1) k (Close ∷ []) (endedT rows ends (closedT rows ends out s) entered names) × (k ≤ k + 0)
+      go (to & out′) e =
+          let is = at-head rows (s .at) Close [] at in
+          let there = is .there in (
+            record {
+              state = closed s to;
+              entered′ = entered;
+              names′ = names;
+              after = out′;
+              is = close-is entered names out s to out′ is e;
+              arrived = row-number (s .at) 1 (omega arith) ∙ omega arith;
+              fresh = ready .fresh;
+              wrote = sym e;
+              room = ready .room;
+              size = ready .size;
+              kept = refl;
+            },
+            omega arith,
+          )
+
+  -- the fields behind one that is done
+  fields-later : (i : Item) (fs : Fields) → FieldsGo rows ends fs → (allowed kind b k : ℕ) (here₀ : List Declaration) (env : Env) (outside : List Env) (before : List Declaration) (e : Expanded Head) (r : List Declaration × ℕ)
+      (entered names : List Slot) (scopes : List (List ℕ)) (out : List ℕ) (s : State) (depth turns : ℕ) (y : List Head × (Item × ℕ)) (w : Wrote₃)
+      (F : FieldGone (begunT s depth) names out (s .at + length (itemRows i)) (s .next + length (e .inserted) + length (headOf i .decls)) (y .1 .1) (headsRows (y .0) ++ itemRows (y .1 .0)) w) → y .1 .1 ≤ k + inner i
+      → heights fs ≤ allowed → At rows (s .at + length (itemRows i)) (fieldsRows fs ++ (Close ∷ [])) → Ends fs ends (s .at + length (itemRows i)) → GoodFields today fs kind → LowDecls (headOf i .decls) → LowFields fs
+      → expandHead here₀ outside b (headOf i) ≡ ok e → expandFields here₀ outside (e .k) fs ≡ ok r → env .decls ≡ before ++ (headsDecls (e .inserted) ++ (headOf i .decls ++ r .0)) → Under (fresh b) before
+      → Left names (getD (innermostT scopes depth) 2 0) (s .next) (headSlots here₀ outside before b (s .at) (headOf i) ++ (declSlots (before ++ headsDecls (e .inserted)) (s .at + 1) (headOf i .decls) ++ fieldsSlots here₀ outside ((before ++ headsDecls (e .inserted)) ++ headOf i .decls) (e .k) (s .at + length (itemRows i)) fs))
+      → Ready entered names scopes (begunT s depth) (env ∷ outside) (heights (i ▸ fs)) (deep (i ▸ fs)) k → length (fieldsRows fs) < turns
+      → Says (laterSays fs here₀ env outside (e .k) y) (λ v w. Gone s names out (s .at + length (fieldsRows (i ▸ fs)) + 1) (v .1) (fieldsRows (v .0) ++ (Close ∷ [])) w × (v .1 ≤ k + deep (i ▸ fs)))
+      (fieldsT rows ends (scopeT rows ends allowed) (F .gone .entered′) (F .gone .names′) scopes (F .gone .after) (F .gone .state) depth turns)
+  unfolding heights deep laterSays
+  fields-later i fs later allowed kind b k here₀ env outside before e r entered names scopes out s depth turns y w F grows h at en good low-decls low x x′ ds u l ready t =
+      let g = F .gone in
+      let v = g .state in
+      let h₀ = headOf i in
+      let ds₁ = before ++ headsDecls (e .inserted) in
+      let to = getD (innermostT scopes depth) 2 0 in
+      let p = s .at + length (itemRows i) in
+      let deep-left = ready .deep in
+      let slots-left = ready .slots in
+      let numbers-left = ready .numbers in
+      let used = F .used in
+      let fsize = fields-size i fs in
+      let size = g .size in
+      let near = below-innermost names (s .used) scopes depth env outside (ready .envs) (ready .below) in
+      let slots₁ = fieldsSlots here₀ outside (ds₁ ++ h₀ .decls) (e .k) p fs in
+      let l₁ : Left names to (s .next + length (e .inserted)) (declSlots ds₁ (s .at + 1) (h₀ .decls) ++ slots₁) = rw (heads-slots here₀ outside before b (s .at) h₀ e x) at (left-past names to (s .next) (headSlots here₀ outside before b (s .at) h₀) _ l) in
+      let l₂ : Left names to (s .next + length (e .inserted) + length (h₀ .decls)) slots₁ = rw (decl-length ds₁ (s .at + 1) (h₀ .decls)) at (left-past names to (s .next + length (e .inserted)) (declSlots ds₁ (s .at + 1) (h₀ .decls)) slots₁ l₁) in
+      let l₃ : Left (g .names′) to (s .next + length (e .inserted) + length (h₀ .decls)) slots₁ =
+      record { are = between-kept (s .used) (g .names′) names (g .kept) (s .next + length (e .inserted) + length (h₀ .decls)) to near ∙ l₂ .are; room = omega arith } in
+      let gr = holds-of _ _ e (head-grown here₀ outside b h₀) x in
+      let u′ = under-append (fresh (e .k)) ds₁ (h₀ .decls) (grown-under b (e .k) before (e .inserted) (gr .0) (gr .1) u) (low-under (e .k) (h₀ .decls) low-decls) in
+      let envs′ = envs-kept (s .used) names (g .names′) (sym (g .kept)) scopes depth (env ∷ outside) (omega arith) (ready .below) (ready .envs) in
+      let ready′ : Ready (g .entered′) (g .names′) scopes (begunT v depth) (env ∷ outside) (heights fs) (deep fs) (y .1 .1) =
+      record { room = g .room; size = size; depths = ready .depths; envs = envs′; below = rw used (ready .below); deep = omega arith; slots = omega arith; numbers = omega arith; fresh = g .fresh } in
+      says-map (resolveFields fs here₀ env outside (e .k) (y .1 .1)) (λ rs. (Rules._before_ (y .0) (y .1 .0 ▸ rs .0), rs .1)) _ _ _
+      (later allowed kind (e .k) (y .1 .1) here₀ env outside (ds₁ ++ h₀ .decls) r (g .entered′) (g .names′) scopes (g .after) v depth turns h (rw (g .arrived) at) (rw (g .arrived) en) good low x′
+      (ds ∙ simp append-assoc) u′ (rw (F .passes, g .arrived) l₃) ready′ t)
+      (λ rs G.
+      let arrived = G .0 .arrived in
+      let came = g .arrived in
+      let grown = G .1 in
+      let same : fieldsRows (Rules._before_ (y .0) (y .1 .0 ▸ rs .0)) ++ (Close ∷ []) ≡ (headsRows (y .0) ++ itemRows (y .1 .0)) ++ (fieldsRows (rs .0) ++ (Close ∷ [])) = rw (before-rows (y .0) (y .1 .0) (rs .0)) (simp append-assoc) in (
+        record {
+          state = G .0 .state;
+          entered′ = G .0 .entered′;
+          names′ = G .0 .names′;
+          after = G .0 .after;
+          is = G .0 .is;
+          arrived = omega arith;
+          fresh = G .0 .fresh;
+          wrote = G .0 .wrote ∙ sym (ap (putAll out (s .to)) same ∙ put-then out (s .to) (headsRows (y .0) ++ itemRows (y .1 .0)) (fieldsRows (rs .0) ++ (Close ∷ [])) (v .to) (g .after) (g .wrote));
+          room = G .0 .room;
+          size = G .0 .size;
+          kept = (rw used at (G .0 .kept)) ∙ g .kept;
+        },
+        omega arith,
+      ))
+
+  pub fields-from : (i : Item) (fs : Fields) → ItemGoes rows ends i → FieldsGo rows ends fs → FieldsGo rows ends (i ▸ fs)
+  unfolding fieldsT pick heights deep Ends fieldsSlots ifOk wroteThen₃ laterSays
+  fields-from i fs item later allowed kind b k here₀ env outside before X entered names scopes out s depth zero h at en good low x ds u l ready t = absurd (omega arith)
+  fields-from i fs item later allowed kind b k here₀ env outside before X entered names scopes out s depth (suc turns) h at en good low x ds u l ready t =
+      let c = fields-made here₀ outside b i fs X x in
+      let e = c .0 in
+      let h₀ = headOf i in
+      let at′ : At rows (s .at) (itemRows i ++ (fieldsRows fs ++ (Close ∷ []))) = unfold flatten in (rw append-assoc at at) in
+      let code : codeAt rows (s .at) ≡ 1 = code-is rows (s .at) _ (at-head rows (s .at) _ _ (rw (item-rows i) at (at-left rows (s .at) (itemRows i) (fieldsRows fs ++ (Close ∷ [])) at′))) in
+      let behind = at-right rows (s .at) (itemRows i) (fieldsRows fs ++ (Close ∷ [])) at′ in
+      let size = fields-size i fs in
+      let isize = item-size i in
+      let some-row = some-rows i in
+      let deep-left = ready .deep in
+      let slots-left = ready .slots in
+      let numbers-left = ready .numbers in
+      let spaces = good-spaces (i ▸ fs) kind good in
+      let ds₁ = before ++ headsDecls (e .inserted) in
+      let slots₁ = fieldsSlots here₀ outside (ds₁ ++ h₀ .decls) (e .k) (s .at + length (itemRows i)) fs in
+      let l′ : Left names (getD (innermostT scopes depth) 2 0) (s .next) (headSlots here₀ outside before b (s .at) h₀ ++ (declSlots ds₁ (s .at + 1) (h₀ .decls) ++ slots₁)) = rw (c .2) at l in
+      let ds′ : env .decls ≡ before ++ (headsDecls (e .inserted) ++ (h₀ .decls ++ c .1 .0)) = ds ∙ ap (λ (y : List Declaration). before ++ y) (c .4) in
+      let ready₁ : Ready entered names scopes (begunT s depth) (env ∷ outside) (heightItem i) (inner i) k =
+      record { room = ready .room; size = ready .size; depths = ready .depths; envs = ready .envs; below = ready .below; deep = omega arith; slots = omega arith; numbers = omega arith; fresh = ready .fresh } in
+      rw (code, fields-says i fs here₀ env outside b k e (c .2))
+      (says-then₃ (itemSays i env outside k e) (laterSays fs here₀ env outside (e .k)) _ _ (fieldT rows ends (scopeT rows ends allowed) entered names scopes out (begunT s depth)) _
+      (item allowed kind b k here₀ env outside before (c .1 .0) e slots₁ entered names scopes out (begunT s depth) (omega arith) (at-left rows (s .at) (itemRows i) (fieldsRows fs ++ (Close ∷ [])) at′) (next-code fs (s .at + length (itemRows i)) behind)
+      (en .0) (en .1) (good .0) (spaces .0) (low .1) (c .2) l′ (λ r g g′. fields-apart here₀ outside r (ds₁ ++ h₀ .decls) (e .k) (s .at + length (itemRows i)) fs (omega arith)) ds′ u refl refl ready₁)
+      (λ y q F. rw (F .0 .gone .is)
+      (fields-later i fs later allowed kind b k here₀ env outside before e (c .1) entered names scopes out s depth turns y _ (F .0) (F .1) (omega arith) behind (en .2) (good .1) (low .0 .decls) (low .2) (c .2) (c .3) ds′ u l′ ready (omega arith))))
