@@ -1,0 +1,5 @@
+pub mod Agrees
+pub mod Bytes
+pub mod Laws
+pub mod Packs
+pub mod Root
