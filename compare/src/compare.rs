@@ -1,0 +1,113 @@
+//! One form on both sides: the answer, the place, every byte written and every byte not written.
+
+use crate::chance::Chance;
+use crate::oracle::Oracle;
+use crate::recognise::recognise;
+use crate::rows::{Answer, HEADER, encode, output_size};
+use crate::shapes::Shapes;
+
+/// A resolver as a C program calls it: `wnt_resolve`, or a copy of its answers with a planted change.
+pub type Subject = fn(&[u8], &mut [u8]) -> u64;
+
+/// A form with the output that is lent for it and the tree that is made of it.
+#[derive(Clone)]
+pub struct Case {
+    pub form: Vec<u8>,
+    pub out_len: usize,
+    pub fill: u64,
+    pub choice: u64,
+}
+
+impl Case {
+    /// A case with an output that is exact, longer or, now and then, too short.
+    pub fn new(form: Vec<u8>, chance: &mut Chance) -> Case {
+        let enough = output_size(stated_rows(&form));
+        let out_len = match chance.below(40) {
+            0 => enough.saturating_sub(1),
+            1 => chance.below(enough + 1),
+            2..=20 => enough,
+            _ => enough + chance.below(80),
+        };
+        Case { form, out_len, fill: chance.next(), choice: chance.next() }
+    }
+
+    /// The same case on another form, with as much room beyond what is needed.
+    pub fn with_form(&self, form: Vec<u8>) -> Case {
+        let more = self.out_len as isize - output_size(stated_rows(&self.form)) as isize;
+        let out_len = output_size(stated_rows(&form)).saturating_add_signed(more);
+        Case { form, out_len, ..self.clone() }
+    }
+
+    /// What the output holds before the call.
+    fn pattern(&self) -> Vec<u8> {
+        let words = (0..self.out_len.div_ceil(8)).map(|at| self.fill.rotate_left(at as u32 % 61) | 1);
+        let mut bytes: Vec<u8> = words.flat_map(u64::to_le_bytes).collect();
+        bytes.truncate(self.out_len);
+        bytes
+    }
+}
+
+/// The row count of a header, at most as many as the form's bytes hold.
+fn stated_rows(form: &[u8]) -> usize {
+    let count = form.get(6..HEADER).map_or(0, |part| usize::from(part[0]) + 256 * usize::from(part[1]));
+    count.min(form.len() / 16)
+}
+
+/// What one side did: its answer and the output afterwards.
+#[derive(PartialEq, Eq)]
+pub struct Outcome {
+    pub packed: u64,
+    pub out: Vec<u8>,
+}
+
+pub struct Comparison {
+    pub shapes: Shapes,
+    pub oracle: Oracle,
+    pub subject: Subject,
+}
+
+pub struct Difference {
+    pub expected: Outcome,
+    pub found: Outcome,
+}
+
+impl Comparison {
+    pub fn new(oracle: Oracle, subject: Subject) -> Comparison {
+        Comparison { shapes: Shapes::new(), oracle, subject }
+    }
+
+    /// The answer by document 01 for refusals 1 to 5, by the crate for everything else.
+    pub fn expected(&self, case: &Case) -> Answer {
+        match recognise(&self.shapes, &case.form, case.out_len) {
+            Ok(rows) => self.oracle.answer(&rows, case.choice),
+            Err((number, place)) => Answer::refused(number, place),
+        }
+    }
+
+    /// The expected answer, and the difference if there is one.
+    pub fn check(&self, case: &Case) -> (Answer, Option<Difference>) {
+        let answer = self.expected(case);
+        let mut out = case.pattern();
+        let expected = Outcome { packed: answer.packed(), out: after(&answer, &case.form, out.clone()) };
+        let found = Outcome { packed: (self.subject)(&case.form, &mut out), out };
+        let difference = (expected != found).then_some(Difference { expected, found });
+        (answer, difference)
+    }
+
+    pub fn differs(&self, case: &Case) -> bool {
+        self.check(case).1.is_some()
+    }
+}
+
+/// The output after this answer.
+fn after(answer: &Answer, form: &[u8], mut out: Vec<u8>) -> Vec<u8> {
+    let written = match answer {
+        Answer::Accepted(rows) => encode(rows),
+        Answer::Refused { number: 6.., .. } => Vec::new(),
+        Answer::Refused { .. } | Answer::Panicked => return out,
+    };
+    let front = &mut out[..output_size(stated_rows(form))];
+    front.fill(0);
+    front[..written.len()].copy_from_slice(&written);
+    out
+}

@@ -1,0 +1,113 @@
+//! Refusals 1 to 5 of document 01: which bytes are a form, and where others stop being one.
+
+use crate::rows::{CLOSE, DECL, FIELD, HEADER, MOST_ROWS, MOST_SCOPES, OPEN, REF, ROW, Row, decode, output_size};
+use crate::shapes::{COMPONENT, Shape, Shapes, Want, allowed, sound_field, sound_path};
+
+/// A refusal number and its place.
+pub type Refusal = (u32, u32);
+
+/// An open scope: its kind and, once a field has begun, what may still come in that field.
+struct Scope {
+    kind: u8,
+    field: Option<OpenField>,
+}
+
+struct OpenField {
+    rest: Shape,
+    declared: u32,
+}
+
+struct Reading<'s> {
+    shapes: &'s Shapes,
+    scopes: Vec<Scope>,
+    paths: u32,
+}
+
+enum Bad {
+    Row,
+    Depth,
+}
+
+/// The rows of a form that can be resolved into an output of this length.
+pub fn recognise(shapes: &Shapes, form: &[u8], out_len: usize) -> Result<Vec<Row>, Refusal> {
+    if form.len() < HEADER || form[..6] != *b"WNT\x01\x00\x00" {
+        return Err((1, 0));
+    }
+    let count = usize::from(u16::from_le_bytes([form[6], form[7]]));
+    if count == 0 || count > MOST_ROWS || form.len() != HEADER + ROW * count {
+        return Err((2, 0));
+    }
+    if out_len < output_size(count) {
+        return Err((3, 0));
+    }
+    let rows = decode(form);
+    read(shapes, &rows).map(|()| rows)
+}
+
+fn read(shapes: &Shapes, rows: &[Row]) -> Result<(), Refusal> {
+    let mut reading = Reading { shapes, scopes: Vec::new(), paths: 0 };
+    for (place, row) in rows.iter().enumerate() {
+        reading.row(place, *row).map_err(|bad| match bad {
+            Bad::Row => (4, place as u32),
+            Bad::Depth => (5, place as u32),
+        })?;
+    }
+    if reading.scopes.is_empty() { Ok(()) } else { Err((4, rows.len() as u32)) }
+}
+
+fn only_if(sound: bool) -> Result<(), Bad> {
+    if sound { Ok(()) } else { Err(Bad::Row) }
+}
+
+impl Reading<'_> {
+    fn row(&mut self, place: usize, row: Row) -> Result<(), Bad> {
+        if place == 0 {
+            only_if(Want::Open(COMPONENT).fits(row))?;
+            return self.open(COMPONENT);
+        }
+        if self.paths > 0 {
+            self.paths -= 1;
+            return only_if(sound_path(row));
+        }
+        let scope = self.scopes.last_mut().ok_or(Bad::Row)?;
+        let complete = scope.field.as_ref().is_none_or(|field| field.rest.may_end());
+        match row.code {
+            FIELD => {
+                only_if(complete && sound_field(row) && allowed(scope.kind, row.b))?;
+                scope.field = Some(OpenField { rest: self.shapes.of(row).clone(), declared: 0 });
+                Ok(())
+            }
+            CLOSE => {
+                only_if(complete && row == Row { code: CLOSE, ..Row::default() })?;
+                self.scopes.pop();
+                Ok(())
+            }
+            _ => self.part(row),
+        }
+    }
+
+    /// A row inside the field at hand.
+    fn part(&mut self, row: Row) -> Result<(), Bad> {
+        let field = self.scopes.last_mut().and_then(|scope| scope.field.as_mut()).ok_or(Bad::Row)?;
+        field.rest = field.rest.after(row);
+        only_if(!matches!(field.rest, Shape::Never))?;
+        match row.code {
+            DECL => field.declared = row.x,
+            REF => self.paths = row.y,
+            OPEN => {
+                only_if(row.x == field.declared)?;
+                return self.open(row.b);
+            }
+            _ => {}
+        }
+        Ok(())
+    }
+
+    fn open(&mut self, kind: u8) -> Result<(), Bad> {
+        if self.scopes.len() == MOST_SCOPES {
+            return Err(Bad::Depth);
+        }
+        self.scopes.push(Scope { kind, field: None });
+        Ok(())
+    }
+}
