@@ -31,6 +31,12 @@ impl Case {
         Case { form, out_len, fill: chance.next(), choice: chance.next() }
     }
 
+    /// A case with an output that is just long enough.
+    pub fn exact(form: Vec<u8>, chance: &mut Chance) -> Case {
+        let out_len = output_size(stated_rows(&form));
+        Case { form, out_len, fill: chance.next(), choice: chance.next() }
+    }
+
     /// The same case on another form, with as much room beyond what is needed.
     pub fn with_form(&self, form: Vec<u8>) -> Case {
         let more = self.out_len as isize - output_size(stated_rows(&self.form)) as isize;

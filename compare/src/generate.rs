@@ -25,9 +25,9 @@ impl Mood {
     fn of(chance: &mut Chance) -> Mood {
         let names = chance.pick(&[2, 4, 8, 20, 60]);
         Mood {
-            fields: chance.pick(&[1, 2, 3, 5, 9, 16]),
+            fields: chance.pick(&[1, 2, 3, 5, 9, 16, 40]),
             depth: chance.pick(&[1, 2, 3, 3, 4, 6, 32]),
-            rows: chance.pick(&[15, 30, 60, 60, 120, 250]),
+            rows: if chance.percent(2) { 950 } else { chance.pick(&[15, 30, 60, 60, 120, 250]) },
             repeat: chance.pick(&[20, 40, 60]),
             names,
             first_name: chance.pick(&[1, 1, 700, FIRST_INSERTED - names]),

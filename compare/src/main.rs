@@ -1,6 +1,8 @@
-//! Runs the proved resolver and the crate's resolver side by side.
+//! Runs the proved resolver and the resolver of the crate wast 262.0.0 side by side.
 
 mod back;
+mod bench;
+mod cases;
 mod chance;
 mod compare;
 mod damage;
@@ -10,39 +12,63 @@ mod oracle;
 mod recognise;
 mod reduce;
 mod rows;
+mod run;
+mod sensitivity;
 mod shapes;
+mod source;
 // The crate's files decide what is used of these.
 #[allow(dead_code)]
 mod standins;
+mod sweep;
 mod tree;
 
 use standins::error::Error;
 use standins::{annotation, core, kw, lexer, parser};
+use std::process::ExitCode;
 
 include!(concat!(env!("OUT_DIR"), "/crate_files.rs"));
 
-fn main() {
+const USAGE: &str = "\
+compare [--seconds N | --forms N] [--seed S]   compare on forms, for a minute if nothing is said
+compare --sensitivity [--seed S]               plant changes on both sides and show that each is caught
+compare --bench FILE [--repetitions N]         time both sides; the picture goes to FILE as SVG";
+
+/// The value after `--name`, read as a number.
+fn number(arguments: &[String], name: &str) -> Option<u64> {
+    value(arguments, name).map(|text| text.parse().unwrap_or_else(|_| panic!("{name} wants a number, not {text}")))
+}
+
+fn value<'a>(arguments: &'a [String], name: &str) -> Option<&'a str> {
+    let at = arguments.iter().position(|argument| argument == name)?;
+    arguments.get(at + 1).map(String::as_str)
+}
+
+fn compare_forms(arguments: &[String]) -> bool {
     let comparison = compare::Comparison::new(oracle::Oracle::new(oracle::CRATE), library::resolve);
-    let mut counts = [0usize; 16];
-    let mut bad = 0;
-    let start = std::time::Instant::now();
-    let mut rowsn = 0;
-    for seed in 0..200000u64 {
-        let rows = generate::form(&comparison.shapes, seed);
-        let mut chance = chance::Chance::new(seed ^ 0xabcdef);
-        let form = if seed % 4 == 3 { damage::damage(&rows, &mut chance) } else { rows::encode(&rows) };
-        rowsn += rows.len();
-        let case = compare::Case::new(form, &mut chance);
-        let (answer, difference) = comparison.check(&case);
-        counts[match &answer { rows::Answer::Accepted(_) => 0, rows::Answer::Refused{number,..} => *number as usize, _ => 15}] += 1;
-        if seed % 4 != 3 && matches!(&answer, rows::Answer::Refused{number: 1..=5,..}) && !matches!(&answer, rows::Answer::Refused{number: 3,..}) { println!("generator made bad form {seed} {answer:?}"); }
-        if difference.is_some() {
-            bad += 1;
-            if bad < 4 {
-            let small = reduce::reduce(&comparison, &case);
-            println!("seed {seed}\n{}", reduce::describe(&comparison, &small));
-            }
-        }
-    }
-    println!("{counts:?} bad {bad} rows {rowsn} {:?}", start.elapsed());
+    let forms = number(arguments, "--forms").map(run::Until::Forms);
+    let seconds = run::Until::Seconds(number(arguments, "--seconds").unwrap_or(60));
+    run::run(&comparison, number(arguments, "--seed").unwrap_or(1), forms.unwrap_or(seconds))
+}
+
+fn bench(arguments: &[String], file: &str) -> bool {
+    let repetitions = number(arguments, "--repetitions").unwrap_or(1001);
+    let picture = bench::run(repetitions as usize);
+    std::fs::write(file, picture).unwrap_or_else(|problem| panic!("{file}: {problem}"));
+    true
+}
+
+fn main() -> ExitCode {
+    let arguments: Vec<String> = std::env::args().skip(1).collect();
+    let has = |name: &str| arguments.iter().any(|argument| argument == name);
+    let done = if let Some(file) = value(&arguments, "--bench") {
+        bench(&arguments, file)
+    } else if has("--sensitivity") {
+        sensitivity::run(number(&arguments, "--seed").unwrap_or(1))
+    } else if arguments.is_empty() || has("--seconds") || has("--forms") || has("--seed") {
+        compare_forms(&arguments)
+    } else {
+        eprintln!("{USAGE}");
+        false
+    };
+    if done { ExitCode::SUCCESS } else { ExitCode::FAILURE }
 }

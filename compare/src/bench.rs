@@ -1,0 +1,89 @@
+//! Times `wnt_resolve` and the crate's `resolve` side by side, and writes a table and a picture.
+//!
+//! `wnt_resolve` reads and checks the bytes, resolves and writes; its output is not cleared between calls, since
+//! the call itself zeroes what it leaves. The crate's time is that of `resolve` alone on a tree that stands ready.
+
+use crate::gensym;
+use crate::library;
+use crate::oracle::CRATE;
+use crate::recognise::recognise;
+use crate::rows::{Row, encode, output_size};
+use crate::shapes::Shapes;
+use crate::tree::{self, Texts};
+use std::time::{Duration, Instant};
+
+mod forms;
+mod picture;
+
+use forms::{FORMS, MakeForm};
+
+/// The sizes in rows of the picture; the table is about the last.
+const SIZES: [usize; 6] = [64, 128, 256, 512, 768, 1023];
+
+/// Median times for one form, in nanoseconds.
+pub struct Times {
+    pub rows: usize,
+    pub ours: f64,
+    pub theirs: f64,
+}
+
+pub struct Series {
+    pub name: &'static str,
+    pub times: Vec<Times>,
+}
+
+/// Runs every shape at every size with so many repetitions each, prints the table, answers the picture.
+pub fn run(repetitions: usize) -> String {
+    let shapes = Shapes::new();
+    let series: Vec<Series> = FORMS.iter().map(|(name, make)| series(&shapes, name, *make, repetitions)).collect();
+    println!("{}", table(&series, repetitions));
+    picture::draw(&series)
+}
+
+fn series(shapes: &Shapes, name: &'static str, make: MakeForm, repetitions: usize) -> Series {
+    let times = SIZES.iter().map(|size| measure(shapes, &make(*size), repetitions)).collect();
+    eprintln!("measured: {name}");
+    Series { name, times }
+}
+
+fn measure(shapes: &Shapes, rows: &[Row], repetitions: usize) -> Times {
+    let form = encode(rows);
+    let mut out = vec![0; output_size(rows.len())];
+    recognise(shapes, &form, out.len()).expect("benchmark forms are well-formed");
+    assert_eq!(library::resolve(&form, &mut out) >> 32, 0, "benchmark forms are accepted");
+    let texts = Texts::of(rows);
+    let (mut ours, mut theirs) = (Vec::new(), Vec::new());
+    for _ in 0..repetitions {
+        theirs.push(time_crate(rows, &texts));
+        let start = Instant::now();
+        library::resolve(&form, &mut out);
+        ours.push(start.elapsed());
+    }
+    Times { rows: rows.len(), ours: median(ours), theirs: median(theirs) }
+}
+
+fn time_crate(rows: &[Row], texts: &Texts) -> Duration {
+    let mut component = tree::component(rows, texts, 0);
+    gensym::reset();
+    let start = Instant::now();
+    let done = CRATE(&mut component);
+    let time = start.elapsed();
+    assert!(done.is_ok(), "benchmark forms are accepted");
+    time
+}
+
+fn median(mut times: Vec<Duration>) -> f64 {
+    times.sort();
+    times[times.len() / 2].as_nanos() as f64
+}
+
+fn table(series: &[Series], repetitions: usize) -> String {
+    let mut text = format!("Medians of {repetitions} repetitions, in microseconds.\n\n");
+    text.push_str("| shape | rows | wnt_resolve | the crate's resolve | ratio |\n|---|---|---|---|---|\n");
+    for one in series {
+        let Some(Times { rows, ours, theirs }) = one.times.last() else { continue };
+        let (name, ratio) = (one.name, ours / theirs);
+        text.push_str(&format!("| {name} | {rows} | {:.1} | {:.1} | {ratio:.2} |\n", ours / 1e3, theirs / 1e3));
+    }
+    text
+}

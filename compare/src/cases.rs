@@ -1,0 +1,171 @@
+//! The runs that document 01 states with their answers (P1 to P10), and forms on both sides of each limit.
+
+use crate::compare::Case;
+use crate::rows::{Answer, CLOSE, DECL, FIELD, MOST_ROWS, MOST_SCOPES, OPEN, PATH, REF, Row, encode, output_size};
+
+/// A form of document 01 and the answer it states.
+pub struct Stated {
+    pub name: &'static str,
+    pub rows: Vec<Row>,
+    pub answer: Answer,
+}
+
+type Parts = (u8, u8, u16, u32, u32, u32);
+
+fn rows(parts: &[Parts]) -> Vec<Row> {
+    parts.iter().map(|(code, b, e, x, y, z)| Row::new(*code, *b, *e, *x, *y, *z)).collect()
+}
+
+const ROOT: Parts = (7, 0, 0, 0, 0, 0);
+const END: Parts = (8, 0, 0, 0, 0, 0);
+
+fn accepted(name: &'static str, form: &[Parts], output: &[Parts]) -> Stated {
+    Stated { name, rows: rows(form), answer: Answer::Accepted(rows(output)) }
+}
+
+fn refused(name: &'static str, form: &[Parts], number: u32, place: u32) -> Stated {
+    Stated { name, rows: rows(form), answer: Answer::refused(number, place) }
+}
+
+/// P1 to P10.
+pub fn stated() -> Vec<Stated> {
+    let mut cases = vec![p1(), p9()];
+    cases.extend(scopes_and_outers());
+    cases.extend(references());
+    cases
+}
+
+fn p1() -> Stated {
+    let front = [ROOT, (1, 12, 0, 0, 0, 0), (2, 9, 0, 1, 0, 0), (1, 6, 0, 0, 0, 0), (2, 11, 0, 2, 0, 0), (7, 0, 0, 2, 0, 0)];
+    let field = [(1, 12, 0, 0, 0, 0), (2, 9, 0, 3, 0, 0)];
+    let alias = [(1, 11, 0, 0, 0, 70), (2, 9, 0, 2_147_483_648, 0, 70), (5, 9, 0, 1, 0, 70)];
+    let form = [&front[..], &field, &[(3, 9, 1, 1, 0, 70), END, END]].concat();
+    let output = [&front[..], &alias, &field, &[(3, 9, 0, 0, 0, 70), END, END]].concat();
+    accepted("P1", &form, &output)
+}
+
+fn scopes_and_outers() -> Vec<Stated> {
+    let outer = |e: u16, x: u32, y: u32| [ROOT, (1, 11, 0, 0, 0, 20), (2, 9, 0, 1, 0, 21), (5, 9, e, x, y, 22), END];
+    vec![
+        accepted("P2", &[ROOT, END], &[ROOT, END]),
+        refused("P3", &outer(2, 1, 1), 11, 20),
+        accepted("P4", &outer(2, 0, 1), &outer(0, 0, 0)),
+        accepted("P5", &outer(0, 7, 7), &outer(0, 7, 7)),
+    ]
+}
+
+fn references() -> Vec<Stated> {
+    let inner = [(1, 6, 0, 0, 0, 0), (2, 11, 0, 0, 0, 0), ROOT];
+    let func = [(1, 9, 0, 0, 0, 0), (2, 8, 0, 1, 0, 0), (3, 10, 0, 0, 0, 0), (9, 0, 0, 4, 0, 0)];
+    let lower = [(1, 19, 0, 0, 0, 0), (2, 0, 0, 0, 0, 0), (3, 8, 1, 1, 0, 30), END, END];
+    let instance = [(1, 8, 0, 0, 0, 0), (2, 10, 0, 1, 0, 0)];
+    let export = [(1, 22, 0, 0, 0, 0), (2, 9, 0, 0, 0, 0), (3, 9, 1, 1, 1, 31), (4, 0, 0, 5, 0, 0), END, END];
+    let argument = [(1, 2, 0, 0, 0, 0), (2, 6, 0, 1, 0, 0), (3, 7, 0, 0, 0, 0), (3, 6, 1, 1, 1, 32), (4, 0, 0, 5, 0, 0), END];
+    let later = |e: u16, x: u32| {
+        [ROOT, (1, 12, 0, 0, 0, 0), (2, 9, 0, 1, 0, 0), (3, 9, e, x, 0, 33), (1, 12, 0, 0, 0, 0), (2, 9, 0, 2, 0, 0), END]
+    };
+    vec![
+        refused("P6", &[&[ROOT][..], &func, &inner, &lower].concat(), 8, 30),
+        refused("P7", &[&[ROOT][..], &instance, &inner, &export].concat(), 9, 31),
+        refused("P8", &[&[ROOT][..], &argument].concat(), 7, 32),
+        accepted("P10", &later(1, 2), &later(0, 1)),
+    ]
+}
+
+fn p9() -> Stated {
+    let front = [ROOT, (1, 12, 0, 0, 0, 0), (2, 9, 0, 1, 0, 0), (1, 6, 0, 0, 0, 0), (2, 11, 0, 0, 0, 0), ROOT];
+    let field = [(1, 12, 0, 0, 0, 0), (2, 9, 0, 0, 0, 0)];
+    let alias = |k: u32, z: u32| [(1, 11, 0, 0, 0, z), (2, 9, 0, 2_147_483_648 + k, 0, z), (5, 9, 0, 1, 0, z)];
+    let form = [&front[..], &field, &[(3, 9, 1, 1, 0, 40), (3, 9, 1, 1, 0, 41), END, END]].concat();
+    let output = [
+        &front[..],
+        &alias(0, 40),
+        &alias(1, 41),
+        &field,
+        &[(3, 9, 0, 0, 0, 40), (3, 9, 0, 1, 0, 41), END, END],
+    ];
+    accepted("P9", &form, &output.concat())
+}
+
+/// Forms at and beyond each limit.
+pub fn limits() -> Vec<Case> {
+    let mut cases = Vec::new();
+    for count in [1, 2, MOST_ROWS - 1, MOST_ROWS, MOST_ROWS + 1, 65_535] {
+        cases.push(exact(padded(count)));
+    }
+    for depth in [1, 2, MOST_SCOPES - 1, MOST_SCOPES, MOST_SCOPES + 1, MOST_SCOPES + 2] {
+        cases.push(exact(nested(depth, COMPONENT_FIELD)));
+        cases.push(exact(nested(depth, TYPE_FIELD)));
+    }
+    let mut spoilt = nested(MOST_SCOPES + 1, COMPONENT_FIELD);
+    spoilt[3 * MOST_SCOPES].x = 9;
+    cases.push(exact(spoilt));
+    for paths in [1, 100, MOST_ROWS as u32 - 7] {
+        cases.push(exact(long_path(paths, paths)));
+        cases.push(exact(long_path(paths, paths + 1)));
+        cases.push(exact(long_path(paths, u32::MAX)));
+    }
+    cases.extend(short_outputs(&nested(4, COMPONENT_FIELD)));
+    cases.extend(headers());
+    cases
+}
+
+fn exact(rows: Vec<Row>) -> Case {
+    Case { out_len: output_size(rows.len()), form: encode(&rows), fill: 0x5a5a_a5a5_0f0f_f0f1, choice: 1 }
+}
+
+/// A component of this many rows, as far as rows allow: two for the scope, the others empty fields.
+fn padded(count: usize) -> Vec<Row> {
+    let mut rows = vec![Row::new(OPEN, 0, 0, 0, 0, 0)];
+    rows.resize(count.max(2) - 1, Row::new(FIELD, 25, 0, 0, 0, 7));
+    rows.push(Row::new(CLOSE, 0, 0, 0, 0, 0));
+    rows.truncate(count);
+    rows
+}
+
+/// The field, its space and the scope it opens, with which scopes are nested.
+type Opener = (u8, u8, u8);
+const COMPONENT_FIELD: Opener = (6, 11, 0);
+const TYPE_FIELD: Opener = (14, 9, 1);
+
+fn nested(depth: usize, (field, space, kind): Opener) -> Vec<Row> {
+    let mut rows = vec![Row::new(OPEN, 0, 0, 0, 0, 0)];
+    for scope in 1..depth as u32 {
+        rows.push(Row::new(FIELD, field, 0, 0, 0, scope));
+        rows.push(Row::new(DECL, space, 0, scope, 0, scope));
+        rows.push(Row::new(OPEN, kind, 0, scope, 0, 0));
+    }
+    rows.resize(rows.len() + depth, Row::new(CLOSE, 0, 0, 0, 0, 0));
+    rows
+}
+
+/// One reference with this many PATH rows that states another count of them.
+fn long_path(paths: u32, stated: u32) -> Vec<Row> {
+    let mut rows = rows(&[ROOT, (1, 8, 0, 0, 0, 1), (2, 10, 0, 1, 0, 2), (1, 22, 0, 0, 0, 3), (2, 10, 0, 0, 0, 4)]);
+    rows.push(Row::new(REF, 10, 1, 1, stated, 5));
+    rows.extend((0..paths).map(|export| Row::new(PATH, 0, 0, export, 0, 0)));
+    rows.push(Row::new(CLOSE, 0, 0, 0, 0, 0));
+    rows
+}
+
+fn short_outputs(rows: &[Row]) -> Vec<Case> {
+    let enough = exact(rows.to_vec());
+    let lengths = [0, 1, 7, 8, enough.out_len / 4, enough.out_len - 1, enough.out_len, enough.out_len + 1];
+    lengths.into_iter().map(|out_len| Case { out_len, ..enough.clone() }).collect()
+}
+
+/// Every front part of a small form, one with every header byte changed, and ones with bytes behind.
+fn headers() -> Vec<Case> {
+    let whole = exact(nested(2, COMPONENT_FIELD));
+    let fronts = (0..whole.form.len()).map(|length| whole.form[..length].to_vec());
+    let changed = (0..8).flat_map(|at| {
+        let form = &whole.form;
+        [1, 0x80].map(|bits| {
+            let mut bytes = form.clone();
+            bytes[at] ^= bits;
+            bytes
+        })
+    });
+    let longer = [1, 16].map(|more| [&whole.form[..], &vec![0; more]].concat());
+    fronts.chain(changed).chain(longer).map(|form| Case { form, ..whole.clone() }).collect()
+}

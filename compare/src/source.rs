@@ -1,0 +1,48 @@
+//! Where the forms of a run come from: the fixed ones first, then random ones without end.
+
+use crate::cases;
+use crate::chance::Chance;
+use crate::compare::Case;
+use crate::damage::damage;
+use crate::generate;
+use crate::rows::encode;
+use crate::shapes::Shapes;
+use crate::sweep;
+
+#[derive(Clone, Copy, PartialEq, Eq, Debug)]
+pub enum Stage {
+    Stated,
+    Limits,
+    Sweep,
+    Random,
+    Damaged,
+}
+
+/// One of so many random forms is damaged.
+const DAMAGED: u64 = 4;
+
+/// The forms that do not depend on a seed, and with which stage they belong.
+pub fn fixed(shapes: &Shapes) -> Vec<(Stage, Case)> {
+    let mut chance = Chance::new(0);
+    let mut cases = Vec::new();
+    for stated in cases::stated() {
+        let form = encode(&stated.rows);
+        cases.push((Stage::Stated, Case::exact(form, &mut chance)));
+    }
+    cases.extend(cases::limits().into_iter().map(|case| (Stage::Limits, case)));
+    for rows in sweep::forms(shapes) {
+        cases.push((Stage::Sweep, Case::exact(encode(&rows), &mut chance)));
+    }
+    cases
+}
+
+/// The random form of this number in the run of this seed.
+pub fn random(shapes: &Shapes, seed: u64, number: u64) -> (Stage, Case) {
+    let mut chance = Chance::new(seed.rotate_left(32) ^ number);
+    let rows = generate::form(shapes, chance.next());
+    if number % DAMAGED == 0 {
+        let form = damage(&rows, &mut chance);
+        return (Stage::Damaged, Case::new(form, &mut chance));
+    }
+    (Stage::Random, Case::new(encode(&rows), &mut chance))
+}
