@@ -9,9 +9,8 @@ use std::path::{Path, PathBuf};
 mod planted;
 
 /// The crate's files that define a component's tree, in the order of its `component.rs`.
-const TREE: [&str; 10] = [
-    "alias", "component", "custom", "export", "func", "import", "instance", "item_ref", "module", "types",
-];
+const TREE: [&str; 10] =
+    ["alias", "component", "custom", "export", "func", "import", "instance", "item_ref", "module", "types"];
 
 fn main() {
     println!("cargo:rerun-if-changed=build.rs");
@@ -32,8 +31,7 @@ fn folder(variable: &str, usual: &str) -> PathBuf {
     let here = PathBuf::from(env::var("CARGO_MANIFEST_DIR").expect("cargo sets CARGO_MANIFEST_DIR"));
     let named = env::var(variable).unwrap_or_else(|_| usual.to_string());
     let path = here.join(named);
-    path.canonicalize()
-        .unwrap_or_else(|_| panic!("{variable}: no folder {}", path.display()))
+    path.canonicalize().unwrap_or_else(|_| panic!("{variable}: no folder {}", path.display()))
 }
 
 fn link(library: &Path) {

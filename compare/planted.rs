@@ -36,23 +36,26 @@ const CHANGES: &[Change] = &[
     Change {
         name: "numbers of step A are kept",
         edits: &[
-            ("self.phase = Phase::ExpandAliases;\n            let mut state", "let first;\n{ self.phase = Phase::ExpandAliases;\n            let mut state"),
+            (
+                "self.phase = Phase::ExpandAliases;\n            let mut state",
+                "let first;\n{ self.phase = Phase::ExpandAliases;\n            let mut state",
+            ),
             ("            self.stack.pop();\n        }", "            first = self.stack.pop();\n        }"),
             (
                 "self.phase = Phase::Resolve;\n            let mut state = ComponentState::new(group_id);\n\n            for field in fields.iter() {\n                register(&mut state, field)?;\n            }",
                 "self.phase = Phase::Resolve;\n            let state = first.unwrap();",
             ),
-            ("            assert_eq!(self.phase, Phase::Resolve);\n            self.stack.pop();\n        }", "            self.stack.pop();\n        } }"),
+            (
+                "            assert_eq!(self.phase, Phase::Resolve);\n            self.stack.pop();\n        }",
+                "            self.stack.pop();\n        } }",
+            ),
         ],
     },
     Change {
         name: "inserted fields stand behind their field",
         edits: &[("fields.splice(i..i,", "fields.splice(i + 1..i + 1,")],
     },
-    Change {
-        name: "the operands of inserted fields are expanded again",
-        edits: &[("i += amt + 1;", "i += 1;")],
-    },
+    Change { name: "the operands of inserted fields are expanded again", edits: &[("i += amt + 1;", "i += 1;")] },
     Change {
         name: "the instance of a path is walked outward",
         edits: &[(
@@ -63,7 +66,10 @@ const CHANGES: &[Change] = &[
     },
     Change {
         name: "the instance of a core path is walked outward",
-        edits: &[("let span = item.idx.span();\n                let kind", "self.resolve_ns(&mut item.idx, Ns::CoreInstance)?;\n let span = item.idx.span();\n                let kind")],
+        edits: &[(
+            "let span = item.idx.span();\n                let kind",
+            "self.resolve_ns(&mut item.idx, Ns::CoreInstance)?;\n let span = item.idx.span();\n                let kind",
+        )],
     },
     Change {
         name: "the exports of a path are taken from the end",
@@ -99,11 +105,17 @@ const CHANGES: &[Change] = &[
     },
     Change {
         name: "the place of an outer count that is too large is the operand's",
-        edits: &[("span,\n                format!(\"outer count", "index.span(),\n                format!(\"outer count")],
+        edits: &[(
+            "span,\n                format!(\"outer count",
+            "index.span(),\n                format!(\"outer count",
+        )],
     },
     Change {
         name: "two numbers of an outer are checked",
-        edits: &[("if let Index::Num(..) = index {\n                return Ok(());", "if let Index::Num(..) = index {")],
+        edits: &[(
+            "if let Index::Num(..) = index {\n                return Ok(());",
+            "if let Index::Num(..) = index {",
+        )],
     },
     Change {
         name: "heap types are looked up among core types",
@@ -111,16 +123,19 @@ const CHANGES: &[Change] = &[
     },
     Change {
         name: "cases are tested in step B",
-        edits: &[("if self.phase == Phase::Resolve {\n                        ns.register", "if true {\n                        ns.register")],
+        edits: &[(
+            "if self.phase == Phase::Resolve {\n                        ns.register",
+            "if true {\n                        ns.register",
+        )],
     },
     Change {
         name: "cases are not tested",
-        edits: &[("if self.phase == Phase::Resolve {\n                        ns.register", "if false {\n                        ns.register")],
+        edits: &[(
+            "if self.phase == Phase::Resolve {\n                        ns.register",
+            "if false {\n                        ns.register",
+        )],
     },
-    Change {
-        name: "options of a lift are passed over",
-        edits: &[("self.canon_opts(&mut info.opts)?;", "")],
-    },
+    Change { name: "options of a lift are passed over", edits: &[("self.canon_opts(&mut info.opts)?;", "")] },
     Change {
         name: "tables are looked up among memories",
         edits: &[("core_item!(kw::table, CoreTable);", "core_item!(kw::table, CoreMemory);")],
@@ -131,7 +146,10 @@ const CHANGES: &[Change] = &[
     },
     Change {
         name: "a name may be declared twice",
-        edits: &[("if let Some(_prev) = self.names.insert(name, index) {", "self.names.insert(name, index); if false {")],
+        edits: &[(
+            "if let Some(_prev) = self.names.insert(name, index) {",
+            "self.names.insert(name, index); if false {",
+        )],
     },
     Change {
         name: "unnamed declarations get no number",
@@ -139,7 +157,10 @@ const CHANGES: &[Change] = &[
     },
     Change {
         name: "declarations are numbered from 1",
-        edits: &[("let index = self.count;\n        self.count += 1;", "self.count += 1;\n        let index = self.count;")],
+        edits: &[(
+            "let index = self.count;\n        self.count += 1;",
+            "self.count += 1;\n        let index = self.count;",
+        )],
     },
 ];
 

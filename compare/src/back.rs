@@ -40,9 +40,7 @@ fn text_number(text: &str) -> u32 {
 
 /// The rows of the resolved tree that was built from `input`.
 pub fn rows(component: &Component<'_>, input: &[Row], generated: &Generated) -> Vec<Row> {
-    let ComponentKind::Text(fields) = &component.kind else {
-        unreachable!("trees from rows are text")
-    };
+    let ComponentKind::Text(fields) = &component.kind else { unreachable!("trees from rows are text") };
     let mut writer = Writer { input, at: 0, out: Vec::with_capacity(input.len()), generated };
     writer.scope(fields, component_alias, Writer::component_field);
     writer.out
@@ -264,9 +262,7 @@ impl<'a> Writer<'a> {
             CoreInstanceKind::Instantiate { module, args } => {
                 self.reference(7, &module.idx);
                 for arg in args {
-                    let CoreInstantiationArgKind::Instance(item) = &arg.kind else {
-                        unreachable!("never built")
-                    };
+                    let CoreInstantiationArgKind::Instance(item) = &arg.kind else { unreachable!("never built") };
                     self.reference(6, &item.idx);
                 }
             }
@@ -303,9 +299,7 @@ impl<'a> Writer<'a> {
     }
 
     fn nested(&mut self, kind: &NestedComponentKind<'a>) {
-        let NestedComponentKind::Inline(fields) = kind else {
-            unreachable!("never built")
-        };
+        let NestedComponentKind::Inline(fields) = kind else { unreachable!("never built") };
         self.scope(fields, component_alias, Self::component_field);
     }
 
@@ -314,9 +308,7 @@ impl<'a> Writer<'a> {
             InstanceKind::Instantiate { component, args } => {
                 self.reference(11, &component.idx);
                 for arg in args {
-                    let InstantiationArgKind::Item(kind) = &arg.kind else {
-                        unreachable!("never built")
-                    };
+                    let InstantiationArgKind::Item(kind) = &arg.kind else { unreachable!("never built") };
                     self.export(kind);
                 }
             }

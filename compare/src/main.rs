@@ -13,6 +13,7 @@ mod recognise;
 mod reduce;
 mod rows;
 mod run;
+#[cfg(feature = "planted")]
 mod sensitivity;
 mod shapes;
 mod source;
@@ -20,10 +21,13 @@ mod source;
 #[allow(dead_code)]
 mod standins;
 mod sweep;
+mod tally;
 mod tree;
+mod vectors;
 
 use standins::error::Error;
 use standins::{annotation, core, kw, lexer, parser};
+use std::io::Write as _;
 use std::process::ExitCode;
 
 include!(concat!(env!("OUT_DIR"), "/crate_files.rs"));
@@ -31,6 +35,8 @@ include!(concat!(env!("OUT_DIR"), "/crate_files.rs"));
 const USAGE: &str = "\
 compare [--seconds N | --forms N] [--seed S]   compare on forms, for a minute if nothing is said
 compare --sensitivity [--seed S]               plant changes on both sides and show that each is caught
+                                               (built with --features planted)
+compare --vectors N [--seed S] > FILE          write fixed vectors, at most N of each refusal
 compare --bench FILE [--repetitions N]         time both sides; the picture goes to FILE as SVG";
 
 /// The value after `--name`, read as a number.
@@ -43,11 +49,31 @@ fn value<'a>(arguments: &'a [String], name: &str) -> Option<&'a str> {
     arguments.get(at + 1).map(String::as_str)
 }
 
+fn comparison() -> compare::Comparison {
+    compare::Comparison::new(oracle::Oracle::new(oracle::CRATE), library::resolve)
+}
+
 fn compare_forms(arguments: &[String]) -> bool {
-    let comparison = compare::Comparison::new(oracle::Oracle::new(oracle::CRATE), library::resolve);
     let forms = number(arguments, "--forms").map(run::Until::Forms);
     let seconds = run::Until::Seconds(number(arguments, "--seconds").unwrap_or(60));
-    run::run(&comparison, number(arguments, "--seed").unwrap_or(1), forms.unwrap_or(seconds))
+    run::run(&comparison(), number(arguments, "--seed").unwrap_or(1), forms.unwrap_or(seconds))
+}
+
+#[cfg(feature = "planted")]
+fn sensitivity(seed: u64) -> bool {
+    sensitivity::run(seed)
+}
+
+#[cfg(not(feature = "planted"))]
+fn sensitivity(_seed: u64) -> bool {
+    eprintln!("the planted changes are compiled in with --features planted");
+    false
+}
+
+fn write_vectors(arguments: &[String], count: u64) -> bool {
+    let (bytes, tally) = vectors::file(&comparison(), count as usize, number(arguments, "--seed").unwrap_or(1));
+    eprintln!("{} vectors\n{}", tally.forms, tally.summary());
+    std::io::stdout().write_all(&bytes).is_ok()
 }
 
 fn bench(arguments: &[String], file: &str) -> bool {
@@ -62,8 +88,10 @@ fn main() -> ExitCode {
     let has = |name: &str| arguments.iter().any(|argument| argument == name);
     let done = if let Some(file) = value(&arguments, "--bench") {
         bench(&arguments, file)
+    } else if let Some(count) = number(&arguments, "--vectors") {
+        write_vectors(&arguments, count)
     } else if has("--sensitivity") {
-        sensitivity::run(number(&arguments, "--seed").unwrap_or(1))
+        sensitivity(number(&arguments, "--seed").unwrap_or(1))
     } else if arguments.is_empty() || has("--seconds") || has("--forms") || has("--seed") {
         compare_forms(&arguments)
     } else {

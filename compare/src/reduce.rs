@@ -1,7 +1,7 @@
 //! Makes a form that shows a difference as small as it gets, and prints it.
 
 use crate::compare::{Case, Comparison, Outcome};
-use crate::rows::{HEADER, ROW, Row, decode, encode};
+use crate::rows::{CLOSE, HEADER, OPEN, REF, ROW, Row, decode, encode};
 
 /// The smallest case found that still shows a difference.
 pub fn reduce(comparison: &Comparison, case: &Case) -> Case {
@@ -12,6 +12,8 @@ pub fn reduce(comparison: &Comparison, case: &Case) -> Case {
     loop {
         let before = decode(&best.form);
         drop_rows(comparison, &mut best);
+        unwrap_scopes(comparison, &mut best);
+        shorten_paths(comparison, &mut best);
         simplify_rows(comparison, &mut best);
         if decode(&best.form) == before {
             return best;
@@ -45,6 +47,57 @@ fn drop_rows(comparison: &Comparison, best: &mut Case) {
         }
         length = if length > 16 { length / 2 } else { length - 1 };
     }
+}
+
+/// An inner scope goes and what is in it stays: its field's FIELD and DECL, its OPEN and its CLOSE.
+fn unwrap_scopes(comparison: &Comparison, best: &mut Case) {
+    let mut at = 3;
+    while at < decode(&best.form).len() {
+        let mut rows = decode(&best.form);
+        if let Some(close) = matching_close(&rows, at) {
+            rows.remove(close);
+            rows.drain(at - 2..=at);
+            keep_if_differs(comparison, best, &rows);
+        }
+        at += 1;
+    }
+}
+
+/// The CLOSE of the scope that the row at `open` opens, if it opens one.
+fn matching_close(rows: &[Row], open: usize) -> Option<usize> {
+    let mut depth = 0;
+    for (at, row) in rows.iter().enumerate().skip(open) {
+        match row.code {
+            OPEN => depth += 1,
+            CLOSE => depth -= 1,
+            _ => {}
+        }
+        if depth == 0 {
+            return (at > open).then_some(at);
+        }
+    }
+    None
+}
+
+/// References lose PATH rows, half of them or one at a time, and the count of them.
+fn shorten_paths(comparison: &Comparison, best: &mut Case) {
+    let mut at = 0;
+    while at < decode(&best.form).len() {
+        let row = decode(&best.form)[at];
+        let paths = if row.code == REF { row.y as usize } else { 0 };
+        let shorter = [paths / 2, paths.min(1)].into_iter().any(|fewer| drop_paths(comparison, best, at, fewer));
+        at += usize::from(!shorter);
+    }
+}
+
+fn drop_paths(comparison: &Comparison, best: &mut Case, at: usize, fewer: usize) -> bool {
+    let mut rows = decode(&best.form);
+    if fewer == 0 || at + fewer >= rows.len() {
+        return false;
+    }
+    rows.drain(at + 1..=at + fewer);
+    rows[at].y -= fewer as u32;
+    keep_if_differs(comparison, best, &rows)
 }
 
 /// Numbers become small, except that places stay apart.
@@ -102,8 +155,8 @@ fn outcome(outcome: &Outcome) -> String {
 
 /// A short mark by which two outputs are told apart (FNV-1a).
 fn digest(bytes: &[u8]) -> String {
-    let mark = bytes.iter().fold(0xcbf2_9ce4_8422_2325_u64, |mark, byte| {
-        (mark ^ u64::from(*byte)).wrapping_mul(0x100_0000_01b3)
-    });
+    let mark = bytes
+        .iter()
+        .fold(0xcbf2_9ce4_8422_2325_u64, |mark, byte| (mark ^ u64::from(*byte)).wrapping_mul(0x100_0000_01b3));
     format!("#{mark:016x}")
 }

@@ -87,7 +87,10 @@ pub fn output_size(rows: usize) -> usize {
 #[derive(Clone, Debug, PartialEq, Eq)]
 pub enum Answer {
     Accepted(Vec<Row>),
-    Refused { number: u32, place: u32 },
+    Refused {
+        number: u32,
+        place: u32,
+    },
     /// The crate stopped with a panic instead of an error.
     Panicked,
 }

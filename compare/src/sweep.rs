@@ -93,7 +93,13 @@ fn forms_of_field(kind: u8, head: Row, wants: &[Want], forms: &mut Vec<Vec<Row>>
     for (at, want) in wants.iter().enumerate() {
         let Want::Ref { spaces, paths } = want else { continue };
         let space = only(*spaces);
-        let most = if !paths { 0 } else if space <= 6 { 1 } else { 3 };
+        let most = if !paths {
+            0
+        } else if space <= 6 {
+            1
+        } else {
+            3
+        };
         for count in 0..=most {
             let asked = match (count, space) {
                 (0, space) => space,
@@ -159,11 +165,7 @@ fn declaration(space: u8) -> Vec<Row> {
 
 fn opening(kind: u8, name: u32) -> Vec<Row> {
     let (field, space) = [(6, 11), (14, 9), (15, 9), (17, 4)][usize::from(kind)];
-    vec![
-        Row::new(FIELD, field, 0, 0, 0, 0),
-        Row::new(DECL, space, 0, name, 0, 0),
-        Row::new(OPEN, kind, 0, name, 0, 0),
-    ]
+    vec![Row::new(FIELD, field, 0, 0, 0, 0), Row::new(DECL, space, 0, name, 0, 0), Row::new(OPEN, kind, 0, name, 0, 0)]
 }
 
 /// Three scopes around the field, with the declarations that the place wants; the name also stands in another

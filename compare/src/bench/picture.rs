@@ -45,12 +45,7 @@ fn panel(text: &mut String, series: &Series) {
     let x = |rows: usize| MARGIN.0 + (right - MARGIN.0) * rows as f64 / widest;
     let y = |time: f64| bottom - (bottom - 24.0) * time / highest;
     writeln!(text, "<text x=\"{}\" y=\"14\" font-weight=\"bold\">{}</text>", MARGIN.0, series.name).unwrap();
-    writeln!(
-        text,
-        "<path d=\"M{0} 24V{bottom}H{right}\" fill=\"none\" stroke=\"#888\"/>",
-        MARGIN.0
-    )
-    .unwrap();
+    writeln!(text, "<path d=\"M{0} 24V{bottom}H{right}\" fill=\"none\" stroke=\"#888\"/>", MARGIN.0).unwrap();
     for part in 0..=2 {
         let time = highest * f64::from(part) / 2.0;
         let (left, level) = (MARGIN.0 - 4.0, y(time) + 3.0);

@@ -1,17 +1,45 @@
 //! Copies of our answers, each with one deliberate change made to what `wnt_resolve` returned and wrote.
 
 use crate::library::resolve;
-use crate::rows::{CLOSE, DECL, EXPORT, FIELD, FIRST_INSERTED, HEADER, MOST_ROWS, OPEN, REF, ROW, Row, decode, encode, output_size};
+use crate::rows::{
+    CLOSE, DECL, EXPORT, FIELD, FIRST_INSERTED, HEADER, MOST_ROWS, OPEN, REF, ROW, Row, decode, encode, output_size,
+};
 
 pub const CHANGES: &[(&str, fn(&[u8], &mut [u8]) -> u64)] = &[
     ("refuses everything", |_, _| 4 << 32),
     ("copies its input", copied),
-    ("number 0 everywhere", |form, out| with_rows(form, out, |row| if row.code == REF { row.x = 0 })),
+    ("number 0 everywhere", |form, out| {
+        with_rows(form, out, |row| {
+            if row.code == REF {
+                row.x = 0
+            }
+        })
+    }),
     ("a reference keeps its count of PATH rows", keeps_paths),
-    ("names of inserted fields count from 1", |form, out| with_rows(form, out, |row| row.x += u32::from(is_inserted(row)))),
-    ("the DECL of an inserted field has no place", |form, out| with_rows(form, out, |row| if is_inserted(row) { row.z = 0 })),
-    ("an inserted EXPORT has a place", |form, out| with_rows(form, out, |row| if row.code == EXPORT { row.z = 1 })),
-    ("a FIELD row loses its place", |form, out| with_rows(form, out, |row| if row.code == FIELD { row.z = 0 })),
+    ("names of inserted fields count from 1", |form, out| {
+        with_rows(form, out, |row| row.x += u32::from(is_inserted(row)))
+    }),
+    ("the DECL of an inserted field has no place", |form, out| {
+        with_rows(form, out, |row| {
+            if is_inserted(row) {
+                row.z = 0
+            }
+        })
+    }),
+    ("an inserted EXPORT has a place", |form, out| {
+        with_rows(form, out, |row| {
+            if row.code == EXPORT {
+                row.z = 1
+            }
+        })
+    }),
+    ("a FIELD row loses its place", |form, out| {
+        with_rows(form, out, |row| {
+            if row.code == FIELD {
+                row.z = 0
+            }
+        })
+    }),
     ("the row count of the answer is one more", |form, out| {
         let answer = resolve(form, out);
         answer + u64::from(answer >> 32 == 0)
@@ -56,9 +84,12 @@ pub const CHANGES: &[(&str, fn(&[u8], &mut [u8]) -> u64)] = &[
     ("refusal 8 is called 9", |form, out| renamed(form, out, 8, 9)),
     ("refusal 2 comes before 1", |form, out| renamed(form, out, 1, 2)),
     ("31 scopes are the limit", |form, out| if depth(form) == 32 { 5 << 32 } else { resolve(form, out) }),
-    ("1,022 rows are the limit", |form, out| {
-        if form.len() == HEADER + ROW * MOST_ROWS { 2 << 32 } else { resolve(form, out) }
-    }),
+    (
+        "1,022 rows are the limit",
+        |form, out| {
+            if form.len() == HEADER + ROW * MOST_ROWS { 2 << 32 } else { resolve(form, out) }
+        },
+    ),
 ];
 
 fn is_inserted(row: &Row) -> bool {

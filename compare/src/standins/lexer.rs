@@ -3,19 +3,9 @@
 use std::borrow::Cow;
 
 pub enum Float<'a> {
-    Inf {
-        negative: bool,
-    },
-    Nan {
-        negative: bool,
-        val: Option<Cow<'a, str>>,
-    },
-    Val {
-        hex: bool,
-        integral: Cow<'a, str>,
-        fractional: Option<Cow<'a, str>>,
-        exponent: Option<Cow<'a, str>>,
-    },
+    Inf { negative: bool },
+    Nan { negative: bool, val: Option<Cow<'a, str>> },
+    Val { hex: bool, integral: Cow<'a, str>, fractional: Option<Cow<'a, str>>, exponent: Option<Cow<'a, str>> },
 }
 
 pub struct Integer<'a> {

@@ -49,10 +49,7 @@ impl<'a> Parser<'a> {
     pub fn step<T>(self, _step: impl FnOnce(Cursor<'a>) -> Result<(T, Cursor<'a>)>) -> Result<T> {
         match self.never {}
     }
-    pub fn with_standard_annotations_registered<T>(
-        self,
-        _inside: impl FnOnce(Parser<'a>) -> Result<T>,
-    ) -> Result<T> {
+    pub fn with_standard_annotations_registered<T>(self, _inside: impl FnOnce(Parser<'a>) -> Result<T>) -> Result<T> {
         match self.never {}
     }
     pub fn is_empty(self) -> bool {

@@ -1,0 +1,74 @@
+//! Counts of what a run has seen.
+
+use crate::compare::Case;
+use crate::rows::{Answer, CLOSE, DECL, FIELD, FIRST_INSERTED, OPEN, Row, decode};
+use crate::shapes::{BUILTIN_FIELD, BUILTINS, FIELDS, allowed};
+use std::collections::BTreeSet;
+
+#[derive(Default)]
+pub struct Tally {
+    pub forms: u64,
+    rows: u64,
+    inserted: u64,
+    answers: [u64; 13],
+    fields: BTreeSet<(u8, u8)>,
+    builtins: BTreeSet<u16>,
+}
+
+impl Tally {
+    pub fn count(&mut self, case: &Case, answer: &Answer) {
+        self.forms += 1;
+        let number = match answer {
+            Answer::Accepted(rows) => {
+                self.inserted += rows.iter().filter(|row| row.code == DECL && row.x >= FIRST_INSERTED).count() as u64;
+                0
+            }
+            Answer::Refused { number, .. } => *number as usize,
+            Answer::Panicked => return,
+        };
+        self.answers[number] += 1;
+        if number == 0 {
+            let rows = decode(&case.form);
+            self.rows += rows.len() as u64;
+            self.cover(&rows);
+        }
+    }
+
+    /// How many answers had the number of this one.
+    pub fn like(&self, answer: &Answer) -> u64 {
+        self.answers[(answer.packed() >> 32) as usize]
+    }
+
+    /// Notes which fields an accepted form has, and in which kind of scope.
+    fn cover(&mut self, rows: &[Row]) {
+        let mut kinds = Vec::new();
+        for row in rows {
+            match row.code {
+                OPEN => kinds.push(row.b),
+                CLOSE => drop(kinds.pop()),
+                FIELD => {
+                    self.fields.extend(kinds.last().map(|kind| (*kind, row.b)));
+                    if row.b == BUILTIN_FIELD {
+                        self.builtins.insert(row.e);
+                    }
+                }
+                _ => {}
+            }
+        }
+    }
+
+    pub fn summary(&self) -> String {
+        let refusals: Vec<String> = (1..13).map(|number| format!("{number}: {}", self.answers[number])).collect();
+        let pairs = (0..4).map(|kind| (1..=FIELDS).filter(|field| allowed(kind, *field)).count()).sum::<usize>();
+        format!(
+            "accepted {} forms with {} rows and {} inserted fields\nrefusals {}\n\
+             fields of accepted forms by kind of scope {} of {pairs}, builtins {} of {BUILTINS}",
+            self.answers[0],
+            self.rows,
+            self.inserted,
+            refusals.join(", "),
+            self.fields.len(),
+            self.builtins.len(),
+        )
+    }
+}
