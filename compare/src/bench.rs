@@ -18,7 +18,7 @@ mod picture;
 use forms::{FORMS, MakeForm};
 
 /// The sizes in rows of the picture; the table is about the last.
-const SIZES: [usize; 6] = [64, 128, 256, 512, 768, 1023];
+const SIZES: [usize; 6] = [64, 192, 384, 576, 768, 1023];
 
 /// Median times for one form, in nanoseconds.
 pub struct Times {

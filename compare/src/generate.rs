@@ -26,7 +26,7 @@ impl Mood {
         let names = chance.pick(&[2, 4, 8, 20, 60]);
         Mood {
             fields: chance.pick(&[1, 2, 3, 5, 9, 16, 40]),
-            depth: chance.pick(&[1, 2, 3, 3, 4, 6, 32]),
+            depth: chance.pick(&[1, 2, 3, 3, 4, 6, 32, 36]),
             rows: if chance.percent(2) { 950 } else { chance.pick(&[15, 30, 60, 60, 120, 250]) },
             repeat: chance.pick(&[20, 40, 60]),
             names,
@@ -41,7 +41,7 @@ impl Mood {
     }
 }
 
-/// A well-formed form.
+/// A well-formed form, though it may be too long or too deep.
 pub fn form(shapes: &Shapes, seed: u64) -> Vec<Row> {
     let mut chance = Chance::new(seed);
     let mood = Mood::of(&mut chance);

@@ -56,9 +56,9 @@ pub fn run(comparison: &Comparison, seed: u64, until: Until) -> bool {
     true
 }
 
-/// Whether a stage that makes well-formed forms made one; it may be too long, or its output too short.
+/// Whether a stage that makes well-formed forms made one; it may be too long or too deep, or its output too short.
 fn is_form(stage: Stage, answer: &Answer) -> bool {
-    let broken = matches!(answer, Answer::Refused { number: 1 | 4 | 5, .. });
+    let broken = matches!(answer, Answer::Refused { number: 1 | 4, .. });
     !(broken && matches!(stage, Stage::Stated | Stage::Sweep | Stage::Random))
 }
 
