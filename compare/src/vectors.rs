@@ -1,12 +1,12 @@
 //! Fixed vectors: forms with the expected answers, chosen so that few of them show much, in a flat file.
 //!
-//! For each vector, little endian: length of the form (u32), the form, length of the output to lend (u32), the
-//! answer (u64), how many bytes were written (u32), those bytes. The output before the call is all 0xa5.
-//! After a refusal from 1 to 5 it is unchanged; else the bytes written stand in front, zeroes follow up to
-//! 8 + 64 x rows, and what is beyond is unchanged.
+//! A vector begins with six words, little endian: how long the form is, how long the output that is lent, how much
+//! of the output is written and how much of it is written or cleared, the refusal's number, and its place; or 0 and
+//! the number of rows. The form follows, then the bytes that are written. Before the call every byte of the output
+//! is 165.
 
 use crate::compare::{Case, Comparison};
-use crate::rows::{Answer, CLOSE, FIELD, HEADER, OPEN, REF, ROW, Row, decode, encode};
+use crate::rows::{Answer, CLOSE, FIELD, HEADER, OPEN, REF, ROW, Row, decode, encode, output_size};
 use crate::source::{self, Stage};
 use crate::tally::Tally;
 use std::collections::BTreeSet;
@@ -48,11 +48,16 @@ fn append(bytes: &mut Vec<u8>, case: &Case, answer: &Answer) {
         Answer::Accepted(rows) => encode(rows),
         _ => Vec::new(),
     };
-    bytes.extend((case.form.len() as u32).to_le_bytes());
+    let cleared = match answer {
+        Answer::Refused { number: 1..=5, .. } => 0,
+        _ => output_size(decode(&case.form).len()),
+    };
+    let packed = answer.packed();
+    let lengths = [case.form.len(), case.out_len, written.len(), cleared].map(|length| length as u32);
+    for word in lengths.into_iter().chain([(packed >> 32) as u32, packed as u32]) {
+        bytes.extend(word.to_le_bytes());
+    }
     bytes.extend(&case.form);
-    bytes.extend((case.out_len as u32).to_le_bytes());
-    bytes.extend(answer.packed().to_le_bytes());
-    bytes.extend((written.len() as u32).to_le_bytes());
     bytes.extend(written);
 }
 
