@@ -1,4 +1,5 @@
-//! The runs that document 01 states with their answers (P1 to P10), and forms on both sides of each limit.
+//! The runs that document 01 states with their answers (P1 to P10), the smallest forms of docs/DIFFERENCES.md, and
+//! forms on both sides of each limit.
 
 use crate::compare::Case;
 use crate::rows::{Answer, CLOSE, DECL, FIELD, MOST_ROWS, MOST_SCOPES, OPEN, PATH, REF, Row, encode, output_size};
@@ -27,9 +28,9 @@ fn refused(name: &'static str, form: &[Parts], number: u32, place: u32) -> State
     Stated { name, rows: rows(form), answer: Answer::refused(number, place) }
 }
 
-/// P1 to P10.
+/// P1 to P10, and a form for each named difference.
 pub fn stated() -> Vec<Stated> {
-    let mut cases = vec![p1(), p9()];
+    let mut cases = vec![p1(), p9(), written_number_stays(), heap_type_is_a_type()];
     cases.extend(scopes_and_outers());
     cases.extend(references());
     cases
@@ -90,6 +91,24 @@ fn p9() -> Stated {
     let output =
         [&front[..], &alias(0, 40), &alias(1, 41), &field, &[(3, 9, 0, 0, 0, 40), (3, 9, 0, 1, 0, 41), END, END]];
     accepted("P9", &form, &output.concat())
+}
+
+/// The number 0 at place 71 is copied, though an alias has taken that number.
+fn written_number_stays() -> Stated {
+    let front = [ROOT, (1, 12, 0, 0, 0, 0), (2, 9, 0, 1, 0, 0), (1, 6, 0, 0, 0, 0), (2, 11, 0, 0, 0, 0), ROOT];
+    let named = [(1, 12, 0, 0, 0, 0), (2, 9, 0, 3, 0, 0)];
+    let alias = [(1, 11, 0, 0, 0, 70), (2, 9, 0, 2_147_483_648, 0, 70), (5, 9, 0, 1, 0, 70)];
+    let numbered = [(1, 12, 0, 0, 0, 0), (2, 9, 0, 4, 0, 0), (3, 9, 0, 0, 0, 71), END, END];
+    let form = [&front[..], &named, &[(3, 9, 1, 1, 0, 70)], &numbered].concat();
+    let output = [&front[..], &alias, &named, &[(3, 9, 0, 0, 0, 70)], &numbered].concat();
+    accepted("a written number stays", &form, &output)
+}
+
+/// A resource whose representation names a core type: it is not among the types.
+fn heap_type_is_a_type() -> Stated {
+    let core_type = [ROOT, (1, 4, 0, 0, 0, 0), (2, 4, 0, 2, 0, 0)];
+    let resource = [(1, 16, 0, 0, 0, 0), (2, 9, 0, 1, 0, 0), (3, 9, 1, 2, 0, 9), END];
+    refused("heap types are looked up among the types", &[&core_type[..], &resource].concat(), 9, 9)
 }
 
 /// Forms at and beyond each limit.

@@ -41,7 +41,12 @@ compare --bench FILE [--repetitions N]         time both sides; the picture goes
 
 /// The value after `--name`, read as a number.
 fn number(arguments: &[String], name: &str) -> Option<u64> {
-    value(arguments, name).map(|text| text.parse().unwrap_or_else(|_| panic!("{name} wants a number, not {text}")))
+    value(arguments, name).map(|text| {
+        text.parse().unwrap_or_else(|_| {
+            eprintln!("{name} wants a number, not {text}\n{USAGE}");
+            std::process::exit(2)
+        })
+    })
 }
 
 fn value<'a>(arguments: &'a [String], name: &str) -> Option<&'a str> {
@@ -79,8 +84,11 @@ fn write_vectors(arguments: &[String], count: u64) -> bool {
 fn bench(arguments: &[String], file: &str) -> bool {
     let repetitions = number(arguments, "--repetitions").unwrap_or(1001);
     let picture = bench::run(repetitions as usize);
-    std::fs::write(file, picture).unwrap_or_else(|problem| panic!("{file}: {problem}"));
-    true
+    let written = std::fs::write(file, picture);
+    if let Err(problem) = &written {
+        eprintln!("{file}: {problem}");
+    }
+    written.is_ok()
 }
 
 fn main() -> ExitCode {

@@ -21,6 +21,9 @@ pub enum Stage {
 /// One of so many random forms is damaged.
 const DAMAGED: u64 = 4;
 
+/// How many of the trees that a form of the sweep stands for are tried.
+const TREES: usize = 3;
+
 /// The forms that do not depend on a seed, and with which stage they belong.
 pub fn fixed(shapes: &Shapes) -> Vec<(Stage, Case)> {
     let mut chance = Chance::new(0);
@@ -31,7 +34,8 @@ pub fn fixed(shapes: &Shapes) -> Vec<(Stage, Case)> {
     }
     cases.extend(cases::limits().into_iter().map(|case| (Stage::Limits, case)));
     for rows in sweep::forms(shapes) {
-        cases.push((Stage::Sweep, Case::exact(encode(&rows), &mut chance)));
+        let case = |_| (Stage::Sweep, Case::exact(encode(&rows), &mut chance));
+        cases.extend((0..TREES).map(case));
     }
     cases
 }

@@ -3,11 +3,13 @@
 use crate::compare::Case;
 use crate::rows::{Answer, CLOSE, DECL, FIELD, FIRST_INSERTED, OPEN, Row, decode};
 use crate::shapes::{BUILTIN_FIELD, BUILTINS, FIELDS, allowed};
+use crate::source::Stage;
 use std::collections::BTreeSet;
 
 #[derive(Default)]
 pub struct Tally {
     pub forms: u64,
+    stages: [u64; 5],
     rows: u64,
     inserted: u64,
     answers: [u64; 13],
@@ -16,8 +18,9 @@ pub struct Tally {
 }
 
 impl Tally {
-    pub fn count(&mut self, case: &Case, answer: &Answer) {
+    pub fn count(&mut self, stage: Stage, case: &Case, answer: &Answer) {
         self.forms += 1;
+        self.stages[stage as usize] += 1;
         let number = match answer {
             Answer::Accepted(rows) => {
                 self.inserted += rows.iter().filter(|row| row.code == DECL && row.x >= FIRST_INSERTED).count() as u64;
@@ -60,8 +63,10 @@ impl Tally {
     pub fn summary(&self) -> String {
         let refusals: Vec<String> = (1..13).map(|number| format!("{number}: {}", self.answers[number])).collect();
         let pairs = (0..4).map(|kind| (1..=FIELDS).filter(|field| allowed(kind, *field)).count()).sum::<usize>();
+        let [stated, limits, sweep, random, damaged] = self.stages;
         format!(
-            "accepted {} forms with {} rows and {} inserted fields\nrefusals {}\n\
+            "forms: stated {stated}, limits {limits}, sweep {sweep}, random {random}, damaged {damaged}\n\
+             accepted {} forms with {} rows and {} inserted fields\nrefusals {}\n\
              fields of accepted forms by kind of scope {} of {pairs}, builtins {} of {BUILTINS}",
             self.answers[0],
             self.rows,

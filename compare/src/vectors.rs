@@ -37,7 +37,7 @@ pub fn file(comparison: &Comparison, most: usize, seed: u64) -> (Vec<u8>, Tally)
         if stage == Stage::Stated || (new && room) {
             shown.extend(features);
             append(&mut bytes, &case, &answer);
-            tally.count(&case, &answer);
+            tally.count(stage, &case, &answer);
         }
     }
     (bytes, tally)
