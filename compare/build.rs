@@ -15,23 +15,24 @@ const TREE: [&str; 10] =
 fn main() {
     println!("cargo:rerun-if-changed=build.rs");
     println!("cargo:rerun-if-changed=planted.rs");
-    let source = folder("WAST_SRC", "../../shared/docs/src").join("src");
-    let library = folder("WNT_LIB_DIR", "../target/staticlib");
+    let source = folder("WAST_SRC", "../../shared/docs/src", "the supplied source of the crate").join("src");
+    let library = folder("WNT_LIB_DIR", "../target/staticlib", "what `rt staticlib resolver` writes");
     link(&library);
     let out = PathBuf::from(env::var("OUT_DIR").expect("cargo sets OUT_DIR"));
     write(&out.join("crate_files.rs"), &crate_files(&source));
     write(&out.join("keywords.rs"), &names_after(&source, "kw::"));
     write(&out.join("annotations.rs"), &names_after(&source, "annotation::"));
-    planted::write_copies(&source, &out);
+    if env::var("CARGO_FEATURE_PLANTED").is_ok() {
+        planted::write_copies(&source, &out);
+    }
 }
 
 /// The folder that a variable names, or the usual one, from this package's folder.
-fn folder(variable: &str, usual: &str) -> PathBuf {
+fn folder(variable: &str, usual: &str, holds: &str) -> PathBuf {
     println!("cargo:rerun-if-env-changed={variable}");
     let here = PathBuf::from(env::var("CARGO_MANIFEST_DIR").expect("cargo sets CARGO_MANIFEST_DIR"));
-    let named = env::var(variable).unwrap_or_else(|_| usual.to_string());
-    let path = here.join(named);
-    path.canonicalize().unwrap_or_else(|_| panic!("{variable}: no folder {}", path.display()))
+    let path = here.join(env::var(variable).unwrap_or_else(|_| usual.to_string()));
+    path.canonicalize().unwrap_or_else(|_| panic!("{variable}: no folder {} with {holds}", path.display()))
 }
 
 fn link(library: &Path) {

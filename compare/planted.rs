@@ -4,8 +4,8 @@ use super::{read, write};
 use std::fmt::Write as _;
 use std::path::Path;
 
-/// A change: what it is called, and texts of the crate with what stands there instead. The first text is looked
-/// for in `resolve.rs` and, if it is not there, in `names.rs`.
+/// A change: what it is called, and texts of the crate with what stands there instead. Each text is looked for in
+/// `resolve.rs` and, if it is not there, in `names.rs`.
 struct Change {
     name: &'static str,
     edits: &'static [(&'static str, &'static str)],
