@@ -1,0 +1,27 @@
+-- `view::show::say_rows` is safe and ends. The measure is the rows that are left.
+use Prim.Native.Nat.{_-_}
+use borrow.Author.Needs.{needs}
+use Rattle.view.proofs.show.say_rows.Statement.{statement}
+use Rattle.view.proofs.show.say_rows.Tie as tie
+
+abbrev Inv-loop : tie.InvT-loop
+Inv-loop fd form rows level₀ row₀ level row = Unit {0}
+
+abbrev μ-loop : tie.MeasureT-loop
+μ-loop fd form rows level₀ row₀ level row = rows - row
+
+pub say-rows-spec : {M : Type 1} → statement M
+say-rows-spec =
+    tie.close
+    (tie.spec
+    Inv-loop
+    μ-loop
+    (λ c κs. search needs)  -- rows-in-requires
+    (λ c. search needs)  -- loop-holds
+    (λ c κs. search needs)  -- say-row-requires
+    (λ c κs. search needs)  -- code-at-requires
+    (λ c κs. search needs)  -- level-behind-requires
+    (λ c. search needs)  -- add-row
+    (λ c. search needs)  -- loop-less
+    (λ c. search needs)  -- loop-again
+    (λ c. search needs))  -- returns

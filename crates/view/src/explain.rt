@@ -1,0 +1,58 @@
+// One place of a form: which declaration each reference there means.
+use crate::readings::say_reading;
+use crate::readings::say_reference;
+use crate::rows::b_at;
+use crate::rows::field_of;
+use crate::rows::is_inserted;
+use crate::rows::is_reference;
+use crate::rows::next;
+use crate::rows::rows_in;
+use crate::rows::z_at;
+use crate::words::say;
+use crate::words::say_field;
+use crate::words::say_number;
+
+fn explain_row(fd: i32, form: &[u8], row: u16) {
+    let field = field_of(form, row);
+    say(fd, b"row ");
+    say_number(fd, row as u32);
+    say(fd, b" refers to ");
+    say_reference(fd, form, row);
+    say(fd, b", in the field at row ");
+    say_number(fd, field as u32);
+    say(fd, b": ");
+    say_field(fd, b_at(form, field));
+    if is_inserted(form, next(field)) {
+        say(fd, b" (inserted)");
+    }
+    say_reading(fd, form, row, b"\n  ");
+    say(fd, b"\n");
+}
+
+// Explains a row that is a reference with that place, and answers whether this or an earlier row was one.
+fn explained(fd: i32, form: &[u8], row: u16, place: u32, is_found: bool) -> bool {
+    if is_reference(form, row) && z_at(form, row) == place {
+        explain_row(fd, form, row);
+        return true;
+    }
+    is_found
+}
+
+// Explains the references with that place, and answers whether there was one.
+fn explain_each(fd: i32, form: &[u8], place: u32) -> bool {
+    let rows = rows_in(form);
+    let mut is_found = false;
+    let mut row: u16 = 0;
+    while row < rows {
+        is_found = explained(fd, form, row, place, is_found);
+        row += 1;
+    }
+    is_found
+}
+
+// Writes what the references with that place mean.
+pub fn explain(fd: i32, form: &[u8], place: u32) {
+    if !explain_each(fd, form, place) {
+        say(fd, b"no reference has that place\n");
+    }
+}

@@ -1,0 +1,149 @@
+// What a reference means: by the outward reading where it is a name, by counting where it is a number.
+use crate::rows::OUTER;
+use crate::rows::b_at;
+use crate::rows::code_at;
+use crate::rows::e_at;
+use crate::rows::field_of;
+use crate::rows::is_inserted;
+use crate::rows::next;
+use crate::rows::x_at;
+use crate::rows::y_at;
+use crate::scopes::Found;
+use crate::scopes::Key;
+use crate::scopes::Outer;
+use crate::scopes::Wanted;
+use crate::scopes::find;
+use crate::scopes::scope_of;
+use crate::scopes::scope_outward;
+
+// The DECL row that is meant, its number in its scope, and how many scopes out that is.
+pub enum Meaning {
+    At { row: u16, number: u32, out: u32 },
+    Nowhere,
+}
+
+// How the operand of a row is read.
+pub enum Reading {
+    // Outward, scope by scope.
+    Outward,
+    // A name that is looked up in one scope.
+    LookedUp,
+    // A number.
+    Counting,
+}
+
+// The space in which a REF's operand is looked up: with PATHs, that of the instance where they start.
+pub fn space_sought(form: &[u8], row: u16) -> u8 {
+    let space = b_at(form, row);
+    if y_at(form, row) == 0 {
+        space
+    } else if space < 7 {
+        6
+    } else {
+        10
+    }
+}
+
+// Whether a field's operands are looked up in its own scope and never outward.
+fn is_here_only(field: u8) -> bool {
+    match field {
+        4..=5 => true,
+        24 => true,
+        _ => false,
+    }
+}
+
+fn reading_of_ref(form: &[u8], row: u16) -> Reading {
+    if e_at(form, row) == 0 {
+        return Reading::Counting;
+    }
+    if y_at(form, row) != 0 {
+        return Reading::LookedUp;
+    }
+    if is_here_only(b_at(form, field_of(form, row))) {
+        return Reading::LookedUp;
+    }
+    Reading::Outward
+}
+
+// How a REF or an OUTER is read.
+pub fn reading_of(form: &[u8], row: u16) -> Reading {
+    if code_at(form, row) == OUTER {
+        if e_at(form, row) == 0 {
+            Reading::Counting
+        } else {
+            Reading::LookedUp
+        }
+    } else {
+        reading_of_ref(form, row)
+    }
+}
+
+// The declaration that one scope has, so many scopes out.
+fn in_scope(form: &[u8], scope: u16, out: u32, space: u8, key: Key) -> Meaning {
+    match find(form, scope, space, key) {
+        Found::At { row, number } => Meaning::At { row, number, out },
+        Found::Nothing => Meaning::Nowhere,
+    }
+}
+
+// A name by the outward reading: the innermost scope around a row that declares it.
+fn outward(form: &[u8], row: u16, space: u8, name: u32) -> Meaning {
+    match scope_outward(form, scope_of(form, row), Wanted::Declaring { space, name }) {
+        Outer::At { scope, out } => in_scope(form, scope, out, space, Key::Name(name)),
+        Outer::Nowhere => Meaning::Nowhere,
+    }
+}
+
+fn outer_wanted(e: u32, x: u32) -> Wanted {
+    if e == 1 || e == 3 {
+        Wanted::Named(x)
+    } else {
+        Wanted::Out(x)
+    }
+}
+
+fn index_key(e: u32, y: u32) -> Key {
+    if e < 2 { Key::Number(y) } else { Key::Name(y) }
+}
+
+// The declaration at an OUTER's index in its outer scope.
+pub fn through_outer(form: &[u8], row: u16) -> Meaning {
+    let e = e_at(form, row);
+    match scope_outward(form, scope_of(form, row), outer_wanted(e, x_at(form, row))) {
+        Outer::At { scope, out } => in_scope(
+            form,
+            scope,
+            out,
+            b_at(form, row),
+            index_key(e, y_at(form, row)),
+        ),
+        Outer::Nowhere => Meaning::Nowhere,
+    }
+}
+
+fn key_of(form: &[u8], row: u16) -> Key {
+    if e_at(form, row) == 0 {
+        Key::Number(x_at(form, row))
+    } else {
+        Key::Name(x_at(form, row))
+    }
+}
+
+// The declaration that a REF or an OUTER means; a number counts in its own scope, and no alias is followed.
+pub fn meaning_of(form: &[u8], row: u16) -> Meaning {
+    if code_at(form, row) == OUTER {
+        return through_outer(form, row);
+    }
+    let space = space_sought(form, row);
+    match reading_of(form, row) {
+        Reading::Outward => outward(form, row, space, x_at(form, row)),
+        Reading::LookedUp => in_scope(form, scope_of(form, row), 0, space, key_of(form, row)),
+        Reading::Counting => in_scope(form, scope_of(form, row), 0, space, key_of(form, row)),
+    }
+}
+
+// Whether a DECL row is that of an inserted outer alias.
+pub fn is_inserted_outer(form: &[u8], decl: u16) -> bool {
+    is_inserted(form, decl) && code_at(form, next(decl)) == OUTER
+}

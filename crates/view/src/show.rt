@@ -1,0 +1,169 @@
+// A whole form in words: one row a line, indented by scope.
+use crate::readings::say_declaration;
+use crate::readings::say_reading;
+use crate::readings::say_reference;
+use crate::rows::CLOSE;
+use crate::rows::FIELD;
+use crate::rows::b_at;
+use crate::rows::code_at;
+use crate::rows::e_at;
+use crate::rows::has_header;
+use crate::rows::is_inserted;
+use crate::rows::next;
+use crate::rows::rows_in;
+use crate::rows::rows_said;
+use crate::rows::x_at;
+use crate::rows::z_at;
+use crate::scopes::level_behind;
+use crate::scopes::number_of;
+use crate::words::say;
+use crate::words::say_export;
+use crate::words::say_field;
+use crate::words::say_name_if_any;
+use crate::words::say_number;
+use crate::words::say_scope;
+
+// How far a row is indented behind so many open scopes: a field stands in its scope, and what it holds stands in it.
+fn indent_of(code: u8, level: u32) -> u32 {
+    if level == 0 {
+        0
+    } else if 32 < level {
+        64
+    } else if code == FIELD {
+        2 * level - 1
+    } else if code == CLOSE {
+        2 * level - 2
+    } else {
+        2 * level
+    }
+}
+
+fn say_step(fd: i32) {
+    say(fd, b"  ");
+}
+
+fn say_indent(fd: i32, indent: u32) {
+    let mut left = indent;
+    while 0 < left {
+        say_step(fd);
+        left -= 1;
+    }
+}
+
+fn say_row_number(fd: i32, row: u16) {
+    if row < 10 {
+        say(fd, b"   ");
+    } else if row < 100 {
+        say(fd, b"  ");
+    } else if row < 1000 {
+        say(fd, b" ");
+    }
+    say_number(fd, row as u32);
+    say(fd, b"  ");
+}
+
+fn say_place(fd: i32, place: u32) {
+    if place != 0 {
+        say(fd, b", place ");
+        say_number(fd, place);
+    }
+}
+
+fn say_field_row(fd: i32, form: &[u8], row: u16) {
+    say_field(fd, b_at(form, row));
+    if b_at(form, row) == 19 {
+        say(fd, b" ");
+        say_number(fd, e_at(form, row));
+    }
+    if is_inserted(form, next(row)) {
+        say(fd, b" (inserted)");
+    }
+}
+
+fn say_reference_row(fd: i32, form: &[u8], row: u16) {
+    say(fd, b"refers to ");
+    say_reference(fd, form, row);
+}
+
+fn say_content(fd: i32, form: &[u8], row: u16) {
+    match code_at(form, row) {
+        1 => say_field_row(fd, form, row),
+        2 => {
+            say(fd, b"declares ");
+            say_declaration(fd, form, row, number_of(form, row));
+        }
+        3 => say_reference_row(fd, form, row),
+        4 => {
+            say(fd, b"path ");
+            say_export(fd, x_at(form, row));
+        }
+        5 => say_reference_row(fd, form, row),
+        6 => {
+            say(fd, b"case");
+            say_name_if_any(fd, x_at(form, row));
+        }
+        7 => {
+            say(fd, b"open ");
+            say_scope(fd, b_at(form, row));
+            say_name_if_any(fd, x_at(form, row));
+        }
+        8 => say(fd, b"close"),
+        9 => {
+            say(fd, b"export ");
+            say_export(fd, x_at(form, row));
+        }
+        _ => say(fd, b"no row of a form"),
+    }
+}
+
+// The meaning of a row that refers to something.
+fn say_meaning_if_any(fd: i32, form: &[u8], row: u16) {
+    match code_at(form, row) {
+        3 => say_reading(fd, form, row, b"; "),
+        5 => say_reading(fd, form, row, b"; "),
+        _ => {}
+    }
+}
+
+fn say_row(fd: i32, form: &[u8], row: u16, level: u32) {
+    say_row_number(fd, row);
+    say_indent(fd, indent_of(code_at(form, row), level));
+    say_content(fd, form, row);
+    say_place(fd, z_at(form, row));
+    say_meaning_if_any(fd, form, row);
+    say(fd, b"\n");
+}
+
+fn say_rows(fd: i32, form: &[u8]) {
+    let rows = rows_in(form);
+    let mut level: u32 = 0;
+    let mut row: u16 = 0;
+    while row < rows {
+        say_row(fd, form, row, level);
+        level = level_behind(level, code_at(form, row));
+        row += 1;
+    }
+}
+
+// What the header says, where that is not what is there.
+fn say_header(fd: i32, form: &[u8]) {
+    say_number(fd, rows_in(form) as u32);
+    say(fd, b" rows");
+    if !has_header(form) {
+        say(
+            fd,
+            b", behind a header that is not that of a form of version 1",
+        );
+    }
+    if rows_said(form) != (rows_in(form) as u32) {
+        say(fd, b"; the header says ");
+        say_number(fd, rows_said(form));
+    }
+    say(fd, b"\n");
+}
+
+// Writes a form, whatever its bytes are.
+pub fn show(fd: i32, form: &[u8]) {
+    say_header(fd, form);
+    say_rows(fd, form);
+}
