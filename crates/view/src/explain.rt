@@ -1,13 +1,13 @@
 // One place of a form: which declaration each reference there means.
+use crate::parts::b_at;
+use crate::parts::field_of;
+use crate::parts::is_inserted;
+use crate::parts::is_reference;
+use crate::parts::next;
+use crate::parts::rows_in;
+use crate::parts::z_at;
 use crate::readings::say_reading;
 use crate::readings::say_reference;
-use crate::rows::b_at;
-use crate::rows::field_of;
-use crate::rows::is_inserted;
-use crate::rows::is_reference;
-use crate::rows::next;
-use crate::rows::rows_in;
-use crate::rows::z_at;
 use crate::words::say;
 use crate::words::say_field;
 use crate::words::say_number;

@@ -1,9 +1,9 @@
 // A form put into words: its rows, what each reference means, and what a refusal means. It takes any bytes.
 pub mod explain;
 mod meaning;
+pub mod parts;
 mod readings;
 pub mod refusal;
-pub mod rows;
 mod scopes;
 pub mod show;
 pub mod words;

@@ -1,13 +1,13 @@
 // What a reference means: by the outward reading where it is a name, by counting where it is a number.
-use crate::rows::OUTER;
-use crate::rows::b_at;
-use crate::rows::code_at;
-use crate::rows::e_at;
-use crate::rows::field_of;
-use crate::rows::is_inserted;
-use crate::rows::next;
-use crate::rows::x_at;
-use crate::rows::y_at;
+use crate::parts::OUTER;
+use crate::parts::b_at;
+use crate::parts::code_at;
+use crate::parts::e_at;
+use crate::parts::field_of;
+use crate::parts::is_inserted;
+use crate::parts::next;
+use crate::parts::x_at;
+use crate::parts::y_at;
 use crate::scopes::Found;
 use crate::scopes::Key;
 use crate::scopes::Outer;

@@ -2,15 +2,15 @@
 //
 // A scope is known by its first row, the one behind its OPEN. The rows outside every OPEN have 0 for theirs.
 ghost use Prim.Native.Nat.{_≤_};
-use crate::rows::CLOSE;
-use crate::rows::DECL;
-use crate::rows::OPEN;
-use crate::rows::b_at;
-use crate::rows::code_at;
-use crate::rows::counted;
-use crate::rows::one_more;
-use crate::rows::rows_in;
-use crate::rows::x_at;
+use crate::parts::CLOSE;
+use crate::parts::DECL;
+use crate::parts::OPEN;
+use crate::parts::b_at;
+use crate::parts::code_at;
+use crate::parts::counted;
+use crate::parts::one_more;
+use crate::parts::rows_in;
+use crate::parts::x_at;
 
 // What a declaration is looked for by.
 pub enum Key {

@@ -1,5 +1,5 @@
 // The words for what a form holds, written to a file descriptor piece by piece.
-use crate::rows::FIRST_FRESH;
+use crate::parts::FIRST_FRESH;
 
 pub fn say(fd: i32, text: &[u8]) {
     io::write_all(fd, text);

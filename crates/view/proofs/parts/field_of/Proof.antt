@@ -1,7 +1,7 @@
--- `view::rows::field_of` is safe and ends. The measure is the rows above.
+-- `view::parts::field_of` is safe and ends. The measure is the rows above.
 use borrow.Author.Needs.{needs}
-use Rattle.view.proofs.rows.field_of.Statement.{statement}
-use Rattle.view.proofs.rows.field_of.Tie as tie
+use Rattle.view.proofs.parts.field_of.Statement.{statement}
+use Rattle.view.proofs.parts.field_of.Tie as tie
 
 abbrev Inv-loop : tie.InvT-loop
 Inv-loop form row above₀ above = Unit {0}

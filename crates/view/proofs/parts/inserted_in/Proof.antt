@@ -1,8 +1,8 @@
--- `view::rows::inserted_in` is safe and ends. The measure is the rows that are left.
+-- `view::parts::inserted_in` is safe and ends. The measure is the rows that are left.
 use Prim.Native.Nat.{_-_}
 use borrow.Author.Needs.{needs}
-use Rattle.view.proofs.rows.inserted_in.Statement.{statement}
-use Rattle.view.proofs.rows.inserted_in.Tie as tie
+use Rattle.view.proofs.parts.inserted_in.Statement.{statement}
+use Rattle.view.proofs.parts.inserted_in.Tie as tie
 
 abbrev Inv-loop : tie.InvT-loop
 Inv-loop form rows count₀ row₀ count row = Unit {0}
