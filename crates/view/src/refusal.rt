@@ -4,9 +4,7 @@ use crate::meaning::Reading;
 use crate::meaning::meaning_of;
 use crate::meaning::reading_of;
 use crate::meaning::space_sought;
-use crate::parts::CASE;
 use crate::parts::DECL;
-use crate::parts::FIELD;
 use crate::parts::OUTER;
 use crate::parts::REF;
 use crate::parts::b_at;
@@ -26,10 +24,30 @@ use crate::words::say_number;
 use crate::words::say_space;
 use crate::words::say_spaces;
 
-// The row that a refusal is about.
-enum Culprit {
+// The row that a refusal's words speak of.
+enum About {
     Row(u16),
-    Unknown,
+    NoRow,
+}
+
+// The spaces that no core instance exports from.
+fn is_never_exported(space: u8) -> bool {
+    match space {
+        4 => true,
+        6 => true,
+        _ => false,
+    }
+}
+
+// The spaces that can be aliased from outside.
+fn is_of_four(space: u8) -> bool {
+    match space {
+        4 => true,
+        7 => true,
+        9 => true,
+        11 => true,
+        _ => false,
+    }
 }
 
 // Whether a DECL's name was declared before it.
@@ -77,26 +95,24 @@ fn is_about(form: &[u8], row: u16, number: u32) -> bool {
     let code = code_at(form, row);
     match number {
         6 => code == DECL && is_declared_before(form, row),
-        7 => code == REF && y_at(form, row) != 0,
-        8 => code == REF && is_far(form, row),
+        7 => code == REF && y_at(form, row) != 0 && is_never_exported(b_at(form, row)),
+        8 => code == REF && !is_of_four(b_at(form, row)) && is_far(form, row),
         9 => is_reference(form, row) && is_unknown(form, row),
-        10..=11 => code == FIELD && b_at(form, row) == 11,
-        12 => code == CASE,
         _ => false,
     }
 }
 
 // The first row with that place that a refusal of that number can be about.
-fn row_about(form: &[u8], number: u32, place: u32) -> Culprit {
+fn row_about(form: &[u8], number: u32, place: u32) -> About {
     let rows = rows_in(form);
     let mut row: u16 = 0;
     while row < rows {
         if z_at(form, row) == place && is_about(form, row, number) {
-            return Culprit::Row(row);
+            return About::Row(row);
         }
         row += 1;
     }
-    Culprit::Unknown
+    About::NoRow
 }
 
 fn say_where(fd: i32, number: u32, place: u32) {
@@ -176,7 +192,10 @@ fn say_plainly(fd: i32, number: u32) {
             b"the row count is 0 or above 1023, or the length is not 8 + 16 x rows",
         ),
         3 => say(fd, b"the output buffer is too short"),
-        4 => say(fd, b"the rows up to this one begin no form"),
+        4 => say(
+            fd,
+            b"this row cannot stand here: no form begins with the rows up to it",
+        ),
         5 => say(fd, b"a scope is opened while 32 are open"),
         6 => say(fd, b"a name is declared twice"),
         7 => say(fd, b"a core instance has no such export"),
@@ -195,23 +214,25 @@ fn say_plainly(fd: i32, number: u32) {
     }
 }
 
-fn has_words_of_row(number: u32) -> bool {
-    match number {
-        6..=9 => true,
-        _ => false,
+// Whether a refusal is that of a form which ends before its last CLOSE.
+fn is_early_end(form: &[u8], number: u32, place: u32) -> bool {
+    number == 4 && place == (rows_in(form) as u32)
+}
+
+fn say_meaning(fd: i32, form: &[u8], number: u32, place: u32) {
+    match row_about(form, number, place) {
+        About::Row(row) => say_of_row(fd, form, row, number),
+        About::NoRow => say_plainly(fd, number),
     }
 }
 
 // Writes a refusal of an input as a line.
 pub fn say_refusal(fd: i32, form: &[u8], number: u32, place: u32) {
     say_where(fd, number, place);
-    if has_words_of_row(number) {
-        match row_about(form, number, place) {
-            Culprit::Row(row) => say_of_row(fd, form, row, number),
-            Culprit::Unknown => say_plainly(fd, number),
-        }
+    if is_early_end(form, number, place) {
+        say(fd, b"the form ends early");
     } else {
-        say_plainly(fd, number);
+        say_meaning(fd, form, number, place);
     }
     say(fd, b"\n");
 }
