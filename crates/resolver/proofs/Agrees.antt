@@ -3,19 +3,19 @@ use mathlib.Core.Path.{_≡_, refl, sym, ap, _∙_, subst}
 use mathlib.Core.Bool.{Bool, true, false, _&&_, _||_, not}
 use mathlib.Core.Option.{Option, none, some}
 use mathlib.Core.Logic.{_⊎_, inl, inr}
-use mathlib.Core.List.{List, [], _∷_, _++_, map, append-assoc, append-nil}
+use mathlib.Core.List.{List, [], _∷_, _++_, append-assoc}
 use native.Mathlib.Omega.{arith}
 use native.Mathlib.Nat.{sub-zero}
-use Prim.Native.Nat.{ℕ, zero, suc, _+_, _-_, _*_, _/_, _%_, _≤_, _<_}
+use Prim.Native.Nat.{ℕ, zero, suc, _+_, _-_, _*_, _/_, _%_, _≤_}
 use lib.Dec.{eqb, leb, ltb}
 use mir.Syntax.{w8}
 use mir.Val.{Fits}
 use lib.ListN.{length, getD, take, drop, replicate, length-append, length-drop, length-map}
 use lib.Seq.{length-take-le, take-at, drop-at, sets, sets-eq}
-use borrow.Author.Tests.{eqb-true, eqb-false, ltb-true, ltb-false, leb-true, lt-leb, le-leb, not-false}
+use borrow.Author.Tests.{eqb-true, eqb-false, ltb-false, leb-true}
 use Rattle.kit.specs.Pick.{pick}
-use Rattle.kit.specs.Out.{Out, _&_}
-use Rattle.kit.proofs.Laws.{yes!, no!, tests}
+use Rattle.kit.specs.Out.{_&_}
+use Rattle.kit.proofs.Laws.{tests}
 use Rattle.rules.specs.Tools.{if_then_else_, between, only, _orElse_}
 use Rattle.rules.specs.Versions.{Setting, version1, today, topName, base}
 use Rattle.rules.specs.Rows.{Row, Raw, raw, rawBytes, bytes, encode, encodeRow}
@@ -27,7 +27,7 @@ use Rattle.rules.specs.Rules.{Result, ok, resolve}
 use Rattle.rules.specs.Answer as rules
 use Rattle.rules.specs.Answer.{accepted, mark, hasHeader, settingOf, rowCount, rowsOf, rowsIn, resolved, afterReading, answerIn, answerFor, answer, rowsBytes, headerBytes, formBytes, written, outputAfter, outputFor, output}
 use Rattle.rules.specs.Laws.RowLaws.{Bytes, bytes-drop}
-use Rattle.rules.specs.Laws.Results.{OkR, RefR}
+use Rattle.rules.specs.Laws.Results.{OkR}
 use Rattle.rules.specs.Laws.Refusals.{OfSteps, steps-refuse}
 use Rattle.rules.specs.Laws.Output.FourTimes.{four-times}
 use Rattle.rules.specs.Laws.Reading.ReadRight.{read-right}
@@ -35,13 +35,13 @@ use Rattle.form.specs.Header.{headerIn, headerFor, headerOf}
 use Rattle.form.specs.Readings.{answerOf, readOf}
 use Rattle.form.specs.declared.header.Header.{Header as Heading}
 use Rattle.form.specs.declared.header.Header.the-variants.{Rows, Wrong, Count}
-use Rattle.write.specs.State.{Wrote, wroteThen}
+use Rattle.write.specs.State.{wroteThen}
 use Rattle.write.specs.declared.alias.State.{State}
 use Rattle.write.specs.declared.alias.Walked.the-variants.{Done, Refused}
 use Rattle.resolver.specs.Meaning.{Numbers, numbers, meaning, ruled}
 use Rattle.resolver.specs.Run.{Ran, zeroFrom, headed, refusedT, walkT, finishT, fillT, before, readThen, runT}
 use Rattle.resolver.specs.declared.run.Answer.{Answer}
-use Rattle.resolver.specs.declared.run.Answer.the-variants.{Accepted, Header, RowCount, Room}
+use Rattle.resolver.specs.declared.run.Answer.the-variants.{Header, RowCount, Room}
 use Rattle.resolver.proofs.Bytes.{all-bytes}
 use Rattle.resolver.proofs.Root.{Walks, walk-agrees}
 

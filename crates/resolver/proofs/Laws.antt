@@ -1,13 +1,13 @@
 -- The ways through the code.
-use mathlib.Core.Path.{_≡_, refl, sym, ap, _∙_}
-use mathlib.Core.List.{List, [], _∷_, _++_, append-nil}
+use mathlib.Core.Path.{_≡_, refl, _∙_}
+use mathlib.Core.List.{List, [], _++_, append-nil}
 use native.Mathlib.Omega.{arith}
 use native.Mathlib.Nat.{sub-zero}
-use Prim.Native.Nat.{ℕ, zero, suc, _+_, _-_, _*_, _/_, _%_, _≤_, _<_}
-use lib.ListN.{length, set, take, drop, replicate, length-set, length-drop, length-replicate}
+use Prim.Native.Nat.{ℕ, zero, suc, _+_, _-_, _*_, _%_, _≤_, _<_}
+use lib.ListN.{length, set, take, drop, replicate, length-set, length-drop}
 use lib.Seq.{take-all, drop-length, append-snoc}
 use borrow.Author.Needs.{needs}
-use Rattle.kit.specs.Out.{Out, _&_}
+use Rattle.kit.specs.Out.{_&_}
 use Rattle.kit.proofs.Laws.{yes!, no!, tests, left-suc, take-next-set}
 use Rattle.form.specs.Marked.{endsT}
 use Rattle.form.specs.Readings.{readOf}

@@ -1,5 +1,5 @@
 -- The walk of a form's bytes, by crate `agree`, from the ends that crate `form` notes.
-use mathlib.Core.Path.{_≡_, refl, sym, ap, _∙_}
+use mathlib.Core.Path.{_≡_}
 use mathlib.Core.List.{List, _++_}
 use native.Mathlib.Omega.{arith}
 use Prim.Native.Nat.{ℕ, _+_, _*_, _/_, _≤_}
