@@ -1,0 +1,84 @@
+//! Resolves the names of a WebAssembly component, given as rows, into index numbers.
+//!
+//! A form is a header of 8 bytes and rows of 16 bytes; `docs/RULES.md` has both, and all rules. The work is done by
+//! `wnt_resolve` of the proved static library, whose answer and output are fixed for every input. This crate only lends
+//! it the buffers and puts its answer into a `Result`.
+//!
+//! ```
+//! // The empty component: its OPEN and its CLOSE. It has no names and is resolved to itself.
+//! let mut form = b"WNT\x01\x00\x00\x02\x00".to_vec();
+//! form.extend([7, 0, 0, 0, 0, 0, 0, 0, 0, 0, 0, 0, 0, 0, 0, 0]);
+//! form.extend([8, 0, 0, 0, 0, 0, 0, 0, 0, 0, 0, 0, 0, 0, 0, 0]);
+//! assert_eq!(wnt::resolve(&form), Ok(form.clone()));
+//!
+//! // Without the CLOSE its length is not what the header says.
+//! form.truncate(24);
+//! assert_eq!(wnt::resolve(&form), Err(wnt::Refusal::RowCount));
+//! ```
+
+#![warn(missing_docs)]
+
+mod refusal;
+
+pub use refusal::Refusal;
+
+/// The bytes of a form's header.
+pub const HEADER_SIZE: usize = 8;
+
+/// The bytes of a row.
+pub const ROW_SIZE: usize = 16;
+
+/// The most rows that an input may have.
+pub const MAX_ROWS: usize = 1023;
+
+/// The bytes of the longest input.
+pub const MAX_FORM_SIZE: usize = form_size(MAX_ROWS);
+
+/// The bytes of an output that is long enough for every input.
+pub const MAX_OUT_SIZE: usize = out_size(MAX_ROWS);
+
+extern "C" {
+    fn wnt_resolve(form: *const u8, form_len: usize, out: *mut u8, out_len: usize) -> u64;
+}
+
+/// The bytes of a form with so many rows.
+pub const fn form_size(rows: usize) -> usize {
+    HEADER_SIZE + ROW_SIZE * rows
+}
+
+/// The bytes that the output must have at least for an input of so many rows: a resolved form has at most four times as
+/// many.
+pub const fn out_size(rows: usize) -> usize {
+    HEADER_SIZE + 4 * ROW_SIZE * rows
+}
+
+/// Resolves a form and gives the resolved one, without anything behind it.
+///
+/// Its output has the room that the form needs, so it is never refused with [`Refusal::Room`].
+pub fn resolve(form: &[u8]) -> Result<Vec<u8>, Refusal> {
+    let mut out = vec![0; out_size(rows_in(form))];
+    let rows = resolve_into(form, &mut out)?;
+    out.truncate(form_size(rows));
+    Ok(out)
+}
+
+/// Resolves a form into `out` and gives the number of rows written.
+///
+/// `out` needs [`out_size`] bytes for the form's rows. Bytes beyond these are never changed. After acceptance the first
+/// [`form_size`] of the rows written are the resolved form and the rest of the needed bytes zero; after refusals 1 to 5
+/// all is as it was; after 6 to 12 the needed bytes are zero.
+pub fn resolve_into(form: &[u8], out: &mut [u8]) -> Result<usize, Refusal> {
+    // SAFETY: both buffers are valid for their lengths while the call lasts, and do not overlap, since `out` is
+    // borrowed alone. The library writes to `out` only and keeps no pointer.
+    let answer = unsafe { wnt_resolve(form.as_ptr(), form.len(), out.as_mut_ptr(), out.len()) };
+    let (number, rest) = ((answer >> 32) as u32, answer as u32);
+    match number {
+        0 => Ok(rest as usize),
+        _ => Err(Refusal::of(number, rest)),
+    }
+}
+
+/// How many rows a form of that length has, if its header says so too; no more than any may have.
+fn rows_in(form: &[u8]) -> usize {
+    (form.len().saturating_sub(HEADER_SIZE) / ROW_SIZE).min(MAX_ROWS)
+}

@@ -1,0 +1,151 @@
+//! The refusals: their numbers, their places and their meaning in words.
+
+use std::error::Error;
+use std::fmt;
+
+/// Why a form was refused, and where.
+///
+/// A `row` is counted from 0. A `place` is the last part of a row, which the form's author chose.
+#[derive(Clone, Copy, Debug, PartialEq, Eq, Hash)]
+pub enum Refusal {
+    /// 1: fewer than 8 bytes, or bytes 0 to 5 are not those of the header.
+    Header,
+    /// 2: the row count is 0 or above 1023, or the length is not 8 + 16 x rows.
+    RowCount,
+    /// 3: the output buffer is shorter than 8 + 64 x rows.
+    Room,
+    /// 4: a row breaks the form.
+    Broken {
+        /// The row, or the row count if the form ends early.
+        row: u32,
+    },
+    /// 5: a scope is opened while 32 are open.
+    Deep {
+        /// The row that opens it.
+        row: u32,
+    },
+    /// 6: a name is declared twice in one space of one scope.
+    DuplicateName {
+        /// The second declaration's.
+        place: u32,
+    },
+    /// 7: a path to a core type or a core instance.
+    NotExported {
+        /// The reference's.
+        place: u32,
+    },
+    /// 8: the name means something of a scope further out that is no core module, core type, type or component.
+    NotOuter {
+        /// The reference's.
+        place: u32,
+    },
+    /// 9: no scope in which it is looked up declares the name.
+    UnknownName {
+        /// The reference's or the outer alias's.
+        place: u32,
+    },
+    /// 10: no open scope has the name of the outer scope.
+    UnknownScope {
+        /// The field's.
+        place: u32,
+    },
+    /// 11: the outer count is not below the number of open scopes.
+    CountTooLarge {
+        /// The field's.
+        place: u32,
+    },
+    /// 12: an earlier case of the field has that name.
+    DuplicateCase {
+        /// The second case's.
+        place: u32,
+    },
+}
+
+impl Refusal {
+    /// The refusal of that number at that place.
+    ///
+    /// Panics if there is none of that number, which the library's contract excludes.
+    pub(crate) fn of(number: u32, place: u32) -> Refusal {
+        match number {
+            1 => Refusal::Header,
+            2 => Refusal::RowCount,
+            3 => Refusal::Room,
+            4 => Refusal::Broken { row: place },
+            5 => Refusal::Deep { row: place },
+            6 => Refusal::DuplicateName { place },
+            7 => Refusal::NotExported { place },
+            8 => Refusal::NotOuter { place },
+            9 => Refusal::UnknownName { place },
+            10 => Refusal::UnknownScope { place },
+            11 => Refusal::CountTooLarge { place },
+            12 => Refusal::DuplicateCase { place },
+            _ => unreachable!("libresolver.a is of another version: it answered refusal {number}"),
+        }
+    }
+
+    /// Its number, 1 to 12.
+    pub fn number(self) -> u32 {
+        match self {
+            Refusal::Header => 1,
+            Refusal::RowCount => 2,
+            Refusal::Room => 3,
+            Refusal::Broken { .. } => 4,
+            Refusal::Deep { .. } => 5,
+            Refusal::DuplicateName { .. } => 6,
+            Refusal::NotExported { .. } => 7,
+            Refusal::NotOuter { .. } => 8,
+            Refusal::UnknownName { .. } => 9,
+            Refusal::UnknownScope { .. } => 10,
+            Refusal::CountTooLarge { .. } => 11,
+            Refusal::DuplicateCase { .. } => 12,
+        }
+    }
+
+    /// Its place: 0 for refusals 1 to 3, a row for 4 and 5, the place of a row for 6 to 12.
+    pub fn place(self) -> u32 {
+        match self {
+            Refusal::Header | Refusal::RowCount | Refusal::Room => 0,
+            Refusal::Broken { row } | Refusal::Deep { row } => row,
+            Refusal::DuplicateName { place }
+            | Refusal::NotExported { place }
+            | Refusal::NotOuter { place }
+            | Refusal::UnknownName { place }
+            | Refusal::UnknownScope { place }
+            | Refusal::CountTooLarge { place }
+            | Refusal::DuplicateCase { place } => place,
+        }
+    }
+
+    /// What it means.
+    fn meaning(self) -> &'static str {
+        match self {
+            Refusal::Header => "this is no form: it does not begin with WNT and version 1",
+            Refusal::RowCount => "the row count is 0 or above 1023, or the length is not 8 + 16 x rows",
+            Refusal::Room => "the output buffer is shorter than 8 + 64 x rows",
+            Refusal::Broken { .. } => {
+                "no form begins with the rows up to it, or the form ends early if it has no such row"
+            }
+            Refusal::Deep { .. } => "a scope is opened while 32 are open",
+            Refusal::DuplicateName { .. } => "this scope already has a declaration of that name in that space",
+            Refusal::NotExported { .. } => "a core type or a core instance cannot be an export of a core instance",
+            Refusal::NotOuter { .. } => "the name means something of a scope further out that cannot be had from there",
+            Refusal::UnknownName { .. } => "no scope in which it is looked up declares that name",
+            Refusal::UnknownScope { .. } => "no open scope has the name of the outer scope",
+            Refusal::CountTooLarge { .. } => "the outer count is not below the number of open scopes",
+            Refusal::DuplicateCase { .. } => "an earlier case of this field has that name",
+        }
+    }
+}
+
+impl fmt::Display for Refusal {
+    fn fmt(&self, f: &mut fmt::Formatter<'_>) -> fmt::Result {
+        let (number, place, meaning) = (self.number(), self.place(), self.meaning());
+        match number {
+            1..=3 => write!(f, "refused {number}: {meaning}"),
+            4..=5 => write!(f, "refused {number} at row {place}: {meaning}"),
+            _ => write!(f, "refused {number} at place {place}: {meaning}"),
+        }
+    }
+}
+
+impl Error for Refusal {}

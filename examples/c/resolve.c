@@ -1,0 +1,125 @@
+/* Resolves the form IN into the file OUT and prints the rows that were written, or the refusal.
+ *
+ * From the repository's root, with the library that `rt staticlib resolver` writes:
+ *
+ *   cc -Iinclude examples/c/resolve.c target/staticlib/libresolver.a -o target/resolve-c
+ *   target/resolve-c examples/driver/driver.wnt target/driver-resolved.wnt
+ *
+ * The exit status is 0 if the form was resolved and OUT written, else 1. A refused form leaves OUT alone. */
+#include <inttypes.h>
+#include <stdio.h>
+
+#include "wnt.h"
+
+/* One byte more than the longest form, so that a longer file is refused by its length. */
+static uint8_t form[WNT_MAX_FORM_SIZE + 1];
+static uint8_t out[WNT_MAX_OUT_SIZE];
+
+/* What each refusal means, by its number. */
+static const char *const words[] = {
+    "accepted",
+    "this is no form: it does not begin with WNT and version 1",
+    "the row count is 0 or above 1023, or the length is not 8 + 16 x rows",
+    "the output buffer is shorter than 8 + 64 x rows",
+    "no form begins with the rows up to it, or the form ends early if it has no such row",
+    "a scope is opened while 32 are open",
+    "this scope already has a declaration of that name in that space",
+    "a core type or a core instance cannot be an export of a core instance",
+    "the name means something of a scope further out that cannot be had from there",
+    "no scope in which it is looked up declares that name",
+    "no open scope has the name of the outer scope",
+    "the outer count is not below the number of open scopes",
+    "an earlier case of this field has that name",
+};
+
+/* Reads a file into the form's buffer, as much as fits; 0 if that fails. */
+static int read_form(const char *name, size_t *length)
+{
+    FILE *file = fopen(name, "rb");
+    int failed;
+    if (file == NULL) {
+        return 0;
+    }
+    *length = fread(form, 1, sizeof form, file);
+    failed = ferror(file);
+    fclose(file);
+    return !failed;
+}
+
+/* Writes the first bytes of the output to a file; 0 if that fails. */
+static int write_out(const char *name, size_t length)
+{
+    FILE *file = fopen(name, "wb");
+    size_t written;
+    if (file == NULL) {
+        return 0;
+    }
+    written = fwrite(out, 1, length, file);
+    return fclose(file) == 0 && written == length;
+}
+
+/* A number of four bytes, little endian. */
+static uint32_t number_at(const uint8_t *at)
+{
+    return at[0] | (uint32_t)at[1] << 8 | (uint32_t)at[2] << 16 | (uint32_t)at[3] << 24;
+}
+
+/* Prints a row as [code b e x y z]. */
+static void print_row(const uint8_t *row)
+{
+    printf("[%d %d %d", row[0], row[1], row[2] | row[3] << 8);
+    printf(" %" PRIu32 " %" PRIu32 " %" PRIu32 "]\n", number_at(row + 4), number_at(row + 8), number_at(row + 12));
+}
+
+static void print_rows(uint32_t rows)
+{
+    uint32_t i;
+    printf("accepted: %" PRIu32 " rows\n", rows);
+    for (i = 0; i < rows; i++) {
+        print_row(out + WNT_FORM_SIZE(i));
+    }
+}
+
+static void print_refusal(uint32_t number, uint32_t place)
+{
+    printf("refused %" PRIu32, number);
+    if (number >= WNT_BROKEN) {
+        printf(" at %s %" PRIu32, number <= WNT_DEEP ? "row" : "place", place);
+    }
+    printf(": %s\n", words[number]);
+}
+
+/* A sentence on a file, for the exit status 1. */
+static int fail(const char *name, const char *what)
+{
+    fprintf(stderr, "%s cannot be %s\n", name, what);
+    return 1;
+}
+
+/* Resolves what was read, writes it to a file and says what became of it. */
+static int resolve(size_t length, const char *name)
+{
+    uint64_t answer = wnt_resolve(form, length, out, sizeof out);
+    if (WNT_NUMBER(answer) != WNT_ACCEPTED) {
+        print_refusal(WNT_NUMBER(answer), WNT_PLACE(answer));
+        return 1;
+    }
+    if (!write_out(name, WNT_FORM_SIZE(WNT_ROWS(answer)))) {
+        return fail(name, "written");
+    }
+    print_rows(WNT_ROWS(answer));
+    return 0;
+}
+
+int main(int count, char **arguments)
+{
+    size_t length;
+    if (count != 3) {
+        fprintf(stderr, "usage: resolve-c IN OUT\n");
+        return 1;
+    }
+    if (!read_form(arguments[1], &length)) {
+        return fail(arguments[1], "read");
+    }
+    return resolve(length, arguments[2]);
+}

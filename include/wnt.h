@@ -1,0 +1,94 @@
+/* Resolves the names of a WebAssembly component, given as rows, into index numbers. For C99 and C++.
+ *
+ * Link with libresolver.a; no other library is needed than the C library. What is answered and what the output then
+ * holds is fixed for every input by the contract of wnt_resolve; docs/RULES.md has the rules in words. */
+#ifndef WNT_H
+#define WNT_H
+
+#include <stddef.h>
+#include <stdint.h>
+
+#ifdef __cplusplus
+extern "C" {
+#endif
+
+/* A form is a header of 8 bytes (`WNT`, the version 1 as two bytes, the rule set 0, the row count as two bytes) and its
+ * rows of 16 bytes each, 1 to 1023 of them. All numbers are little endian. */
+#define WNT_HEADER_SIZE 8
+#define WNT_ROW_SIZE 16
+#define WNT_MAX_ROWS 1023
+
+/* The bytes of a form with so many rows. */
+#define WNT_FORM_SIZE(rows) (8u + 16u * (rows))
+
+/* The bytes that the output must have at least, by the rows of the input: a resolved form has at most four times as
+ * many. */
+#define WNT_OUT_SIZE(rows) (8u + 64u * (rows))
+
+/* Buffers of these sizes hold every input and every output. */
+#define WNT_MAX_FORM_SIZE 16376
+#define WNT_MAX_OUT_SIZE 65480
+
+/* The numbers of the answers, and the place of each refusal. A row is counted from 0; z is a row's last part, which the
+ * caller chose. 1, 2 and 3 are looked for in this order, then 4 and 5 by row, then 6 to 12 as the steps of the rules
+ * meet them. */
+enum wnt_number {
+    /* Resolved. The lower half is how many rows were written. */
+    WNT_ACCEPTED = 0,
+    /* Fewer than 8 bytes, or bytes 0 to 5 are not those of the header. Place: 0. */
+    WNT_HEADER = 1,
+    /* The row count is 0 or above 1023, or the length is not WNT_FORM_SIZE of it. Place: 0. */
+    WNT_ROW_COUNT = 2,
+    /* The output is shorter than WNT_OUT_SIZE of the row count. Place: 0. */
+    WNT_ROOM = 3,
+    /* A row breaks the form. Place: the row, or the row count if the form ends early. */
+    WNT_BROKEN = 4,
+    /* A scope is opened while 32 are open. Place: the row. */
+    WNT_DEEP = 5,
+    /* A name is declared twice in one space of one scope. Place: z of the second declaration. */
+    WNT_DUPLICATE_NAME = 6,
+    /* A path to a core type or a core instance. Place: z of the reference. */
+    WNT_NOT_EXPORTED = 7,
+    /* The name means something of a scope further out that is no core module, core type, type or component. Place: z of
+     * the reference. */
+    WNT_NOT_OUTER = 8,
+    /* No scope in which it is looked up declares the name. Place: z of the reference or outer alias. */
+    WNT_UNKNOWN_NAME = 9,
+    /* No open scope has the name of the outer scope. Place: z of the field. */
+    WNT_UNKNOWN_SCOPE = 10,
+    /* The outer count is not below the number of open scopes. Place: z of the field. */
+    WNT_COUNT_TOO_LARGE = 11,
+    /* An earlier case of the field has that name. Place: z of the second case. */
+    WNT_DUPLICATE_CASE = 12
+};
+
+/* The answer's upper half: one of the numbers above. */
+#define WNT_NUMBER(answer) ((uint32_t)((answer) >> 32))
+
+/* The answer's lower half after a refusal: its place. */
+#define WNT_PLACE(answer) ((uint32_t)((answer) & 0xffffffffu))
+
+/* The answer's lower half after acceptance: how many rows were written. */
+#define WNT_ROWS(answer) ((uint32_t)((answer) & 0xffffffffu))
+
+/* Resolves the form into `out`, and answers a number in the upper half, a place or a number of rows in the lower.
+ *
+ * What `out` holds afterwards:
+ *
+ *   answer     its first WNT_OUT_SIZE(rows of the form) bytes    its other bytes
+ *   1 to 5     unchanged                                         unchanged
+ *   6 to 12    zero                                              unchanged
+ *   accepted   WNT_FORM_SIZE(WNT_ROWS(answer)) bytes are the     unchanged
+ *              resolved form, those after it zero
+ *
+ * The two buffers must not overlap, and nothing else may write to them, or read `out`, while the call lasts. A pointer
+ * may be null only if its length is 0: an empty form is refusal 1, an empty output refusal 3 if not 1 or 2. The form is
+ * only read. Nothing is allocated and nothing is kept from one call to the next: calls from several threads are safe if
+ * no call's `out` overlaps a buffer of another; they may share a form. */
+uint64_t wnt_resolve(const uint8_t *form, size_t form_len, uint8_t *out, size_t out_len);
+
+#ifdef __cplusplus
+}
+#endif
+
+#endif
