@@ -1,11 +1,12 @@
-/* Resolves the form IN into the file OUT and prints the rows that were written, or the refusal.
+/* Resolves the form IN and prints the rows that became of it, or the refusal; writes the file OUT if there is one.
  *
  * From the repository's root, with the library that `rt staticlib resolver` writes:
  *
  *   cc -Iinclude examples/c/resolve.c target/staticlib/libresolver.a -o target/resolve-c
+ *   target/resolve-c examples/driver/driver.wnt
  *   target/resolve-c examples/driver/driver.wnt target/driver-resolved.wnt
  *
- * The exit status is 0 if the form was resolved and OUT written, else 1. A refused form leaves OUT alone. */
+ * The exit status is 0 if the form was resolved, and OUT written, else 1. A refused form leaves OUT alone. */
 #include <inttypes.h>
 #include <stdio.h>
 
@@ -96,7 +97,7 @@ static int fail(const char *name, const char *what)
     return 1;
 }
 
-/* Resolves what was read, writes it to a file and says what became of it. */
+/* Resolves what was read, writes it to a file unless its name is null, and says what became of it. */
 static int resolve(size_t length, const char *name)
 {
     uint64_t answer = wnt_resolve(form, length, out, sizeof out);
@@ -104,7 +105,7 @@ static int resolve(size_t length, const char *name)
         print_refusal(WNT_NUMBER(answer), WNT_PLACE(answer));
         return 1;
     }
-    if (!write_out(name, WNT_FORM_SIZE(WNT_ROWS(answer)))) {
+    if (name != NULL && !write_out(name, WNT_FORM_SIZE(WNT_ROWS(answer)))) {
         return fail(name, "written");
     }
     print_rows(WNT_ROWS(answer));
@@ -114,12 +115,12 @@ static int resolve(size_t length, const char *name)
 int main(int count, char **arguments)
 {
     size_t length;
-    if (count != 3) {
-        fprintf(stderr, "usage: resolve-c IN OUT\n");
+    if (count < 2 || count > 3) {
+        fprintf(stderr, "usage: resolve-c IN [OUT]\n");
         return 1;
     }
     if (!read_form(arguments[1], &length)) {
         return fail(arguments[1], "read");
     }
-    return resolve(length, arguments[2]);
+    return resolve(length, count == 3 ? arguments[2] : NULL);
 }

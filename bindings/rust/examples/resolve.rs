@@ -1,6 +1,6 @@
-//! Resolves the form IN into the file OUT and prints the rows that were written, or the refusal.
+//! Resolves the form IN and prints the rows that became of it, or the refusal; writes the file OUT if there is one.
 //!
-//! The exit status is 0 if the form was resolved and OUT written, else 1. A refused form leaves OUT alone.
+//! The exit status is 0 if the form was resolved, and OUT written, else 1. A refused form leaves OUT alone.
 
 use std::env;
 use std::fs;
@@ -8,18 +8,25 @@ use std::process::ExitCode;
 
 fn main() -> ExitCode {
     let arguments: Vec<String> = env::args().skip(1).collect();
-    let [input, output] = &arguments[..] else {
-        eprintln!("usage: resolve IN OUT");
-        return ExitCode::FAILURE;
-    };
+    match &arguments[..] {
+        [input] => run(input, None),
+        [input, output] => run(input, Some(output)),
+        _ => {
+            eprintln!("usage: resolve IN [OUT]");
+            ExitCode::FAILURE
+        }
+    }
+}
+
+fn run(input: &str, output: Option<&str>) -> ExitCode {
     match fs::read(input) {
         Ok(form) => resolve(&form, output),
         Err(problem) => fail(input, "read", problem),
     }
 }
 
-/// Resolves a form, writes it to a file and says what became of it.
-fn resolve(form: &[u8], output: &str) -> ExitCode {
+/// Resolves a form, writes it to the file if there is one, and says what became of it.
+fn resolve(form: &[u8], output: Option<&str>) -> ExitCode {
     let resolved = match wnt::resolve(form) {
         Ok(resolved) => resolved,
         Err(refusal) => {
@@ -27,8 +34,10 @@ fn resolve(form: &[u8], output: &str) -> ExitCode {
             return ExitCode::FAILURE;
         }
     };
-    if let Err(problem) = fs::write(output, &resolved) {
-        return fail(output, "written", problem);
+    if let Some(file) = output {
+        if let Err(problem) = fs::write(file, &resolved) {
+            return fail(file, "written", problem);
+        }
     }
     print_rows(&resolved[wnt::HEADER_SIZE..]);
     ExitCode::SUCCESS
