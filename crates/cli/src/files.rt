@@ -154,10 +154,19 @@ fn save_in(buffer: &mut [u8], path: &[u8], bytes: &[u8], talk: i32) -> bool {
     save_beside(&mut buffer[0..length], path, bytes, talk)
 }
 
+// Writes to standard output.
+fn write_out(bytes: &[u8], talk: i32) -> bool {
+    let is_written = io::write_all(STDOUT_FILENO, bytes);
+    if !is_written {
+        say_failure(talk, b"standard output", b" cannot be written: ");
+    }
+    is_written
+}
+
 // Writes the file of a path, whole or not at all, and answers whether it is written.
 pub fn save(path: &[u8], bytes: &[u8], talk: i32) -> bool {
     if is_dash(path) {
-        return io::write_all(STDOUT_FILENO, bytes);
+        return write_out(bytes, talk);
     }
     let mut buffer = io::buffer();
     save_in(&mut buffer, path, bytes, talk)

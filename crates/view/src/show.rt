@@ -1,11 +1,19 @@
 // A whole form in words: one row a line, indented by scope.
+use crate::parts::CASE;
 use crate::parts::CLOSE;
+use crate::parts::DECL;
+use crate::parts::EXPORT;
 use crate::parts::FIELD;
+use crate::parts::OPEN;
+use crate::parts::OUTER;
+use crate::parts::PATH;
+use crate::parts::REF;
 use crate::parts::b_at;
 use crate::parts::code_at;
 use crate::parts::e_at;
 use crate::parts::has_header;
 use crate::parts::is_inserted;
+use crate::parts::is_reference;
 use crate::parts::next;
 use crate::parts::rows_in;
 use crate::parts::rows_said;
@@ -87,41 +95,32 @@ fn say_reference_row(fd: i32, form: &[u8], row: u16) {
 
 fn say_content(fd: i32, form: &[u8], row: u16) {
     match code_at(form, row) {
-        1 => say_field_row(fd, form, row),
-        2 => {
+        FIELD => say_field_row(fd, form, row),
+        DECL => {
             say(fd, b"declares ");
             say_declaration(fd, form, row, number_of(form, row));
         }
-        3 => say_reference_row(fd, form, row),
-        4 => {
+        REF => say_reference_row(fd, form, row),
+        PATH => {
             say(fd, b"path ");
             say_export(fd, x_at(form, row));
         }
-        5 => say_reference_row(fd, form, row),
-        6 => {
+        OUTER => say_reference_row(fd, form, row),
+        CASE => {
             say(fd, b"case");
             say_name_if_any(fd, x_at(form, row));
         }
-        7 => {
+        OPEN => {
             say(fd, b"open ");
             say_scope(fd, b_at(form, row));
             say_name_if_any(fd, x_at(form, row));
         }
-        8 => say(fd, b"close"),
-        9 => {
+        CLOSE => say(fd, b"close"),
+        EXPORT => {
             say(fd, b"export ");
             say_export(fd, x_at(form, row));
         }
         _ => say(fd, b"no row of a form"),
-    }
-}
-
-// The meaning of a row that refers to something.
-fn say_meaning_if_any(fd: i32, form: &[u8], row: u16) {
-    match code_at(form, row) {
-        3 => say_reading(fd, form, row, b"; "),
-        5 => say_reading(fd, form, row, b"; "),
-        _ => {}
     }
 }
 
@@ -130,7 +129,9 @@ fn say_row(fd: i32, form: &[u8], row: u16, level: u32) {
     say_indent(fd, indent_of(code_at(form, row), level));
     say_content(fd, form, row);
     say_place(fd, z_at(form, row));
-    say_meaning_if_any(fd, form, row);
+    if is_reference(form, row) {
+        say_reading(fd, form, row, b"; ");
+    }
     say(fd, b"\n");
 }
 
