@@ -4,6 +4,7 @@ use names::Found;
 use names::Slot;
 use names::find;
 use names::push;
+use rows::row::FIELD;
 use rows::row::Row;
 use rows::row::code_at;
 use rows::row::row_at;
@@ -13,8 +14,6 @@ ghost use lib.ListN.{length};
 ghost use Rattle.kit.specs.Out.{_&_};
 ghost use Rattle.names.specs.Table.{between, findIn};
 ghost use Rattle.plan.specs.Enter.{rowNumber, isFound, twiceT, enterFieldT, enterFieldsT};
-
-const FIELD: u8 = 1;
 
 pub enum Entered {
     // How many declarations the scope has.

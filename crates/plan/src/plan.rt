@@ -7,6 +7,7 @@ use names::Scope;
 use names::Slot;
 use names::outward;
 use names::push;
+use rows::row::FIELD;
 use rows::row::Index;
 use rows::row::Row;
 use rows::row::code_at;
@@ -22,8 +23,6 @@ ghost use Rattle.kit.specs.Out.{_&_};
 ghost use Rattle.names.specs.declared.Met.the-variants.{At as MetAt};
 ghost use Rattle.plan.specs.Enter.{rowNumber};
 ghost use Rattle.plan.specs.Plan.{bumpT, declareT, insertT, pathsT, metT, nameT, refT, operandsT, declsT, fieldCodeT, insertionsT, fieldT, movedT, fieldsT, scopeT};
-
-const FIELD: u8 = 1;
 
 // The refusals of step B.
 const NOT_EXPORTED: u32 = 7;

@@ -1,5 +1,6 @@
 // The whole run on a form: refusals 1 to 5, then the walk, and what the output holds then.
 use form::ends::mark_ends;
+use form::header::HEADER;
 use form::header::Header;
 use form::header::header_of;
 use form::read::Reading;
@@ -20,9 +21,6 @@ ghost use Rattle.resolver.specs.Run.{zeroFrom, headed, refusedT, walkT, 
 
 // The first name that no input has: that of the first insertion.
 const FRESH: u32 = 2147483648;
-
-// The bytes of a header.
-const HEADER: usize = 8;
 
 pub enum Answer {
     // So many rows were written.

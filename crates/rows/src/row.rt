@@ -64,6 +64,13 @@ pub struct Parts {
     pub z: u32,
 }
 
+// The codes of the rows that bound a field or a scope.
+pub const FIELD: u8 = 1;
+
+pub const OPEN: u8 = 7;
+
+pub const CLOSE: u8 = 8;
+
 // The highest name of an input.
 const TOP: u32 = 2147483647;
 

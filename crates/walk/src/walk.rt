@@ -1,4 +1,5 @@
 // A scope goes through its fields, and a field may open a scope.
+use form::header::SCOPES;
 use form::part::field_rows;
 use names::Scope;
 use names::Slot;
@@ -9,6 +10,8 @@ use plan::plan::Plan;
 use plan::plan::Planned;
 use plan::plan::field_code;
 use plan::plan::plan_scope;
+use rows::row::FIELD;
+use rows::row::OPEN;
 use rows::row::Row;
 use rows::row::code_at;
 use rows::row::copy_row;
@@ -27,13 +30,7 @@ ghost use Rattle.rows.specs.Taken.{rowAt};
 ghost use Rattle.write.specs.State.{begunT, atDepthT, afterScopeT};
 ghost use Rattle.walk.specs.Walk.{insertedT, headT, beginT, openName, fieldT, closeT, fieldsT, scopeT};
 
-const FIELD: u8 = 1;
-
-const OPEN: u8 = 7;
-
-// The most scopes that are open at once.
-const SCOPES: usize = 32;
-
+// Refusal 6.
 const DUPLICATE_NAME: u32 = 6;
 
 // A field's aliases, unless its operands are here-only, and then its own rows.

@@ -18,7 +18,7 @@ ghost use Rattle.write.specs.State.{followingT, passedT};
 ghost use Rattle.write.specs.Alias.{numberInT, isInsertedT, exportCode, leadT, outerAliasT, exportAliasT, chainOn, chainT, instancesOf, aliasT, aliasesT};
 
 // Refusal 9.
-const UNKNOWN_NAME: u32 = 9;
+pub const UNKNOWN_NAME: u32 = 9;
 
 // What is carried along: the next input row; the next output row; how many slots are used; the next fresh name; how many
 // scopes are open; the next slot of the scope at hand; the next inserted slot of the field at hand; how many of the

@@ -1,5 +1,6 @@
 // Step C, the field's own rows up to the scope that it may open: names become numbers.
 use crate::alias::State;
+use crate::alias::UNKNOWN_NAME;
 use crate::alias::Walked;
 use crate::alias::following;
 use crate::alias::is_inserted;
@@ -18,6 +19,7 @@ use plan::enter::is_twice;
 use plan::enter::row_number;
 use plan::plan::Reference;
 use rows::row::Index;
+use rows::row::OPEN;
 use rows::row::Row;
 use rows::row::code_at;
 use rows::row::copy_row;
@@ -32,15 +34,12 @@ ghost use Rattle.names.specs.Table.{namedFrom};
 ghost use Rattle.write.specs.State.{writtenT, aliasedT, seenT, arrivedT};
 ghost use Rattle.write.specs.Own.{aheadT, nameNumberT, refNumberT, refT, indexOutT, scopeOutT, outerNumbersT, outerT, caseT, declT, copyT, innermostT, placeOf, outerRow, rowT, ownT};
 
-const UNKNOWN_NAME: u32 = 9;
-
+// The other refusals of step C.
 const UNKNOWN_SCOPE: u32 = 10;
 
 const COUNT_TOO_LARGE: u32 = 11;
 
 const DUPLICATE_CASE: u32 = 12;
-
-const OPEN: u8 = 7;
 
 // The space under which the cases of a field are entered: none of a declaration.
 const CASES: u32 = 13;
