@@ -2,11 +2,13 @@
 use mathlib.Core.Path.{_≡_, refl, sym, _∙_}
 use mathlib.Core.Bool.{Bool, true, false, _&&_, _||_, not, or-false}
 use mathlib.Core.Option.{Option}
-use mathlib.Core.List.{List}
+use mathlib.Core.List.{List, [], _∷_}
 use native.Mathlib.Omega.{arith}
 use Prim.Native.Nat.{ℕ, _+_, _-_, _/_, _≤_, _<_}
 use lib.Dec.{eqb, leb, ltb}
 use lib.ListN.{length, getD, set, replicate}
+use types.Run.{OneOf, miss}
+use denote.Enum.Declared.{tagOf}
 use borrow.Author.Needs.{needs}
 use borrow.Author.Tests.{not-true, not-false}
 use Rattle.kit.specs.Pick.{pick}
@@ -15,6 +17,7 @@ use Rattle.kit.proofs.Laws.{yes!, no!, tests, left-suc}
 use Rattle.rules.specs.Tools.{only, _then_}
 use Rattle.rules.specs.Shapes.{Want, Part, declares, opens, allowed, builtinOk, exports, fitsRef, fitsOuter, isCase, next, complete, mayDeclare, enough}
 use Rattle.rules.specs.Reader.{isComplete, isNone, sameKind}
+use Rattle.rows.proofs.row.Row as rowType
 use Rattle.rows.specs.Taken.{rowAt}
 use Rattle.shapes.specs.Shape.{partsOf, leftOf, partsBy, asOption, asDeclares}
 use Rattle.shapes.specs.declared.Shape.{Shape}
@@ -432,14 +435,40 @@ pub root-placed : (f : Field) (n : ℕ) (shape : Shape) → placeOf (record { de
 unfolding placeOf currentIn currentOf
 root-placed f n shape = refl
 
-module _ (rows : List ℕ) (this : Row) (g : this ≡ rowAt rows 0) (m : Bool) (p : m ≡ isRoot this) where
-  pub read-not : not m ≡ true → Broken 0 ≡ readOf rows
-  unfolding readT pick
-  read-not h = sym (sym (read-right rows) ∙ rw (← g, ← p, not-true m h))
+-- the tags of the rows that are no OPEN
+abbrev pub notOpen : List ℕ
+notOpen = 0 ∷ 1 ∷ 2 ∷ 3 ∷ 4 ∷ 5 ∷ 7 ∷ 8 ∷ 9 ∷ []
 
-  pub read-root : not m ≡ false → (r : Reading) → r ≡ rowsT rows 1 (length rows / 16 - 1) inRoot (replicate 32 0) → r ≡ readOf rows
+other-root : (r : Row) → OneOf notOpen (tagOf rowType.the-type r) → isRoot r ≡ false
+unfolding isRoot
+other-root (row.Field c b z) k = refl
+other-root (row.Decl s n z) k = refl
+other-root (row.Ref s i p z) k = refl
+other-root (row.Path n) k = refl
+other-root (row.Outer s u i z) k = refl
+other-root (row.Case n z) k = refl
+other-root (row.Open d n) k = absurd (miss notOpen 6 tt k)
+other-root row.Close k = refl
+other-root (row.Export n) k = refl
+other-root row.Broken k = refl
+
+module _ (rows : List ℕ) (this : Row) (g : this ≡ rowAt rows 0) where
+  not-a-root : isRoot this ≡ false → Broken 0 ≡ readOf rows
   unfolding readT pick
-  read-root h r e = e ∙ sym (sym (read-right rows) ∙ rw (← g, ← p, not-false m h))
+  not-a-root h = sym (sym (read-right rows) ∙ rw (← g, h))
+
+  pub read-other : OneOf notOpen (tagOf rowType.the-type this) → Broken 0 ≡ readOf rows
+  read-other k = not-a-root (other-root this k)
+
+  module _ (kind name : ℕ) (o : this ≡ row.Open kind name) where
+    pub read-kind : (kind ≡ 0 → ⊥) → Broken 0 ≡ readOf rows
+    read-kind h = not-a-root (rw o (unfold isRoot in omega tests))
+
+    pub read-root : kind ≡ 0 → (r : Reading) → r ≡ rowsT rows 1 (length rows / 16 - 1) inRoot (replicate 32 0) → r ≡ readOf rows
+    unfolding readT pick isRoot
+    read-root h r e =
+        let t : isRoot this ≡ true = rw o (omega tests) in
+        e ∙ sym (sym (read-right rows) ∙ rw (← g, t))
 
 -- the ways that a function with many arms has
 pub ruleset wanted-ways = (wanted-first, wanted-left, wanted-between, wanted-path, wanted-none, needs)

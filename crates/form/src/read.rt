@@ -24,7 +24,7 @@ ghost use Rattle.kit.specs.Out.{_&_};
 ghost use Rattle.rules.specs.Shapes as rules;
 ghost use Rattle.rules.specs.Reader.{isComplete, isNone, sameKind};
 ghost use Rattle.shapes.specs.Shape.{partsOf, leftOf};
-ghost use Rattle.form.specs.Machine.{currentIn, placeOf, nextOf, moreT, declaredT, firstWantedT, wantedT, isBetweenAt, isExportedAt, settledT, mayEndT, fieldT, declaringT, declT, betweenT, nextPathT, pathedT, wantingT, refT, outerT, caseT, pathT, mayExportT, exportT, mayOpenT, openT, closeT, stepT, rowsT, isRoot, inRoot};
+ghost use Rattle.form.specs.Machine.{currentIn, placeOf, nextOf, moreT, declaredT, firstWantedT, wantedT, isBetweenAt, isExportedAt, settledT, mayEndT, fieldT, declaringT, declT, betweenT, nextPathT, pathedT, wantingT, refT, outerT, caseT, pathT, mayExportT, exportT, mayOpenT, openT, closeT, stepT, rowsT, inRoot};
 ghost use Rattle.form.specs.Readings.{readOf};
 
 // Where the reading is in a field: not in one; among its DECLs; past them, with what it still wants; at a REF of which PATHs are
@@ -539,47 +539,14 @@ fn read_rows(rows: &[u8], kinds: &mut [u8]) -> Reading
     Reading::Broken(i)
 }
 
-// Whether the row opens a component scope.
-fn is_root(row: Row) -> bool
-    ensures { λ r. ⌜ r ≡ isRoot row ⌝ }
-{
-    match row {
-        Row::Field {
-            code: _,
-            builtin: _,
-            z: _,
-        } => false,
-        Row::Decl {
-            space: _,
-            name: _,
-            z: _,
-        } => false,
-        Row::Ref {
-            space: _,
-            at: _,
-            paths: _,
-            z: _,
-        } => false,
-        Row::Path(_) => false,
-        Row::Outer {
-            space: _,
-            up: _,
-            at: _,
-            z: _,
-        } => false,
-        Row::Case { name: _, z: _ } => false,
-        Row::Open { kind, name: _ } => kind == 0,
-        Row::Close => false,
-        Row::Export(_) => false,
-        Row::Broken => false,
-    }
-}
-
 // Whether the rows are a form: one component scope and nothing more.
 pub fn read(rows: &[u8]) -> Reading
     ensures { λ r. ⌜ r ≡ readOf (now (rows .entry)) ⌝ }
 {
-    if !is_root(row_at(rows, 0)) {
+    let Row::Open { kind, name: _ } = row_at(rows, 0) else {
+        return Reading::Broken(0);
+    };
+    if kind != 0 {
         return Reading::Broken(0);
     }
     let mut kinds = [0u8; 32];

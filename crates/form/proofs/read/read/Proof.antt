@@ -1,5 +1,5 @@
 -- `form::read::read` meets its contract: its twin, and `read-right` of `Storey`.
-use Rattle.form.proofs.Steps.{read-not, read-root}
+use Rattle.form.proofs.Steps.{read-other, read-kind, read-root}
 use borrow.Author.Needs.{needs}
 use Rattle.form.proofs.read.read.Statement.{statement}
 use Rattle.form.proofs.read.read.Tie as tie
@@ -9,8 +9,9 @@ read-spec =
     tie.close
     (tie.spec
     (λ c κs. search needs)  -- row-at-requires
-    (λ c κs. search needs)  -- is-root-requires
-    (λ c. search (read-not, read-root, needs))  -- returns
+    (λ c. search needs)  -- enum-known-kind
+    (λ c. search (read-other, read-kind, read-root, needs))  -- returns
+    (λ c. search (read-other, read-kind, read-root, needs))  -- returns-2
     (λ c. search needs)  -- slice-aggregate-read-rows
     (λ c κs. search needs)  -- read-rows-requires
-    (λ c. search (read-not, read-root, needs)))  -- returns-2
+    (λ c. search (read-other, read-kind, read-root, needs)))  -- returns-3
