@@ -1,5 +1,6 @@
 -- Turns of the searches: each law is one way through the code, with the facts in the form in which the code's branches give them.
 use mathlib.Core.Path.{_≡_, refl, _∙_}
+use mathlib.Core.Bool.{Bool, true, false}
 use mathlib.Core.List.{List, [], _∷_}
 use native.Mathlib.Omega.{arith}
 use Prim.Native.Nat.{ℕ, zero, suc, _+_, _-_, _≤_, _<_}
@@ -8,6 +9,7 @@ use borrow.Author.Needs.{needs}
 use lib.Seq.{take-nil}
 use lib.ListN.{length, getD, set, take, drop, drop-of-length-le}
 use Rattle.kit.proofs.Laws.{yes!, no!, tests, left-suc, down, down-suc, drop-next, past, lt-or-le}
+use Rattle.kit.specs.Pick.{pick}
 use Rattle.kit.specs.Out.{_&_}
 use Rattle.names.specs.Table.{Slot, between, pushed, findIn, scopeAt, slotsIn, metOr, metFrom, namedFrom}
 use Rattle.names.specs.declared.Found.{Found}
@@ -51,6 +53,12 @@ push-full table used slot h = no! _ (omega tests) refl
 
 -- ---- the search in one scope
 
+-- where both cases are the same, the test does not matter
+pick-same : {A : Type 0} (b : Bool) (x : A) {y : A} → x ≡ y → x ≡ pick b y x
+unfolding pick
+pick-same true x e = e
+pick-same false x e = refl
+
 module _ (table : List Slot) (i to end space name : ℕ) (T : Found) (least : end ≡ to - (to - length table)) (inv : findIn (between i to table) space name ≡ T) where
   pub find-end : end ≤ i → Nothing ≡ T
   unfolding findIn
@@ -60,17 +68,17 @@ module _ (table : List Slot) (i to end space name : ℕ) (T : Found) (least : en
     turn : findIn (getD table i [] ∷ between (i + 1) to table) space name ≡ T
     turn = rw (between-cons i to table (omega arith) (omega arith)) at inv
 
-    pub find-hit : getD (getD table i []) 0 0 ≡ space → getD (getD table i []) 1 0 ≡ name → At (getD (getD table i []) 2 0) ≡ T
+    pub find-hit : getD (getD table i []) 1 0 ≡ name → getD (getD table i []) 0 0 ≡ space → At (getD (getD table i []) 2 0) ≡ T
     unfolding findIn
-    find-hit e f = yes! _ (omega tests) (yes! _ (omega tests) refl) ∙ turn
+    find-hit f e = yes! _ (omega tests) (yes! _ (omega tests) refl) ∙ turn
 
-    pub find-other-name : getD (getD table i []) 0 0 ≡ space → (getD (getD table i []) 1 0 ≡ name → ⊥) → findIn (between (i + 1) to table) space name ≡ T
+    pub find-other-name : (getD (getD table i []) 1 0 ≡ name → ⊥) → findIn (between (i + 1) to table) space name ≡ T
     unfolding findIn
-    find-other-name e f = yes! _ (omega tests) (no! _ (omega tests) refl) ∙ turn
+    find-other-name f = pick-same _ _ (no! _ (omega tests) refl) ∙ turn
 
-    pub find-other-space : (getD (getD table i []) 0 0 ≡ space → ⊥) → findIn (between (i + 1) to table) space name ≡ T
+    pub find-other-space : getD (getD table i []) 1 0 ≡ name → (getD (getD table i []) 0 0 ≡ space → ⊥) → findIn (between (i + 1) to table) space name ≡ T
     unfolding findIn
-    find-other-space e = no! _ (omega tests) refl ∙ turn
+    find-other-space f e = no! _ (omega tests) refl ∙ turn
 
 -- ---- the walk outward
 

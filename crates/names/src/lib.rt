@@ -62,7 +62,8 @@ fn least(a: usize, b: usize) -> usize
     if a < b { a } else { b }
 }
 
-// The number of a name among the slots from `from` to `to`: the search within one scope.
+// The number of a name among the slots from `from` to `to`: the search within one scope. Names differ more often than spaces,
+// so the name is looked at first.
 pub fn find(table: &[Slot], from: usize, to: usize, space: u32, name: u32) -> Found
     ensures { λ r. ⌜ r ≡ findIn (between from to (now (table .entry))) space name ⌝ }
 {
@@ -71,8 +72,8 @@ pub fn find(table: &[Slot], from: usize, to: usize, space: u32, name: u32) -> Fo
     while i < end {
         let s = table[i];
         i += 1;
-        if s[0] == space {
-            if s[1] == name {
+        if s[1] == name {
+            if s[0] == space {
                 return Found::At(s[2]);
             }
         }
@@ -96,8 +97,8 @@ pub fn outward(table: &[Slot], scopes: &[Scope], depth: usize, space: u32, name:
         while i < end {
             let s = table[i];
             i += 1;
-            if s[0] == space {
-                if s[1] == name {
+            if s[1] == name {
+                if s[0] == space {
                     break 'scopes Met::At {
                         out: depth - left,
                         number: s[2],
