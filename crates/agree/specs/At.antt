@@ -6,7 +6,8 @@ use Prim.Native.Nat.{ℕ, _+_, _*_, _/_, _<_}
 use lib.ListN.{length, take, drop}
 use Rattle.kit.specs.Out.{Out, _&_}
 use Rattle.rules.specs.Rows.{Row, encodeRow}
-use Rattle.rows.specs.Taken.{taken, rowAt, codeAt, putRow}
+use Rattle.rows.specs.Taken.{taken, rowAt, codeAt}
+use Rattle.put.specs.Put.{putRow}
 use Rattle.write.specs.State.{putThen}
 
 -- one row: it is there, it is read as that row, and its bytes are the row's

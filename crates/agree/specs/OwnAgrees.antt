@@ -14,7 +14,8 @@ use Rattle.rules.specs.Tools.{if_then_else_, isIn}
 use Rattle.rules.specs.Rows.{Index, Num, Row, Field, Decl, Ref, Path, Outer, Case, Export}
 use Rattle.rules.specs.Tree.{Declaration, Operand, ref, outer, case, Head, withOperands, declRows, pathRows, operandRow, operandRows, exportRows, headRows}
 use Rattle.rules.specs.Rules.{Result, refused, ok, _>>=_, Env, orRefused, numberIn, resolveOuter, resolveOperands, resolveHead}
-use Rattle.rows.specs.Taken.{taken, asIndex, rowAt, putRow}
+use Rattle.rows.specs.Taken.{taken, asIndex, rowAt}
+use Rattle.put.specs.Put.{putRow}
 use Rattle.names.specs.Table.{Slot}
 use Rattle.names.specs.Stands.{Envs}
 use Rattle.plan.specs.Enter.{rowNumber, enteredSlot}

@@ -22,7 +22,8 @@ use Rattle.rules.specs.Laws.Reading.ReadRight.{reads-form}
 use Rattle.rules.specs.Laws.Meaning.Names.{LowScope}
 use Rattle.rules.specs.Laws.Meaning.ReadNames.{read-low}
 use Rattle.rules.specs.Laws.Output.FourTimes.{four-times}
-use Rattle.rows.specs.Taken.{taken, rowBytes, bytesOf, putRow}
+use Rattle.rows.specs.Taken.{taken}
+use Rattle.put.specs.Put.{rowBytes, bytesOf, putRow}
 use Rattle.names.specs.Table.{Slot, emptySlot, noScope}
 use Rattle.names.specs.Stands.{Envs, Below}
 use Rattle.write.specs.declared.alias.State.{State}

@@ -11,7 +11,7 @@ use Rattle.kit.proofs.Laws.{yes!, no!, tests, left-suc, down}
 use Rattle.kit.specs.Out.{Out, _&_}
 use Rattle.rules.specs.Tools.{isIn}
 use Rattle.rules.specs.Shapes.{FOUR, hereOnly}
-use Rattle.rows.specs.Taken.{rowAt, codeAt}
+use Rattle.rows.specs.Taken.{rowAt, codeAt, alone}
 use Rattle.rows.specs.declared.row.Index.{Index}
 use Rattle.rows.specs.declared.row.Index.the-variants.{Number, Name}
 use Rattle.rows.specs.declared.row.Row.{Row}
@@ -27,7 +27,7 @@ use Rattle.plan.specs.declared.plan.Plan.{Plan}
 use Rattle.plan.specs.declared.plan.Reference.{Reference}
 use Rattle.plan.specs.declared.plan.Planned.{Planned}
 use Rattle.plan.specs.declared.plan.Planned.the-variants.{Done, Refused}
-use Rattle.plan.proofs.Rows.{Tagged, notField, notDecl, notOperand, other-field, other-decl, other-operand}
+use Rattle.plan.proofs.Rows.{Tagged, notField, notDecl, notOperand, other-field, other-decl, other-operand, field-alone, decl-alone, ref-alone}
 
 -- ---- bump, declare, insert
 
@@ -130,10 +130,10 @@ module _ (field : List ℕ) (entered names : List Slot) (scopes : List (List ℕ
   unfolding operandsT
   operands-end h = let e : n - i ≡ 0 = omega arith in rw e at inv
 
-  module _ (h : i < n) (r : Row) (got : r ≡ rowAt field i) where
+  module _ (h : i < n) (r : Row) (got : r ≡ alone (3 ∷ 7 ∷ []) (rowAt field i)) where
     turn : ifRef r (λ space at paths z. stepThen (refT entered names scopes counts p (record { space = space; at = at; paths = paths; z = z; row = rowNumber row i })) (λ ns cs q. operandsT field entered ns scopes cs q row (i + 1) (n - (i + 1))) stops) (Done p & names & counts) (operandsT field entered names scopes counts p row (i + 1) (n - (i + 1))) ≡ T
     unfolding operandsT
-    turn = rw got (rw (left-suc i n h) at inv)
+    turn = rw got (ref-alone _ _ _ _ ∙ (rw (left-suc i n h) at inv))
 
     pub operands-other : Tagged notOperand r → operandsT field entered names scopes counts p row (i + 1) (n - (i + 1)) ≡ T
     operands-other k = other-operand r _ _ _ k ∙ turn
@@ -158,10 +158,10 @@ module _ (field : List ℕ) (names : List Slot) (counts : List ℕ) (row used i 
   unfolding declsT
   decls-end h = let e : n - i ≡ 0 = omega arith in rw e at inv
 
-  module _ (h : i < n) (r : Row) (got : r ≡ rowAt field i) where
+  module _ (h : i < n) (r : Row) (got : r ≡ alone (2 ∷ []) (rowAt field i)) where
     decl-turn : ifDecl r (λ space name z. declareThen (declareT names counts used (space ∷ name ∷ 0 ∷ rowNumber row i ∷ 0 ∷ 0 ∷ [])) λ ns cs u. declsT field ns cs row u (i + 1) (n - (i + 1))) (used & names & counts) ≡ T
     unfolding declsT
-    decl-turn = rw got (rw (left-suc i n h) at inv)
+    decl-turn = rw got (decl-alone _ _ _ ∙ (rw (left-suc i n h) at inv))
 
     pub decls-other : Tagged notDecl r → (used & names & counts) ≡ T
     decls-other k = other-decl r _ _ k ∙ decl-turn
@@ -172,14 +172,17 @@ module _ (field : List ℕ) (names : List Slot) (counts : List ℕ) (row used i 
 
 -- ---- field_code, plan_insertions, plan_field
 
-module _ (field : List ℕ) (r : Row) (got : r ≡ rowAt field 0) where
-  pub code-none : Tagged notField r → 0 ≡ fieldCodeT field
+module _ (field : List ℕ) (r : Row) (got : r ≡ alone (1 ∷ []) (rowAt field 0)) where
+  by-alone : fieldCode r ≡ fieldCodeT field
   unfolding fieldCodeT
-  code-none k = rw (← got) (other-field r k)
+  by-alone = rw got (field-alone _)
+
+  pub code-none : Tagged notField r → 0 ≡ fieldCodeT field
+  code-none k = other-field r k ∙ by-alone
 
   pub code-some : (code b z : ℕ) → r ≡ Field code b z → code ≡ fieldCodeT field
-  unfolding fieldCodeT fieldCode
-  code-some code b z e = rw (← got, e)
+  unfolding fieldCode
+  code-some code b z e = rw e at by-alone
 
 module _ (field : List ℕ) (entered names : List Slot) (scopes : List (List ℕ)) (counts : List ℕ) (p : Plan) where
   module _ (code : ℕ) (got : code ≡ fieldCodeT field) (b : Bool) (t : b ≡ hereOnly code) where

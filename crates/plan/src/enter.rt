@@ -7,7 +7,7 @@ use names::push;
 use rows::row::FIELD;
 use rows::row::Row;
 use rows::row::code_at;
-use rows::row::row_at;
+use rows::row::decl_at;
 ghost use mathlib.Core.Path.{_≡_};
 ghost use Prim.Native.Nat.{_-_, _/_};
 ghost use lib.ListN.{length};
@@ -57,7 +57,7 @@ fn enter_field(field: &[u8], entered: &mut [Slot], used: usize) -> Entered
     let mut count = used;
     let mut i = 1;
     while i < n {
-        let Row::Decl { space, name, z } = row_at(field, i) else {
+        let Row::Decl { space, name, z } = decl_at(field, i) else {
             return Entered::Upto(count);
         };
         if is_twice(entered, count, space as u32, name) {

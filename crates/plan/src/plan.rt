@@ -11,7 +11,9 @@ use rows::row::FIELD;
 use rows::row::Index;
 use rows::row::Row;
 use rows::row::code_at;
-use rows::row::row_at;
+use rows::row::decl_at;
+use rows::row::field_at;
+use rows::row::ref_or_open_at;
 use shapes::here_only;
 use shapes::in_four;
 use std::num::wrapping_add_u32;
@@ -227,7 +229,7 @@ fn plan_operands(
     while i < n {
         let k = i;
         i += 1;
-        match row_at(field, k) {
+        match ref_or_open_at(field, k) {
             Row::Ref {
                 space,
                 at,
@@ -257,7 +259,7 @@ fn plan_decls(field: &[u8], names: &mut [Slot], counts: &mut [u32], at: usize, u
     let mut count = used;
     let mut i = 1;
     while i < n {
-        let Row::Decl { space, name, z: _ } = row_at(field, i) else {
+        let Row::Decl { space, name, z: _ } = decl_at(field, i) else {
             return count;
         };
         count = declare(
@@ -279,7 +281,7 @@ pub fn field_code(field: &[u8]) -> u8
         code,
         builtin: _,
         z: _,
-    } = row_at(field, 0)
+    } = field_at(field, 0)
     else {
         return 0;
     };

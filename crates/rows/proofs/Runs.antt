@@ -16,17 +16,13 @@ use Rattle.rules.specs.Laws.ToolLaws.{ok-at, _&_}
 use Rattle.rules.specs.Laws.RowLaws.{Bytes, bytes-drop, decode-parts}
 use Rattle.rows.specs.Taken.{taken, rowAt}
 use Rattle.rows.specs.declared.row.Row.the-variants.{Broken}
-use Rattle.rows.proofs.Laws.{row-from}
+use Rattle.rows.proofs.Laws.{row-from, row-past}
 
 -- ---- the row at a place
 
 pub row-in : (bytes : List ℕ) (i : ℕ) → i < length bytes / 16 → rowAt bytes i ≡ taken (decodeRow topName (drop (16 * i) bytes))
 unfolding rowAt
 row-in bytes i h = sym (yes! _ (lt-ltb _ _ h) refl)
-
-pub row-past : (bytes : List ℕ) (i : ℕ) → length bytes / 16 ≤ i → rowAt bytes i ≡ Broken
-unfolding rowAt
-row-past bytes i h = sym (no! _ (le-ltb _ _ h) refl)
 
 rows-in : (names count i : ℕ) (bs : List ℕ) → i < count → getD (rowsOf names count bs) i none ≡ decodeRow names (drop (16 * i) bs)
 unfolding rowsOf

@@ -12,7 +12,8 @@ use Rattle.kit.specs.Out.{Out, _&_}
 use Rattle.kit.proofs.Laws.{yes!, no!, tests, down}
 use Rattle.rules.specs.Shapes.{hereOnly}
 use Rattle.rows.proofs.row.Row as row
-use Rattle.rows.specs.Taken.{rowAt, codeAt, copyRow}
+use Rattle.rows.specs.Taken.{rowAt, codeAt}
+use Rattle.put.specs.Put.{copyRow}
 use Rattle.rows.specs.declared.row.Row.{Row}
 use Rattle.rows.specs.declared.row.Row.the-variants.{Open}
 use Rattle.form.specs.Part.{fieldRows}

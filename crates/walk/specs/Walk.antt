@@ -6,7 +6,8 @@ use lib.ListN.{length, set}
 use Rattle.kit.specs.Pick.{pick}
 use Rattle.kit.specs.Out.{Out, _&_}
 use Rattle.rules.specs.Shapes.{hereOnly}
-use Rattle.rows.specs.Taken.{rowAt, codeAt, copyRow}
+use Rattle.rows.specs.Taken.{rowAt, codeAt}
+use Rattle.put.specs.Put.{copyRow}
 use Rattle.rows.specs.declared.row.Row.{Row}
 use Rattle.rows.specs.declared.row.Row.the-variants.{Field, Decl, Ref, Path, Outer, Case, Open, Close, Export, Broken}
 use Rattle.form.specs.Part.{fieldRows}

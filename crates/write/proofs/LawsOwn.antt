@@ -12,7 +12,9 @@ use borrow.Author.Needs.{needs}
 use Rattle.kit.specs.Out.{Out, _&_}
 use Rattle.kit.proofs.Laws.{yes!, no!, tests, left-suc}
 use Rattle.rows.proofs.row.Row as row
-use Rattle.rows.specs.Taken.{rowAt, codeAt, putRow, copyRow}
+use Rattle.rows.specs.Taken.{rowAt, codeAt, codeOf}
+use Rattle.rows.proofs.Laws.{Coded, coded, broken, row-kind}
+use Rattle.put.specs.Put.{putRow, copyRow}
 use Rattle.rows.specs.declared.row.Index.{Index}
 use Rattle.rows.specs.declared.row.Index.the-variants.{Number, Name}
 use Rattle.rows.specs.declared.row.Row.{Row}
@@ -247,6 +249,23 @@ module _ (field : List ℕ) (i : ℕ) (entered names : List Slot) (scopes : List
   unfolding rowT
   row-path n m = rw (← got, m)
 
+-- a FIELD is copied by its code alone: the row is one, or Broken
+field-copied : (r : Row) (field : List ℕ) (i : ℕ) (entered names : List Slot) (scopes : List (List ℕ)) (out : List ℕ) (s : State) → Coded 1 r → withT entered (copyT field i out s) ≡ rowT r field i entered names scopes out s
+unfolding rowT codeOf
+field-copied (Field c b z) field i entered names scopes out s k = refl
+field-copied (Decl sp n z) field i entered names scopes out s (coded e) = absurd (omega arith)
+field-copied (Ref sp at p z) field i entered names scopes out s (coded e) = absurd (omega arith)
+field-copied (Path n) field i entered names scopes out s (coded e) = absurd (omega arith)
+field-copied (Outer sp u at z) field i entered names scopes out s (coded e) = absurd (omega arith)
+field-copied (Case n z) field i entered names scopes out s (coded e) = absurd (omega arith)
+field-copied (Open g n) field i entered names scopes out s (coded e) = refl
+field-copied Close field i entered names scopes out s (coded e) = refl
+field-copied (Export n) field i entered names scopes out s (coded e) = refl
+field-copied Broken field i entered names scopes out s k = refl
+
+pub row-field : (field : List ℕ) (i : ℕ) (entered names : List Slot) (scopes : List (List ℕ)) (out : List ℕ) (s : State) (a : Walked) (o : List ℕ) (c : ℕ) → c ≡ codeAt field i → c ≡ 1 → a & o ≡ copyT field i out s → a & entered & o ≡ rowT (rowAt field i) field i entered names scopes out s
+row-field field i entered names scopes out s a o c g e w = with-entered entered w ∙ field-copied (rowAt field i) field i entered names scopes out s (row-kind field i 1 (sym e ∙ g))
+
 -- ---- a field's own rows
 
 module _ (field : List ℕ) (entered names : List Slot) (scopes : List (List ℕ)) (out : List ℕ) (s : State) (row₀ i n : ℕ) (T : Wrote₂) (inv : ownT field entered names scopes out s row₀ i (n - i) ≡ T) where
@@ -309,6 +328,7 @@ pub ruleset ways = (
   row-case,
   row-decl,
   row-path,
+  row-field,
   own-start,
   own-end,
   own-open,

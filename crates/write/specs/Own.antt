@@ -5,7 +5,8 @@ use lib.Dec.{eqb, leb, ltb}
 use lib.ListN.{length, getD}
 use Rattle.kit.specs.Pick.{pick}
 use Rattle.kit.specs.Out.{Out, _&_}
-use Rattle.rows.specs.Taken.{rowAt, codeAt, putRow, copyRow}
+use Rattle.rows.specs.Taken.{rowAt, codeAt}
+use Rattle.put.specs.Put.{putRow, copyRow}
 use Rattle.rows.specs.declared.row.Index.{Index}
 use Rattle.rows.specs.declared.row.Index.the-variants.{Number, Name}
 use Rattle.rows.specs.declared.row.Row.{Row}

@@ -6,9 +6,10 @@ use names::find;
 use names::slot_at;
 use plan::enter::row_number;
 use plan::plan::Reference;
+use put::put_row;
 use rows::row::Index;
 use rows::row::Row;
-use rows::row::put_row;
+use rows::row::ref_or_open_at;
 use rows::row::row_at;
 ghost use mathlib.Core.Path.{_≡_};
 ghost use Prim.Native.Nat.{_-_, _/_, _%_, _<_};
@@ -265,7 +266,7 @@ pub fn write_aliases(field: &[u8], names: &[Slot], here: Scope, out: &mut [u8], 
     while i < n {
         let k = i;
         i += 1;
-        match row_at(field, k) {
+        match ref_or_open_at(field, k) {
             Row::Ref {
                 space,
                 at,

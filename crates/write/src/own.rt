@@ -18,12 +18,13 @@ use names::slot_at;
 use plan::enter::is_twice;
 use plan::enter::row_number;
 use plan::plan::Reference;
+use put::copy_row;
+use put::put_row;
+use rows::row::FIELD;
 use rows::row::Index;
 use rows::row::OPEN;
 use rows::row::Row;
 use rows::row::code_at;
-use rows::row::copy_row;
-use rows::row::put_row;
 use rows::row::row_at;
 ghost use mathlib.Core.Path.{_≡_};
 ghost use Prim.Native.Nat.{_/_};
@@ -335,6 +336,9 @@ fn write_row(
 ) -> Walked
     ensures { λ r. ⌜ (r & now (entered .exit) & now (out .exit)) ≡ rowT (rowAt (now (field .entry)) i) (now (field .entry)) i (now (entered .entry)) (now (names .entry)) (now (scopes .entry)) (now (out .entry)) s ⌝ }
 {
+    if code_at(field, i) == FIELD {
+        return write_copy(field, i, out, s);
+    }
     match row_at(field, i) {
         Row::Ref {
             space,

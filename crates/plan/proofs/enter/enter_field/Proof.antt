@@ -20,7 +20,7 @@ enter-field-spec =
     Inv-loop
     μ-loop
     (λ c. search ways)  -- loop-holds
-    (λ c κs. search ways)  -- row-at-requires
+    (λ c κs. search ways)  -- decl-at-requires
     (λ c. search ways)  -- enum-known-space
     (λ c. search ways)  -- same-length
     (λ c. search ways)  -- returns

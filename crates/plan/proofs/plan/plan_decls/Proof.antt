@@ -21,7 +21,7 @@ plan-decls-spec =
     Inv-loop
     μ-loop
     (λ c. search needs)  -- loop-holds
-    (λ c κs. search needs)  -- row-at-requires
+    (λ c κs. search needs)  -- decl-at-requires
     (λ c. search needs)  -- enum-known-space
     (λ c. search needs)  -- same-length
     (λ c. search needs)  -- same-length-2

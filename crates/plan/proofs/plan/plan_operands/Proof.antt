@@ -23,7 +23,7 @@ plan-operands-spec =
     μ-loop
     (λ c. search needs)  -- loop-holds
     (λ c. search needs)  -- add-i
-    (λ c κs. search needs)  -- row-at-requires
+    (λ c κs. search needs)  -- ref-or-open-at-requires
     (λ c. search needs)  -- enum-known-space
     (λ c κs. search needs)  -- referring-requires
     (λ c κs. search needs)  -- plan-ref-requires

@@ -20,7 +20,7 @@ use Rattle.walk.proofs.walk.+field_walk+fields_walk+scope_walk.Lts-scop
 use Rattle.form.proofs.part.field_rows.Reads as field-rows-reads
 use Rattle.plan.proofs.enter.row_number.Reads as row-number-reads
 use Rattle.rows.proofs.row.code_at.Reads as code-at-reads
-use Rattle.rows.proofs.row.copy_row.Reads as copy-row-reads
+use Rattle.put.proofs.copy_row.Reads as copy-row-reads
 use Rattle.walk.proofs.walk.after_scope.Reads as after-scope-reads
 use Rattle.walk.proofs.walk.at_depth.Reads as at-depth-reads
 use Rattle.walk.proofs.walk.begin.Reads as begin-reads

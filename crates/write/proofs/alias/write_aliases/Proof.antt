@@ -22,7 +22,7 @@ write-aliases-spec =
     μ-loop
     (λ c. search ways)  -- loop-holds
     (λ c. search ways)  -- add-i
-    (λ c κs. search ways)  -- row-at-requires
+    (λ c κs. search ways)  -- ref-or-open-at-requires
     (λ c. search ways)  -- enum-known-space
     (λ c. search ways)  -- cast-t21
     (λ c κs. search ways)  -- row-number-requires

@@ -8,6 +8,10 @@ pub write-row-spec : {M : Type 1} → statement M
 write-row-spec =
     tie.close
     (tie.spec
+    (λ c κs. search needs)  -- code-at-requires
+    (λ c κs. search needs)  -- write-copy-requires
+    (λ c. search needs)  -- same-length
+    (λ c. search ways)  -- returns
     (λ c κs. search needs)  -- row-at-requires
     (λ c. search needs)  -- enum-known-space
     (λ c. search needs)  -- cast-t22
