@@ -102,7 +102,7 @@ pub fn scope_walk(
     ends: &[usize],
     entered: &mut [Slot],
     names: &mut [Slot],
-    scopes: [Scope; 32],
+    mut scopes: [Scope; 32],
     out: &mut [u8],
     s: State,
 ) -> Walked
@@ -115,8 +115,7 @@ pub fn scope_walk(
     match begin(rows, ends, entered, names, &scopes, s) {
         Planned::Refused(number, place) => Walked::Refused(number, place),
         Planned::Done(p) => {
-            let mut stack = scopes;
-            stack[depth] = [scope_name(rows, s.at), s.used, p.used];
+            scopes[depth] = [scope_name(rows, s.at), s.used, p.used];
             let to = copy_row(rows, s.at, out, s.to);
             let inside = State {
                 at: row_number(s.at, 1) as usize,
@@ -128,7 +127,7 @@ pub fn scope_walk(
                 alias: s.used,
                 seen: 0,
             };
-            fields_walk(rows, ends, entered, names, &stack, out, inside)
+            fields_walk(rows, ends, entered, names, &scopes, out, inside)
         }
     }
 }
