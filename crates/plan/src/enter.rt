@@ -30,7 +30,7 @@ pub fn row_number(at: usize, i: usize) -> u32
 }
 
 // Whether the name was entered in that space.
-pub fn is_here(entered: &[Slot], used: usize, space: u32, name: u32) -> bool
+pub(crate) fn is_here(entered: &[Slot], used: usize, space: u32, name: u32) -> bool
     ensures { λ r. ⌜ r ≡ isFound (findIn (between 0 used (now (entered .entry))) space name) ⌝ }
 {
     match find(entered, 0, used, space, name) {

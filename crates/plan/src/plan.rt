@@ -31,6 +31,9 @@ const NOT_EXPORTED: u32 = 7;
 
 const NOT_OUTER: u32 = 8;
 
+// The code that no field has.
+const NO_FIELD: u8 = 0;
+
 // The space of instances, which every PATH but the last leads to.
 const INSTANCE: u32 = 10;
 
@@ -273,7 +276,7 @@ fn plan_decls(field: &[u8], names: &mut [Slot], counts: &mut [u32], at: usize, u
     count
 }
 
-// The code of a field, 0 where no FIELD row leads it.
+// The code of a field; where no FIELD row leads it, that of no field.
 pub fn field_code(field: &[u8]) -> u8
     ensures { λ r. ⌜ r ≡ fieldCodeT (now (field .entry)) ⌝ }
 {
@@ -283,7 +286,7 @@ pub fn field_code(field: &[u8]) -> u8
         z: _,
     } = field_at(field, 0)
     else {
-        return 0;
+        return NO_FIELD;
     };
     code
 }

@@ -42,14 +42,14 @@ pub enum Walked {
 }
 
 // The slot after this one; the table's end stays.
-pub fn following(names: &[Slot], k: usize) -> usize
+pub(crate) fn following(names: &[Slot], k: usize) -> usize
     ensures { λ r. ⌜ r ≡ followingT (now (names .entry)) k ⌝ }
 {
     if k < names.len() { k + 1 } else { k }
 }
 
 // The number of an operand in a scope.
-pub fn number_in(names: &[Slot], here: Scope, space: u32, at: Index) -> Found
+pub(crate) fn number_in(names: &[Slot], here: Scope, space: u32, at: Index) -> Found
     ensures { λ r. ⌜ r ≡ numberInT (now (names .entry)) here space at ⌝ }
 {
     match at {
@@ -59,7 +59,7 @@ pub fn number_in(names: &[Slot], here: Scope, space: u32, at: Index) -> Found
 }
 
 // Whether slot k of the scope at hand was inserted for the reference at that row.
-pub fn is_inserted(names: &[Slot], here: Scope, k: usize, row: u32) -> bool
+pub(crate) fn is_inserted(names: &[Slot], here: Scope, k: usize, row: u32) -> bool
     ensures { λ r. ⌜ r ≡ isInsertedT (now (names .entry)) here k row ⌝ }
 {
     if here[2] <= k {
@@ -194,7 +194,7 @@ fn write_chain(
 }
 
 // One slot passed, `to` rows written.
-pub fn passed(names: &[Slot], s: State, to: usize) -> State
+pub(crate) fn passed(names: &[Slot], s: State, to: usize) -> State
     ensures { λ r. ⌜ r ≡ passedT (now (names .entry)) s to ⌝ }
 {
     State {
