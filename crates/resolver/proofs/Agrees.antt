@@ -32,7 +32,7 @@ use Rattle.rules.specs.Laws.Refusals.{OfSteps, steps-refuse}
 use Rattle.rules.specs.Laws.Output.FourTimes.{four-times}
 use Rattle.rules.specs.Laws.Reading.ReadRight.{read-right}
 use Rattle.form.specs.Header.{headerIn, headerFor, headerOf}
-use Rattle.form.specs.Readings.{answerOf, readOf}
+use Rattle.reader.specs.Readings.{answerOf, readOf}
 use Rattle.form.specs.declared.header.Header.{Header as Heading}
 use Rattle.form.specs.declared.header.Header.the-variants.{Rows, Wrong, Count}
 use Rattle.write.specs.State.{wroteThen}

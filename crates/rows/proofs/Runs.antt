@@ -24,6 +24,11 @@ pub row-in : (bytes : List ℕ) (i : ℕ) → i < length bytes / 16 → rowAt by
 unfolding rowAt
 row-in bytes i h = sym (yes! _ (lt-ltb _ _ h) refl)
 
+pub rows-count : (names count : ℕ) (bs : List ℕ) → length (rowsOf names count bs) ≡ count
+unfolding rowsOf
+rows-count names zero bs = refl
+rows-count names (suc count) bs = ap suc (rows-count names count (drop 16 bs))
+
 rows-in : (names count i : ℕ) (bs : List ℕ) → i < count → getD (rowsOf names count bs) i none ≡ decodeRow names (drop (16 * i) bs)
 unfolding rowsOf
 rows-in names zero i bs h = absurd (omega arith)
