@@ -1,6 +1,9 @@
 // Step B: each field's references in order; what is inserted before the field, and then its own DECLs, take their slots.
 use crate::enter::is_here;
 use crate::enter::row_number;
+use codes::Spaces;
+use codes::has;
+use codes::here_only;
 use form::part::field_rows;
 use names::Met;
 use names::Scope;
@@ -14,8 +17,6 @@ use rows::row::code_at;
 use rows::row::decl_at;
 use rows::row::field_at;
 use rows::row::ref_or_open_at;
-use shapes::here_only;
-use shapes::in_four;
 use std::num::wrapping_add_u32;
 ghost use mathlib.Core.Path.{_≡_};
 ghost use mathlib.Core.List.{[], _∷_};
@@ -141,7 +142,7 @@ fn plan_outer(
 ) -> Planned
     ensures { λ a. ⌜ (a & now (names .exit) & now (counts .exit)) ≡ metT (MetAt out number) (now (names .entry)) (now (counts .entry)) plan r ⌝ }
 {
-    if !in_four((r.space % 256) as u8) {
+    if !has(Spaces::Four, (r.space % 256) as u8) {
         return Planned::Refused(NOT_OUTER, r.z);
     }
     Planned::Done(insert(

@@ -1,21 +1,19 @@
 // Whether rows make a form, a row at a time: refusals 4 and 5.
+use codes::Inner;
+use codes::allows;
+use codes::builtin_ok;
+use codes::enough;
+use codes::exports;
+use codes::may_declare;
+use codes::opens;
 use rows::row::Row;
 use rows::row::row_at;
-use shapes::Inner;
 use shapes::Left;
+use shapes::Operand;
 use shapes::Part;
 use shapes::Shape;
-use shapes::allows;
-use shapes::builtin_ok;
-use shapes::declares;
-use shapes::enough;
-use shapes::exports;
+use shapes::after_operand;
 use shapes::is_complete;
-use shapes::may_declare;
-use shapes::next_case;
-use shapes::next_outer;
-use shapes::next_ref;
-use shapes::opens;
 use shapes::shape_of;
 ghost use mathlib.Core.Path.{_≡_};
 ghost use Prim.Native.Nat.{_-_, _/_};
@@ -37,7 +35,8 @@ pub enum Stage {
     Exported,
 }
 
-// The field at hand: how many DECLs it has (2 stands for more), and the space and name of the first.
+// The field at hand: how many DECLs it has (2 stands for more), and the space and name of the first. The order, here and in
+// `State`, leaves little padding to copy.
 pub struct Field {
     pub decls: usize,
     pub builtin: u32,
@@ -91,19 +90,19 @@ fn with_decl(f: Field, space: u8, name: u32) -> Field
 {
     if f.decls == 0 {
         return Field {
-            code: f.code,
-            builtin: f.builtin,
             decls: 1,
-            space,
+            builtin: f.builtin,
             name,
+            code: f.code,
+            space,
         };
     }
     Field {
-        code: f.code,
-        builtin: f.builtin,
         decls: more(f.decls),
-        space: f.space,
+        builtin: f.builtin,
         name: f.name,
+        code: f.code,
+        space: f.space,
     }
 }
 
@@ -111,7 +110,7 @@ fn with_decl(f: Field, space: u8, name: u32) -> Field
 fn first_wanted(f: Field) -> Left
     ensures { λ r. ⌜ leftOf r ≡ firstWantedT f ⌝ }
 {
-    if enough(declares(f.code), f.decls) {
+    if enough(f.code, f.decls) {
         return Left::Fits(shape_of(f.code, f.builtin, f.space, 0 < f.decls));
     }
     Left::Not
@@ -237,16 +236,16 @@ fn on_field(s: State, code: u8, builtin: u32) -> Next
         let shape = s.shape;
         return Next::On(State {
             depth: s.depth,
-            kind: s.kind,
             field: Field {
-                code,
-                builtin,
                 decls: 0,
-                space: 0,
+                builtin,
                 name: 0,
+                code,
+                space: 0,
             },
-            stage: Stage::Declaring,
             paths: 0,
+            kind: s.kind,
+            stage: Stage::Declaring,
             shape,
         });
     }
@@ -258,14 +257,14 @@ fn declaring(s: State, space: u8, name: u32) -> Next
     ensures { λ r. ⌜ nextOf r ≡ declaringT (s .depth) (s .kind) (s .field) space name ⌝ }
 {
     let f = s.field;
-    if may_declare(declares(f.code), f.decls, space) {
+    if may_declare(f.code, f.decls, space) {
         let shape = s.shape;
         return Next::On(State {
             depth: s.depth,
-            kind: s.kind,
             field: with_decl(f, space, name),
-            stage: Stage::Declaring,
             paths: 0,
+            kind: s.kind,
+            stage: Stage::Declaring,
             shape,
         });
     }
@@ -293,10 +292,10 @@ fn wanting(s: State, left: Shape) -> Next
     let field = s.field;
     Next::On(State {
         depth: s.depth,
-        kind: s.kind,
         field,
-        stage: Stage::Wanting,
         paths: 0,
+        kind: s.kind,
+        stage: Stage::Wanting,
         shape: left,
     })
 }
@@ -311,10 +310,10 @@ fn pathing(s: State, paths: u32, left: Shape) -> Next
     let field = s.field;
     Next::On(State {
         depth: s.depth,
-        kind: s.kind,
         field,
-        stage: Stage::Pathing,
         paths,
+        kind: s.kind,
+        stage: Stage::Pathing,
         shape: left,
     })
 }
@@ -324,7 +323,7 @@ fn on_ref(s: State, space: u8, paths: u32) -> Next
     ensures { λ r. ⌜ nextOf r ≡ refT (placeOf s) space paths ⌝ }
 {
     match wanted(s) {
-        Left::Fits(shape) => match next_ref(shape, space, paths) {
+        Left::Fits(shape) => match after_operand(shape, Operand::Ref(space, paths)) {
             Left::Fits(left) => pathing(s, paths, left),
             Left::Not => Next::Wrong,
         },
@@ -337,7 +336,7 @@ fn on_outer(s: State, space: u8) -> Next
     ensures { λ r. ⌜ nextOf r ≡ outerT (placeOf s) space ⌝ }
 {
     match wanted(s) {
-        Left::Fits(shape) => match next_outer(shape, space) {
+        Left::Fits(shape) => match after_operand(shape, Operand::Outer(space)) {
             Left::Fits(left) => wanting(s, left),
             Left::Not => Next::Wrong,
         },
@@ -350,7 +349,7 @@ fn on_case(s: State) -> Next
     ensures { λ r. ⌜ nextOf r ≡ caseT (placeOf s) ⌝ }
 {
     match wanted(s) {
-        Left::Fits(shape) => match next_case(shape) {
+        Left::Fits(shape) => match after_operand(shape, Operand::Case) {
             Left::Fits(left) => wanting(s, left),
             Left::Not => Next::Wrong,
         },
@@ -393,10 +392,10 @@ fn on_export(s: State) -> Next
         let shape = s.shape;
         return Next::On(State {
             depth: s.depth,
-            kind: s.kind,
             field,
-            stage: Stage::Exported,
             paths: 0,
+            kind: s.kind,
+            stage: Stage::Exported,
             shape,
         });
     }
@@ -411,10 +410,10 @@ fn between(s: State, depth: usize, kind: u8) -> Next
     let shape = s.shape;
     Next::On(State {
         depth,
-        kind,
         field,
-        stage: Stage::Between,
         paths: 0,
+        kind,
+        stage: Stage::Between,
         shape,
     })
 }
@@ -495,16 +494,16 @@ fn root() -> State
 {
     State {
         depth: 1,
-        kind: 0,
         field: Field {
-            code: 0,
-            builtin: 0,
             decls: 0,
-            space: 0,
+            builtin: 0,
             name: 0,
+            code: 0,
+            space: 0,
         },
-        stage: Stage::Between,
         paths: 0,
+        kind: 0,
+        stage: Stage::Between,
         shape: Shape {
             first: Part::Nothing,
             second: Part::Nothing,

@@ -1,14 +1,13 @@
 -- The code's shapes are the rules' tables, and a row against a shape is the rules' `next`.
-use mathlib.Core.Path.{_≡_, refl, sym, _∙_}
-use mathlib.Core.Bool.{Bool, true, false, _&&_, _||_, not, or-false, and-true, and-false}
+use mathlib.Core.Path.{_≡_, refl, sym, ap, _∙_}
+use mathlib.Core.Bool.{Bool, true, false, _&&_, _||_, not, and-true, and-false}
 use mathlib.Core.Option.{none, some}
 use mathlib.Core.Logic.{⊎-elim}
 use mathlib.Core.List.{List, [], _∷_, _++_}
 use native.Mathlib.Omega.{arith}
-use native.Mathlib.Nat.{add-zero}
-use Prim.Native.Nat.{ℕ, zero, suc, _+_, _-_, _<_, _≤_, zero-le}
+use Prim.Native.Nat.{ℕ, _+_, _<_, _≤_, zero-le}
 use lib.Dec.{eqb, leb}
-use lib.ListN.{getD, List·getD-eq-default}
+use lib.ListN.{List·getD-eq-default}
 use borrow.Author.Tests.{ne-eqb, lt-leb}
 use Rattle.kit.specs.Pick.{pick}
 use Rattle.kit.proofs.Laws.{lt-or-le, yes!, no! }
@@ -16,11 +15,12 @@ use Rattle.rules.specs.Tools.{if_then_else_, only, isIn}
 use Rattle.rules.specs.Versions.{today}
 use Rattle.rules.specs.Tree.{Declaration}
 use Rattle.rules.specs.Shapes as rules
-use Rattle.rules.specs.Shapes.{Want, cas, builtinParts, declared, isEmpty, parts, allowed, fitsRef, fitsOuter, isCase, pathsOk, next, complete}
-use Rattle.shapes.specs.Shape.{spacesOf, wantOf, partOf, partsOf, leftOf, fitsOf, partsBy}
+use Rattle.rules.specs.Shapes.{Want, cas, builtinParts, declared, isEmpty, parts, fitsRef, fitsOuter, isCase, pathsOk, next, complete}
+use Rattle.codes.specs.Values.{spacesOf}
+use Rattle.codes.specs.declared.Spaces.{Spaces}
+use Rattle.codes.proofs.Laws.{values, at-range, up, if-no}
+use Rattle.shapes.specs.Shape.{wantOf, partOf, partsOf, leftOf, fitting, partsBy}
 use Rattle.shapes.specs.Turns.{shape, takesRef, takesOuter, takes, after, needed, turn, ended}
-use Rattle.shapes.specs.declared.Spaces.{Spaces}
-use Rattle.shapes.specs.declared.Spaces.the-variants.{Just}
 use Rattle.shapes.specs.declared.Part.{Part}
 use Rattle.shapes.specs.declared.Part.the-variants.{Nothing, One, May, Many, Outer, Cases, CaseMay, Variants}
 use Rattle.shapes.specs.declared.Shape.{Shape}
@@ -30,97 +30,6 @@ use Rattle.shapes.specs.declared.Operand.{Operand}
 use Rattle.shapes.specs.declared.Operand.the-variants as row
 
 -- ---- tables
-
--- the values of f at lo and the n - 1 numbers after it
-abbrev pub values : {A : Type 0} → (ℕ → A) → (lo n : ℕ) → List A
-values f lo zero = []
-values f lo (suc n) = f lo ∷ values f (suc lo) n
-
-at-place : {A : Type 0} (f g : ℕ → A) (lo n k : ℕ) → values f lo n ≡ values g lo n → k < n → f (lo + k) ≡ g (lo + k)
-at-place f g lo zero k e h = absurd (omega arith)
-at-place f g lo (suc n) zero e h = let here : f lo ≡ g lo = cc in rw add-zero here
-at-place f g lo (suc n) (suc k) e h =
-    let rest : values f (suc lo) n ≡ values g (suc lo) n = cc in
-    let next-one : lo + suc k ≡ suc lo + k = omega arith in
-    rw next-one (at-place f g (suc lo) n k rest (omega arith))
-
--- two functions that antt computes to the same values on a range are the same there
-pub same-at : {A : Type 0} (f g : ℕ → A) (lo n x : ℕ) → values f lo n ≡ values g lo n → lo ≤ x → x < lo + n → f x ≡ g x
-same-at f g lo n x e h l =
-    let k : lo + (x - lo) ≡ x = omega arith in
-    rw k at (at-place f g lo n (x - lo) e (omega arith))
-
--- a value that antt computes f to have on a range
-pub at-range : {A : Type 0} (f : ℕ → A) (lo n x : ℕ) {u v : A} → u ≡ v → values (λ k. v) lo n ≡ values f lo n → lo ≤ x → x < lo + n → u ≡ f x
-at-range f lo n x {u} {v} q e h l = q ∙ same-at (λ k. v) f lo n x e h l
-
--- a bound that a test against one number moves
-pub up : (k n : ℕ) → k ≤ n → (n ≡ k → ⊥) → suc k ≤ n
-up k n h ne = omega arith
-
--- ---- scopes and fields
-
-module _ {A : Type 0} {x y : A} {b : Bool} where
-  pub if-yes : (z : A) → b ≡ true → x ≡ y → x ≡ (if b then y else z)
-  unfolding if_then_else_
-  if-yes z h e = rw h e
-
-  pub if-no : (z : A) → b ≡ false → x ≡ y → x ≡ (if b then z else y)
-  unfolding if_then_else_
-  if-no z h e = rw h e
-
--- the code's rows of allowed fields, as bytes
-abbrev rows : List (List ℕ)
-rows =
-    (46 ∷ 49 ∷ 49 ∷ 49 ∷ 49 ∷ 49 ∷ 49 ∷ 49 ∷ 49 ∷ 49 ∷ 49 ∷ 49 ∷ 49 ∷ 49 ∷ 49 ∷ 49 ∷ 49 ∷ 49 ∷ 49 ∷ 49 ∷ 49 ∷ 49 ∷ 49 ∷ 46 ∷ 46 ∷ 49 ∷ [])
-    ∷ (46 ∷ 46 ∷ 46 ∷ 46 ∷ 49 ∷ 46 ∷ 46 ∷ 46 ∷ 46 ∷ 49 ∷ 49 ∷ 49 ∷ 49 ∷ 49 ∷ 49 ∷ 49 ∷ 49 ∷ 49 ∷ 46 ∷ 46 ∷ 46 ∷ 49 ∷ 46 ∷ 49 ∷ 46 ∷ 46 ∷ [])
-    ∷ (46 ∷ 46 ∷ 46 ∷ 46 ∷ 49 ∷ 46 ∷ 46 ∷ 46 ∷ 46 ∷ 49 ∷ 49 ∷ 49 ∷ 49 ∷ 49 ∷ 49 ∷ 49 ∷ 49 ∷ 49 ∷ 46 ∷ 46 ∷ 46 ∷ 46 ∷ 46 ∷ 49 ∷ 46 ∷ 46 ∷ [])
-    ∷ (46 ∷ 46 ∷ 46 ∷ 46 ∷ 49 ∷ 49 ∷ 46 ∷ 46 ∷ 46 ∷ 49 ∷ 49 ∷ 49 ∷ 46 ∷ 46 ∷ 46 ∷ 46 ∷ 46 ∷ 46 ∷ 46 ∷ 46 ∷ 46 ∷ 46 ∷ 46 ∷ 46 ∷ 49 ∷ 46 ∷ [])
-    ∷ []
-
-abbrev atRow : (kind code : ℕ) → Bool
-atRow kind code = eqb (getD (getD rows kind []) code 0) 49
-
--- one computed test over each row
-pub allowed-in : (kind code : ℕ) → kind < 4 → code < 26 → atRow kind code ≡ allowed kind code
-unfolding allowed
-allowed-in zero code h g = same-at (atRow 0) (allowed 0) 0 26 code refl (omega arith) (omega arith)
-allowed-in (suc zero) code h g = same-at (atRow 1) (allowed 1) 0 26 code refl (omega arith) (omega arith)
-allowed-in (suc (suc zero)) code h g = same-at (atRow 2) (allowed 2) 0 26 code refl (omega arith) (omega arith)
-allowed-in (suc (suc (suc zero))) code h g = same-at (atRow 3) (allowed 3) 0 26 code refl (omega arith) (omega arith)
-allowed-in (suc (suc (suc (suc kind)))) code h g = absurd (omega arith)
-
-pub no-such-kind : (kind code : ℕ) → 4 ≤ kind → false ≡ allowed kind code
-unfolding allowed
-no-such-kind kind code h = rw List·getD-eq-default
-
-pub no-such-field : (kind code : ℕ) → 26 ≤ code → false ≡ allowed kind code
-unfolding allowed
-no-such-field kind code h =
-    rw (lt-leb code 22 (omega arith), lt-leb code 17 (omega arith), lt-leb code 11 (omega arith), ne-eqb code 25 (omega arith), ne-eqb code 4 (omega arith), ne-eqb code 5 (omega arith), ne-eqb code 21 (omega arith), ne-eqb code 23 (omega arith), ne-eqb code 24 (omega arith))
-    (simp and-false (each kind))
-  where
-    each : (kind : ℕ) → false ≡ getD (false ∷ false ∷ false ∷ false ∷ []) kind false
-    each zero = refl
-    each (suc zero) = refl
-    each (suc (suc zero)) = refl
-    each (suc (suc (suc zero))) = refl
-    each (suc (suc (suc (suc kind)))) = refl
-
-pub has-just : {spaces : Spaces} (space : ℕ) {s : ℕ} → spaces ≡ Just s → eqb space s ≡ isIn space (spacesOf spaces)
-has-just space {s} h = rw (h, or-false)
-
-pub opens-nothing : (code : ℕ) → (code ≡ 6 → ⊥) → (code ≡ 14 → ⊥) → (code ≡ 15 → ⊥) → (code ≡ 17 → ⊥) → none ≡ rules.opens code
-unfolding rules.opens
-opens-nothing code a b c d = if-no _ (ne-eqb code 6 a) (if-no _ (ne-eqb code 14 b) (if-no _ (ne-eqb code 15 c) (if-no _ (ne-eqb code 17 d) refl)))
-
-declares-over : (code : ℕ) → 26 ≤ code → rules.nothing ≡ rules.declares code
-unfolding rules.declares
-declares-over code h = rw List·getD-eq-default
-
-pub declares-past : (code : ℕ) → 24 ≤ code → rules.nothing ≡ rules.declares code
-unfolding rules.declares
-declares-past code h = ⊎-elim (λ g. at-range rules.declares 24 2 code refl refl h g) (λ g. declares-over code g) (lt-or-le code 26)
 
 -- the operands of a field by its first DECL are those by its DECLs
 pub parts-by : (code builtin : ℕ) (ds : List Declaration) → partsBy code builtin (declared ds) (not (isEmpty ds)) ≡ parts today code builtin ds
@@ -204,7 +113,7 @@ module _ (spaces : Spaces) {paths h : Bool} (space count : ℕ) where
 
 -- a row against one part
 module _ (ps : List rules.Part) where
-  step : (o : Operand) (part : Part) → next (fitsOf o) (partOf part ++ ps) ≡ pick (takes part o) (some (partOf (after part o) ++ ps)) (pick (needed part) none (next (fitsOf o) ps))
+  step : (o : Operand) (part : Part) → next (fitting o) (partOf part ++ ps) ≡ pick (takes part o) (some (partOf (after part o) ++ ps)) (pick (needed part) none (next (fitting o) ps))
   unfolding next pick fitsOuter isCase if_then_else_ only
   step (row.Ref s n) Nothing = refl
   step (row.Ref s n) (One w b) = simp (only-pick)
@@ -237,36 +146,6 @@ module _ (ps : List rules.Part) where
   step row.Case CaseMay = refl
   step row.Case Variants = refl
 
--- the ways through the three parts of a shape
-module _ (s : Shape) (o : Operand) {t₁ : Bool} (h₁ : t₁ ≡ takes (s .first) o) where
-  pub turn-first : {a : Part} → t₁ ≡ true → a ≡ after (s .first) o → Fits (shape a (s .second) (s .third)) ≡ turn s o
-  unfolding turn
-  turn-first e q = yes! _ (sym h₁ ∙ e) (rw q)
-
-  module _ {n₁ : Bool} (e₁ : t₁ ≡ false) (g₁ : n₁ ≡ needed (s .first)) where
-    pub turn-stop : n₁ ≡ true → Not ≡ turn s o
-    unfolding turn
-    turn-stop e = no! _ (sym h₁ ∙ e₁) (yes! _ (sym g₁ ∙ e) refl)
-
-    module _ {t₂ : Bool} (f₁ : n₁ ≡ false) (h₂ : t₂ ≡ takes (s .second) o) where
-      pub turn-second : {a : Part} → t₂ ≡ true → a ≡ after (s .second) o → Fits (shape Nothing a (s .third)) ≡ turn s o
-      unfolding turn
-      turn-second e q = no! _ (sym h₁ ∙ e₁) (no! _ (sym g₁ ∙ f₁) (yes! _ (sym h₂ ∙ e) (rw q)))
-
-      module _ {n₂ : Bool} (e₂ : t₂ ≡ false) (g₂ : n₂ ≡ needed (s .second)) where
-        pub turn-stop-2 : n₂ ≡ true → Not ≡ turn s o
-        unfolding turn
-        turn-stop-2 e = no! _ (sym h₁ ∙ e₁) (no! _ (sym g₁ ∙ f₁) (no! _ (sym h₂ ∙ e₂) (yes! _ (sym g₂ ∙ e) refl)))
-
-        module _ {t₃ : Bool} (f₂ : n₂ ≡ false) (h₃ : t₃ ≡ takes (s .third) o) where
-          pub turn-third : {a : Part} → t₃ ≡ true → a ≡ after (s .third) o → Fits (shape Nothing Nothing a) ≡ turn s o
-          unfolding turn
-          turn-third e q = no! _ (sym h₁ ∙ e₁) (no! _ (sym g₁ ∙ f₁) (no! _ (sym h₂ ∙ e₂) (no! _ (sym g₂ ∙ f₂) (yes! _ (sym h₃ ∙ e) (rw q)))))
-
-          pub turn-none : t₃ ≡ false → Not ≡ turn s o
-          unfolding turn
-          turn-none e = no! _ (sym h₁ ∙ e₁) (no! _ (sym g₁ ∙ f₁) (no! _ (sym h₂ ∙ e₂) (no! _ (sym g₂ ∙ f₂) (no! _ (sym h₃ ∙ e) refl))))
-
 left-pick : (t : Bool) (a b : Left) → leftOf (pick t a b) ≡ pick t (leftOf a) (leftOf b)
 unfolding pick
 left-pick true a b = refl
@@ -282,9 +161,42 @@ unfolding next
 next-none fits = refl
 
 -- a row against a shape
-pub turn-right : (s : Shape) (o : Operand) → leftOf (turn s o) ≡ next (fitsOf o) (partsOf s)
+turn-right : (s : Shape) (o : Operand) → leftOf (turn s o) ≡ next (fitting o) (partsOf s)
 unfolding turn partsOf leftOf
 turn-right s o = simp (left-pick, step, next-none, pick-same)
+
+turned : (s : Shape) (o : Operand) {l : Left} → l ≡ turn s o → leftOf l ≡ next (fitting o) (partsOf s)
+turned s o e = ap leftOf e ∙ turn-right s o
+
+-- the ways through the three parts of a shape
+module _ (s : Shape) (o : Operand) {t₁ : Bool} (h₁ : t₁ ≡ takes (s .first) o) where
+  pub turn-first : {a : Part} → t₁ ≡ true → a ≡ after (s .first) o → leftOf (Fits (shape a (s .second) (s .third))) ≡ next (fitting o) (partsOf s)
+  unfolding turn
+  turn-first e q = turned s o (yes! _ (sym h₁ ∙ e) (rw q))
+
+  module _ {n₁ : Bool} (e₁ : t₁ ≡ false) (g₁ : n₁ ≡ needed (s .first)) where
+    pub turn-stop : n₁ ≡ true → leftOf Not ≡ next (fitting o) (partsOf s)
+    unfolding turn
+    turn-stop e = turned s o (no! _ (sym h₁ ∙ e₁) (yes! _ (sym g₁ ∙ e) refl))
+
+    module _ {t₂ : Bool} (f₁ : n₁ ≡ false) (h₂ : t₂ ≡ takes (s .second) o) where
+      pub turn-second : {a : Part} → t₂ ≡ true → a ≡ after (s .second) o → leftOf (Fits (shape Nothing a (s .third))) ≡ next (fitting o) (partsOf s)
+      unfolding turn
+      turn-second e q = turned s o (no! _ (sym h₁ ∙ e₁) (no! _ (sym g₁ ∙ f₁) (yes! _ (sym h₂ ∙ e) (rw q))))
+
+      module _ {n₂ : Bool} (e₂ : t₂ ≡ false) (g₂ : n₂ ≡ needed (s .second)) where
+        pub turn-stop-2 : n₂ ≡ true → leftOf Not ≡ next (fitting o) (partsOf s)
+        unfolding turn
+        turn-stop-2 e = turned s o (no! _ (sym h₁ ∙ e₁) (no! _ (sym g₁ ∙ f₁) (no! _ (sym h₂ ∙ e₂) (yes! _ (sym g₂ ∙ e) refl))))
+
+        module _ {t₃ : Bool} (f₂ : n₂ ≡ false) (h₃ : t₃ ≡ takes (s .third) o) where
+          pub turn-third : {a : Part} → t₃ ≡ true → a ≡ after (s .third) o → leftOf (Fits (shape Nothing Nothing a)) ≡ next (fitting o) (partsOf s)
+          unfolding turn
+          turn-third e q = turned s o (no! _ (sym h₁ ∙ e₁) (no! _ (sym g₁ ∙ f₁) (no! _ (sym h₂ ∙ e₂) (no! _ (sym g₂ ∙ f₂) (yes! _ (sym h₃ ∙ e) (rw q))))))
+
+          pub turn-none : t₃ ≡ false → leftOf Not ≡ next (fitting o) (partsOf s)
+          unfolding turn
+          turn-none e = turned s o (no! _ (sym h₁ ∙ e₁) (no! _ (sym g₁ ∙ f₁) (no! _ (sym h₂ ∙ e₂) (no! _ (sym g₂ ∙ f₂) (no! _ (sym h₃ ∙ e) refl)))))
 
 complete-step : (part : Part) (ps : List rules.Part) → complete (partOf part ++ ps) ≡ not (needed part) && complete ps
 unfolding complete

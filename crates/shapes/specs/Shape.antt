@@ -8,28 +8,17 @@ use Rattle.rules.specs.Tools.{if_then_else_}
 use Rattle.rules.specs.Versions.{today}
 use Rattle.rules.specs.Shapes as rules
 use Rattle.rules.specs.Shapes.{FIVE, SIX, FOUR, Want, r, p, out, one, opt, any, cases, variants, options, signature, builtinParts, fitsRef, fitsOuter, isCase}
-use Rattle.shapes.specs.declared.Spaces.{Spaces}
-use Rattle.shapes.specs.declared.Spaces.the-variants.{Just, Five, Six, Four, Options}
+use Rattle.codes.specs.Values.{spacesOf}
+use Rattle.codes.specs.declared.Spaces.{Spaces}
 use Rattle.shapes.specs.declared.Part.{Part}
 use Rattle.shapes.specs.declared.Part.the-variants.{Nothing, One, May, Many, Outer, Cases, CaseMay, Variants}
 use Rattle.shapes.specs.declared.Shape.{Shape}
 use Rattle.shapes.specs.declared.Left.{Left}
 use Rattle.shapes.specs.declared.Left.the-variants.{Fits, Not}
-use Rattle.shapes.specs.declared.Inner.{Inner}
-use Rattle.shapes.specs.declared.Inner.the-variants as inner
-use Rattle.shapes.specs.declared.Decls.{Decls}
-use Rattle.shapes.specs.declared.Decls.the-variants as decls
 use Rattle.shapes.specs.declared.Operand.{Operand}
 use Rattle.shapes.specs.declared.Operand.the-variants as row
 
 -- ---- what the code's values stand for
-
-abbrev pub spacesOf : Spaces → List ℕ
-spacesOf (Just s) = s ∷ []
-spacesOf Five = FIVE
-spacesOf Six = SIX
-spacesOf Four = FOUR
-spacesOf Options = 3 ∷ 0 ∷ 4 ∷ []
 
 -- a reference, with PATHs or without
 abbrev pub wantOf : Spaces → (paths : Bool) → Want
@@ -54,20 +43,11 @@ unfoldable pub leftOf : Left → Option (List rules.Part)
 leftOf Not = none
 leftOf (Fits s) = some (partsOf s)
 
-unfoldable pub asOption : Inner → Option ℕ
-asOption inner.Nothing = none
-asOption (inner.Kind k) = some k
-
-unfoldable pub asDeclares : Decls → rules.Declares
-asDeclares decls.Nothing = rules.nothing
-asDeclares (decls.One s) = rules.single (spacesOf s)
-asDeclares (decls.Many s) = rules.several (spacesOf s)
-
 -- the test that an operand's row makes of what is wanted
-abbrev pub fitsOf : Operand → Want → Bool
-fitsOf (row.Ref space paths) w = fitsRef w space paths
-fitsOf (row.Outer space) w = fitsOuter w space
-fitsOf row.Case w = isCase w
+abbrev pub fitting : Operand → Want → Bool
+fitting (row.Ref space paths) = λ w. fitsRef w space paths
+fitting (row.Outer space) = λ w. fitsOuter w space
+fitting row.Case = isCase
 
 -- ---- the operands of a field
 

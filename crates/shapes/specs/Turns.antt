@@ -6,7 +6,7 @@ use lib.Dec.{eqb}
 use Rattle.kit.specs.Pick.{pick}
 use Rattle.rules.specs.Shapes.{p, fitsRef}
 use Rattle.shapes.specs.Shape.{wantOf}
-use Rattle.shapes.specs.declared.Spaces.the-variants.{Just}
+use Rattle.codes.specs.declared.Spaces.the-variants.{Just}
 use Rattle.shapes.specs.declared.Part.{Part}
 use Rattle.shapes.specs.declared.Part.the-variants.{Nothing, One, May, Many, Outer, Cases, CaseMay, Variants}
 use Rattle.shapes.specs.declared.Shape.{Shape}

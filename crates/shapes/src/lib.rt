@@ -1,34 +1,11 @@
-// The shape of each field: what it declares, the operands that it holds, the scope that it opens, and the scopes that may have it.
+// The operands of each field, and a row against what the field still wants.
+use codes::Spaces;
+use codes::has;
 ghost use mathlib.Core.Path.{_≡_};
-ghost use Rattle.rules.specs.Tools.{isIn};
 ghost use Rattle.rules.specs.Versions.{today};
-ghost use Rattle.rules.specs.Shapes as rules;
-ghost use Rattle.rules.specs.Shapes.{FIVE, SIX, FOUR, allowed, builtinOk, hereOnly, signature, builtinParts, fitsRef, fitsOuter, isCase, next, complete, mayDeclare};
-ghost use Rattle.shapes.specs.Shape.{spacesOf, wantOf, partsOf, leftOf, asOption, asDeclares, partsBy};
-ghost use Rattle.shapes.specs.Turns.{shape, takesRef, takesOuter, takesCase, takes, afterRef, after, needed, turn};
-
-// A set of spaces.
-pub enum Spaces {
-    Just(u8),
-    Five,
-    Six,
-    Four,
-    // Of the options: core memory, core func, core type.
-    Options,
-}
-
-// How many DECLs a field has, and of which spaces.
-pub enum Decls {
-    Nothing,
-    One(Spaces),
-    Many(Spaces),
-}
-
-// The kind of scope that a field opens.
-pub enum Inner {
-    Nothing,
-    Kind(u8),
-}
+ghost use Rattle.rules.specs.Shapes.{signature, builtinParts, fitsRef, next, complete};
+ghost use Rattle.shapes.specs.Shape.{wantOf, partsOf, leftOf, fitting, partsBy};
+ghost use Rattle.shapes.specs.Turns.{shape, takesRef, takesOuter, takesCase, takes, afterRef, after, needed};
 
 // A part of what a field holds. The bool says whether PATH rows may follow the reference.
 pub enum Part {
@@ -64,154 +41,6 @@ pub enum Operand {
     Ref(u8, u32),
     Outer(u8),
     Case,
-}
-
-// ---- tables by field code
-
-// The field codes that a scope of each kind may have: component, component type, instance type, module type.
-const ALLOWED: [[u8; 26]; 4] = [
-    *b".1111111111111111111111..1",
-    *b"....1....111111111...1.1..",
-    *b"....1....111111111.....1..",
-    *b"....11...111............1.",
-];
-
-// Whether a scope of this kind may have the field.
-pub fn allows(kind: u8, code: u8) -> bool
-    ensures { λ r. ⌜ r ≡ allowed kind code ⌝ }
-{
-    let k = kind as usize;
-    let f = code as usize;
-    if k < 4 {
-        if f < 26 {
-            return ALLOWED[k][f] == b'1';
-        }
-    }
-    false
-}
-
-// Whether the field may have this builtin code.
-pub fn builtin_ok(code: u8, e: u32) -> bool
-    ensures { λ r. ⌜ r ≡ builtinOk code e ⌝ }
-{
-    if code == 19 { e <= 47 } else { e == 0 }
-}
-
-// Whether the field ends with an EXPORT.
-pub fn exports(code: u8) -> bool
-    ensures { λ r. ⌜ r ≡ rules.exports code ⌝ }
-{
-    (code == 9) | (code == 10)
-}
-
-// Whether the field's operands are looked up in its own scope only.
-pub fn here_only(code: u8) -> bool
-    ensures { λ r. ⌜ r ≡ hereOnly code ⌝ }
-{
-    (code == 4) | ((code == 5) | (code == 24))
-}
-
-// The kind of scope that the field opens.
-pub fn opens(code: u8) -> Inner
-    ensures { λ r. ⌜ asOption r ≡ rules.opens code ⌝ }
-{
-    match code {
-        6 => Inner::Kind(0),
-        14 => Inner::Kind(1),
-        15 => Inner::Kind(2),
-        17 => Inner::Kind(3),
-        _ => Inner::Nothing,
-    }
-}
-
-// What the field declares.
-pub fn declares(code: u8) -> Decls
-    ensures { λ r. ⌜ asDeclares r ≡ rules.declares code ⌝ }
-{
-    match code {
-        1 => Decls::One(Spaces::Just(7)),
-        2..=3 => Decls::One(Spaces::Just(6)),
-        4 => Decls::One(Spaces::Just(4)),
-        5 => Decls::Many(Spaces::Just(4)),
-        6 => Decls::One(Spaces::Just(11)),
-        7..=8 => Decls::One(Spaces::Just(10)),
-        9 => Decls::One(Spaces::Six),
-        10 => Decls::One(Spaces::Five),
-        11 => Decls::One(Spaces::Four),
-        12..=16 => Decls::One(Spaces::Just(9)),
-        17 => Decls::One(Spaces::Just(4)),
-        18 => Decls::One(Spaces::Just(8)),
-        19 => Decls::One(Spaces::Just(0)),
-        20 => Decls::Many(Spaces::Just(12)),
-        21..=23 => Decls::One(Spaces::Six),
-        _ => Decls::Nothing,
-    }
-}
-
-// ---- sets of spaces
-
-// Whether the space is one of FIVE.
-fn in_five(space: u8) -> bool
-    ensures { λ r. ⌜ r ≡ isIn space FIVE ⌝ }
-{
-    (space == 0) | ((space == 1) | ((space == 2) | ((space == 3) | (space == 5))))
-}
-
-// Whether the space is one of SIX.
-fn in_six(space: u8) -> bool
-    ensures { λ r. ⌜ r ≡ isIn space SIX ⌝ }
-{
-    (space == 7)
-        | ((space == 8) | ((space == 9) | ((space == 10) | ((space == 11) | (space == 12)))))
-}
-
-// Whether the space is one of FOUR.
-pub fn in_four(space: u8) -> bool
-    ensures { λ r. ⌜ r ≡ isIn space FOUR ⌝ }
-{
-    (space == 4) | ((space == 7) | ((space == 9) | (space == 11)))
-}
-
-// Whether the space is one of the options'.
-fn in_options(space: u8) -> bool
-    ensures { λ r. ⌜ r ≡ isIn space (spacesOf Spaces.Options) ⌝ }
-{
-    (space == 3) | ((space == 0) | (space == 4))
-}
-
-// Whether the space is one of these.
-fn has(spaces: Spaces, space: u8) -> bool
-    ensures { λ r. ⌜ r ≡ isIn space (spacesOf spaces) ⌝ }
-{
-    match spaces {
-        Spaces::Just(s) => space == s,
-        Spaces::Five => in_five(space),
-        Spaces::Six => in_six(space),
-        Spaces::Four => in_four(space),
-        Spaces::Options => in_options(space),
-    }
-}
-
-// Whether a field that declares these may have a DECL of this space after `count` others.
-pub fn may_declare(decls: Decls, count: usize, space: u8) -> bool
-    ensures { λ r. ⌜ r ≡ mayDeclare (asDeclares decls) count space ⌝ }
-{
-    match decls {
-        Decls::Nothing => false,
-        Decls::One(spaces) => (count == 0) & has(spaces, space),
-        Decls::Many(spaces) => has(spaces, space),
-    }
-}
-
-// Whether a field that declares these may have `count` DECLs in all.
-pub fn enough(decls: Decls, count: usize) -> bool
-    ensures { λ r. ⌜ r ≡ rules.enough (asDeclares decls) count ⌝ }
-{
-    match decls {
-        Decls::Nothing => true,
-        Decls::One(_) => count == 1,
-        Decls::Many(_) => true,
-    }
 }
 
 // ---- operands by field code
@@ -474,8 +303,8 @@ fn is_needed(part: Part) -> bool
 }
 
 // What the shape still wants after the row.
-fn after_operand(shape: Shape, operand: Operand) -> Left
-    ensures { λ r. ⌜ r ≡ turn shape operand ⌝ }
+pub fn after_operand(shape: Shape, operand: Operand) -> Left
+    ensures { λ r. ⌜ leftOf r ≡ next (fitting operand) (partsOf shape) ⌝ }
 {
     let first = shape.first;
     let second = shape.second;
@@ -508,27 +337,6 @@ fn after_operand(shape: Shape, operand: Operand) -> Left
         });
     }
     Left::Not
-}
-
-// What the shape still wants after a REF to the space with this many PATHs.
-pub fn next_ref(shape: Shape, space: u8, paths: u32) -> Left
-    ensures { λ r. ⌜ leftOf r ≡ next (λ w. fitsRef w space paths) (partsOf shape) ⌝ }
-{
-    after_operand(shape, Operand::Ref(space, paths))
-}
-
-// What the shape still wants after an OUTER of the space.
-pub fn next_outer(shape: Shape, space: u8) -> Left
-    ensures { λ r. ⌜ leftOf r ≡ next (λ w. fitsOuter w space) (partsOf shape) ⌝ }
-{
-    after_operand(shape, Operand::Outer(space))
-}
-
-// What the shape still wants after a CASE.
-pub fn next_case(shape: Shape) -> Left
-    ensures { λ r. ⌜ leftOf r ≡ next isCase (partsOf shape) ⌝ }
-{
-    after_operand(shape, Operand::Case)
 }
 
 // Whether a field of this shape may end here.

@@ -1,4 +1,5 @@
 // A scope goes through its fields, and a field may open a scope.
+use codes::here_only;
 use form::header::SCOPES;
 use form::part::field_rows;
 use names::Scope;
@@ -16,7 +17,6 @@ use rows::row::OPEN;
 use rows::row::Row;
 use rows::row::code_at;
 use rows::row::row_at;
-use shapes::here_only;
 use write::alias::State;
 use write::alias::Walked;
 use write::alias::write_aliases;

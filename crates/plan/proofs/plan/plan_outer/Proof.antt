@@ -8,8 +8,8 @@ pub plan-outer-spec : {M : Type 1} → statement M
 plan-outer-spec =
     tie.close
     (tie.spec
-    (λ c. search needs)  -- cast-in-four
-    (λ c κs. search needs)  -- in-four-requires
+    (λ c. search needs)  -- cast-has
+    (λ c κs. search needs)  -- has-requires
     (λ c. search ways)  -- returns
     (λ c. search needs)  -- cast-insert
     (λ c κs. search needs)  -- insert-requires

@@ -1,0 +1,13 @@
+-- `codes::builtin_ok` meets its contract.
+use Rattle.kit.proofs.Laws.{tests}
+use Rattle.rules.specs.Shapes.{builtinOk}
+use Rattle.codes.proofs.Laws.{if-yes, if-no}
+use mathlib.Core.Path.{refl}
+use Rattle.codes.proofs.builtin_ok.Statement.{statement}
+use Rattle.codes.proofs.builtin_ok.Tie as tie
+
+pub builtin-ok-spec : {M : Type 1} → statement M
+unfolding builtinOk
+builtin-ok-spec = tie.close (tie.spec
+    (λ c. if-yes _ (omega tests) refl)
+    (λ c. if-no _ (omega tests) refl))
