@@ -10,6 +10,7 @@ use crate::recognise::recognise;
 use crate::rows::{Row, encode, output_size};
 use crate::shapes::Shapes;
 use crate::tree::{self, Texts};
+use std::path::Path;
 use std::time::{Duration, Instant};
 
 mod forms;
@@ -30,6 +31,15 @@ pub struct Times {
 pub struct Series {
     pub name: &'static str,
     pub times: Vec<Times>,
+}
+
+/// Writes the largest form of every shape into a folder.
+pub fn write_forms(folder: &Path) -> std::io::Result<()> {
+    for (name, make) in FORMS {
+        let file = format!("{}.wnt", name.replace(',', "").replace(' ', "-"));
+        std::fs::write(folder.join(file), encode(&make(SIZES[SIZES.len() - 1])))?;
+    }
+    Ok(())
 }
 
 /// Runs every shape at every size with so many repetitions each, prints the table, answers the picture.

@@ -37,7 +37,8 @@ compare [--seconds N | --forms N] [--seed S]   compare on forms, for a minute if
 compare --sensitivity [--seed S]               plant changes on both sides and show that each is caught
                                                (built with --features planted)
 compare --vectors N [--seed S] > FILE          write fixed vectors, at most N of each refusal
-compare --bench FILE [--repetitions N]         time both sides; the picture goes to FILE as SVG";
+compare --bench FILE [--repetitions N]         time both sides; the picture goes to FILE as SVG
+compare --shapes FOLDER                        write the benchmark's forms of about 1,000 rows, for a profiler";
 
 /// The value after `--name`, read as a number.
 fn number(arguments: &[String], name: &str) -> Option<u64> {
@@ -91,11 +92,21 @@ fn bench(arguments: &[String], file: &str) -> bool {
     written.is_ok()
 }
 
+fn write_shapes(folder: &str) -> bool {
+    let written = bench::write_forms(std::path::Path::new(folder));
+    if let Err(problem) = &written {
+        eprintln!("{folder}: {problem}");
+    }
+    written.is_ok()
+}
+
 fn main() -> ExitCode {
     let arguments: Vec<String> = std::env::args().skip(1).collect();
     let has = |name: &str| arguments.iter().any(|argument| argument == name);
     let done = if let Some(file) = value(&arguments, "--bench") {
         bench(&arguments, file)
+    } else if let Some(folder) = value(&arguments, "--shapes") {
+        write_shapes(folder)
     } else if let Some(count) = number(&arguments, "--vectors") {
         write_vectors(&arguments, count)
     } else if has("--sensitivity") {

@@ -154,16 +154,21 @@ fn outer_types(draft: &mut Draft, rows: usize) -> u32 {
     count
 }
 
-fn outer_one_a_field(rows: usize) -> Vec<Row> {
-    let mut draft = Draft::new();
-    let count = outer_types(&mut draft, rows);
-    draft.open();
+/// Types that each refer to one of the first `count`, to the end of the rows.
+fn referring_types(mut draft: Draft, rows: usize, count: u32) -> Vec<Row> {
     let mut at = 0;
     while draft.has_room(rows, 3) {
         draft.type_on(1 + scattered(at, count));
         at += 1;
     }
     draft.done()
+}
+
+fn outer_one_a_field(rows: usize) -> Vec<Row> {
+    let mut draft = Draft::new();
+    let count = outer_types(&mut draft, rows);
+    draft.open();
+    referring_types(draft, rows, count)
 }
 
 fn outer_in_one_field(rows: usize) -> Vec<Row> {
@@ -186,10 +191,5 @@ fn outer_far(rows: usize) -> Vec<Row> {
     for _ in 0..scopes {
         draft.open();
     }
-    let mut at = 0;
-    while draft.has_room(rows, 3) {
-        draft.type_on(1 + scattered(at, count));
-        at += 1;
-    }
-    draft.done()
+    referring_types(draft, rows, count)
 }
