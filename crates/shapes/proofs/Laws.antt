@@ -20,7 +20,7 @@ use Rattle.codes.specs.Values.{spacesOf}
 use Rattle.codes.specs.declared.Spaces.{Spaces}
 use Rattle.codes.proofs.Laws.{values, at-range, up, if-no}
 use Rattle.shapes.specs.Shape.{wantOf, partOf, partsOf, leftOf, fitting, partsBy}
-use Rattle.shapes.specs.Turns.{shape, takesRef, takesOuter, takes, after, needed, turn, ended}
+use Rattle.shapes.specs.Turns.{shape, takesRef, takesOuter, takes, afterRef, after, needed, turn, ended}
 use Rattle.shapes.specs.declared.Part.{Part}
 use Rattle.shapes.specs.declared.Part.the-variants.{Nothing, One, May, Many, Outer, Cases, CaseMay, Variants}
 use Rattle.shapes.specs.declared.Shape.{Shape}
@@ -94,6 +94,9 @@ if-pick false a b = refl
 no-case : (s n : ℕ) → fitsRef cas s n ≡ false
 unfolding fitsRef
 no-case s n = refl
+
+pub after-many : {part : Part} (s : Spaces) (paths : Bool) → part ≡ Many s paths → Many s paths ≡ afterRef part
+after-many s paths e = rw e
 
 module _ (part : Part) (operand : Operand) {h : Bool} where
   pub takes-a-ref : {space count : ℕ} → operand ≡ row.Ref space count → h ≡ takesRef part space count → h ≡ takes part operand
@@ -214,6 +217,9 @@ unfolding complete
 complete-none = refl
 
 -- a shape that may end
-pub complete-right : (s : Shape) → ended s ≡ complete (partsOf s)
+complete-right : (s : Shape) → ended s ≡ complete (partsOf s)
 unfolding partsOf
 complete-right s = simp (complete-step, complete-none, and-true)
+
+pub complete-as : (s : Shape) {a b c : Bool} → a ≡ needed (s .first) → b ≡ needed (s .second) → c ≡ needed (s .third) → (not a && (not b && not c)) ≡ complete (partsOf s)
+complete-as s p q r = rw (p, q, r) (complete-right s)

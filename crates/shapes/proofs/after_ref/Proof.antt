@@ -1,4 +1,5 @@
 -- `shapes::after_ref` meets its contract.
+use Rattle.shapes.proofs.Laws.{after-many}
 use borrow.Author.Needs.{needs}
 use Rattle.shapes.proofs.after_ref.Statement.{statement}
 use Rattle.shapes.proofs.after_ref.Tie as tie
@@ -18,7 +19,7 @@ after-ref-spec =
     (λ c. search needs)
     (λ c. search needs)
     (λ c. search needs)
-    (λ c. cc)
+    (λ c. search (after-many, needs))
     (λ c. search needs)
     (λ c. search needs)
     (λ c. search needs)
