@@ -9,7 +9,7 @@ use lib.Dec.{eqb}
 use lib.ListN.{length, getD, set, length-append, length-set}
 use Rattle.kit.specs.Pick.{pick}
 use Rattle.kit.specs.Out.{Out, _&_}
-use Rattle.kit.proofs.Laws.{yes!, no!, tests}
+use Rattle.kit.proofs.Laws.{yes!, no! }
 use Rattle.rules.specs.Tools.{if_then_else_, isJust}
 use Rattle.rules.specs.Rows.{Row, Close}
 use Rattle.rules.specs.Tree.{Declaration, Fields, end, _▸_, Item, headOf, declRows, flatten, fieldsRows, itemRows}

@@ -1,12 +1,12 @@
 -- The slots that step B gives a scope, from its tree: those of what is inserted before each field, and of its DECLs.
 use mathlib.Core.List.{List, [], _∷_, _++_}
-use Prim.Native.Nat.{ℕ, suc, _+_}
+use Prim.Native.Nat.{ℕ, _+_}
 use lib.ListN.{length}
 use Rattle.rules.specs.Tools.{if_then_else_}
 use Rattle.rules.specs.Rows.{Num, Id}
-use Rattle.rules.specs.Tree.{Declaration, Operand, ref, outer, case, Head, Fields, end, _▸_, Item, headOf, operandRow, itemRows}
+use Rattle.rules.specs.Tree.{Declaration, Operand, ref, outer, case, Head, Fields, end, _▸_, headOf, operandRow, itemRows}
 use Rattle.rules.specs.Shapes.{declared, firstName, hereOnly}
-use Rattle.rules.specs.Rules.{Env, Result, refused, ok, Expanded, headsDecls, expandOperand, expandHead}
+use Rattle.rules.specs.Rules.{Env, Result, refused, ok, headsDecls, expandOperand, expandHead}
 use Rattle.names.specs.Table.{Slot}
 use Rattle.names.specs.Stands.{count}
 

@@ -3,7 +3,7 @@ use mathlib.Core.Path.{_≡_, refl, sym, ap, _∙_}
 use mathlib.Core.Bool.{Bool, true, false, not}
 use mathlib.Core.List.{List, [], _∷_}
 use native.Mathlib.Omega.{arith}
-use Prim.Native.Nat.{ℕ, zero, suc, _+_, _-_, _/_, _%_, _≤_, _<_}
+use Prim.Native.Nat.{ℕ, suc, _+_, _-_, _/_, _%_, _≤_, _<_}
 use borrow.Author.Needs.{needs}
 use borrow.Author.Tests.{not-true, not-false}
 use lib.ListN.{length, getD, set, replicate}
@@ -22,7 +22,7 @@ use Rattle.names.specs.declared.Met.{Met}
 use Rattle.names.specs.declared.Met.the-variants.{At as MetAt, Nowhere}
 use Rattle.plan.specs.Views.{ifDecl, ifRef, fieldCode}
 use Rattle.plan.specs.Enter.{rowNumber, isFound}
-use Rattle.plan.specs.Plan.{Tables, Step, after32, bumpT, numbered, besideT, declareWith, declareT, freshened, insertWith, insertT, insertThen, pathsT, doneT, metT, nameT, atT, refT, stepThen, stops, operandsT, declareThen, declsT, fieldCodeT, rowsAfter, insertionsT, withUsed, fieldT, movedT, fieldsT, seenT, scopeT}
+use Rattle.plan.specs.Plan.{Tables, Step, after32, bumpT, numbered, besideT, declareWith, declareT, insertWith, insertT, insertThen, pathsT, doneT, metT, nameT, atT, refT, stepThen, stops, operandsT, declareThen, declsT, fieldCodeT, insertionsT, fieldT, movedT, fieldsT, seenT, scopeT}
 use Rattle.plan.specs.declared.plan.Plan.{Plan}
 use Rattle.plan.specs.declared.plan.Reference.{Reference}
 use Rattle.plan.specs.declared.plan.Planned.{Planned}

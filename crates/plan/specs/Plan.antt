@@ -1,5 +1,4 @@
 -- Step B as the code takes it: the slots of what is inserted before each field, and of its DECLs.
-use mathlib.Core.Bool.{Bool}
 use mathlib.Core.List.{List, [], _∷_}
 use Prim.Native.Nat.{ℕ, zero, suc, _+_, _-_, _/_, _%_}
 use lib.Dec.{eqb, leb, ltb}

@@ -19,7 +19,6 @@ use rows::row::field_at;
 use rows::row::ref_or_open_at;
 use std::num::wrapping_add_u32;
 ghost use mathlib.Core.Path.{_≡_};
-ghost use mathlib.Core.List.{[], _∷_};
 ghost use Prim.Native.Nat.{_-_, _/_};
 ghost use lib.ListN.{length};
 ghost use Rattle.kit.specs.Out.{_&_};

@@ -7,7 +7,7 @@ use lib.ListN.{getD}
 use Rattle.rules.specs.Tools.{if_then_else_}
 use Rattle.rules.specs.Versions.{today}
 use Rattle.rules.specs.Shapes as rules
-use Rattle.rules.specs.Shapes.{FIVE, SIX, FOUR, Want, r, p, out, one, opt, any, cases, variants, options, signature, builtinParts, fitsRef, fitsOuter, isCase}
+use Rattle.rules.specs.Shapes.{FIVE, SIX, Want, r, p, out, one, opt, any, cases, variants, options, signature, builtinParts, fitsRef, fitsOuter, isCase}
 use Rattle.codes.specs.Values.{spacesOf}
 use Rattle.codes.specs.declared.Spaces.{Spaces}
 use Rattle.shapes.specs.declared.Part.{Part}

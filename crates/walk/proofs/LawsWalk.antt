@@ -1,5 +1,5 @@
 -- Ways through the walk over scopes and fields, one law each.
-use mathlib.Core.Path.{_≡_, refl, sym, ap, _∙_}
+use mathlib.Core.Path.{_≡_, refl, sym, _∙_}
 use mathlib.Core.Bool.{Bool, true, false}
 use mathlib.Core.List.{List, [], _∷_}
 use native.Mathlib.Omega.{arith}
@@ -8,7 +8,7 @@ use lib.ListN.{length, set}
 use types.Run.{OneOf}
 use denote.Enum.Declared.{tagOf}
 use borrow.Author.Needs.{needs}
-use Rattle.kit.specs.Out.{Out, _&_}
+use Rattle.kit.specs.Out.{_&_}
 use Rattle.kit.proofs.Laws.{yes!, no!, tests, down}
 use Rattle.rules.specs.Shapes.{hereOnly}
 use Rattle.rows.proofs.row.Row as row

@@ -1,10 +1,10 @@
 -- Ways through the writing of a field's own rows, one law each.
-use mathlib.Core.Path.{_≡_, refl, sym, ap, _∙_}
+use mathlib.Core.Path.{_≡_, refl, sym, _∙_}
 use mathlib.Core.Bool.{Bool, true, false}
 use mathlib.Core.List.{List, [], _∷_}
 use native.Mathlib.Nat.{sub-zero}
 use native.Mathlib.Omega.{arith}
-use Prim.Native.Nat.{ℕ, suc, _+_, _-_, _/_, _%_, _≤_, _<_}
+use Prim.Native.Nat.{ℕ, suc, _+_, _-_, _%_, _≤_, _<_}
 use lib.ListN.{length, getD}
 use types.Run.{OneOf, miss}
 use denote.Enum.Declared.{tagOf}
@@ -13,7 +13,7 @@ use Rattle.kit.specs.Out.{Out, _&_}
 use Rattle.kit.proofs.Laws.{yes!, no!, tests, left-suc}
 use Rattle.rows.proofs.row.Row as row
 use Rattle.rows.specs.Taken.{rowAt, codeAt, codeOf}
-use Rattle.rows.proofs.Laws.{Coded, coded, broken, row-kind}
+use Rattle.rows.proofs.Laws.{Coded, coded, row-kind}
 use Rattle.put.specs.Put.{putRow, copyRow}
 use Rattle.rows.specs.declared.row.Index.{Index}
 use Rattle.rows.specs.declared.row.Index.the-variants.{Number, Name}
@@ -36,7 +36,7 @@ use Rattle.write.specs.declared.own.Outward.{Outward}
 use Rattle.write.specs.declared.own.Outward.the-variants.{Is as OuterIs, Refused as OuterRefused}
 use Rattle.write.specs.State.{followingT, writtenT, passedT, aliasedT, seenT, arrivedT, Wrote}
 use Rattle.write.specs.Alias.{slotAt, numberInT, isInsertedT}
-use Rattle.write.specs.Own.{Wrote₂, aheadT, foundT, nameNumberT, atNumberT, refNumberT, numberedT, refT, indexT, indexOutT, scopeOutT, outerNumbersT, outwardT, outerT, caseT, declT, copyT, innermostT, placeOf, outerRow, withT, doneWithT, rowT, wroteThen₂, stops₂, ownT}
+use Rattle.write.specs.Own.{Wrote₂, aheadT, foundT, nameNumberT, atNumberT, refNumberT, numberedT, refT, indexT, indexOutT, scopeOutT, outerNumbersT, outwardT, outerT, caseT, declT, copyT, innermostT, placeOf, outerRow, withT, doneWithT, rowT, wroteThen₂, ownT}
 use Rattle.write.proofs.Else.{not-field}
 use Rattle.write.proofs.LawsAlias.{put-then}
 

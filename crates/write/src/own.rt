@@ -32,7 +32,7 @@ ghost use lib.ListN.{length};
 ghost use Rattle.kit.specs.Out.{_&_};
 ghost use Rattle.rows.specs.Taken.{rowAt};
 ghost use Rattle.names.specs.Table.{namedFrom};
-ghost use Rattle.write.specs.State.{writtenT, aliasedT, seenT, arrivedT};
+ghost use Rattle.write.specs.State.{writtenT, arrivedT};
 ghost use Rattle.write.specs.Own.{aheadT, nameNumberT, refNumberT, refT, indexOutT, scopeOutT, outerNumbersT, outerT, caseT, declT, copyT, innermostT, placeOf, outerRow, rowT, ownT};
 
 // The other refusals of step C.
