@@ -14,11 +14,11 @@ use view::parts::inserted_in;
 use view::parts::rows_in;
 use view::refusal::say_refusal;
 use view::show::show;
-use view::words::say;
-use view::words::say_number;
+use words::say;
+use words::say_number;
 
 // How the program is used.
-pub fn help() {
+pub(crate) fn help() {
     let talk = STDOUT_FILENO;
     say(
         talk,
@@ -52,7 +52,7 @@ pub fn help() {
 }
 
 // The help, where the first word is no command, or there is none.
-pub fn no_command(word: &[u8]) {
+pub(crate) fn no_command(word: &[u8]) {
     if word.len() != 0 {
         say(STDOUT_FILENO, word);
         say(STDOUT_FILENO, b" is no command of wnt.\n\n");
@@ -61,7 +61,7 @@ pub fn no_command(word: &[u8]) {
 }
 
 // The help, where a command has not the arguments that it takes.
-pub fn wrong_count() {
+pub(crate) fn wrong_count() {
     say(
         STDOUT_FILENO,
         b"That is not the number of arguments that this command takes.\n\n",
@@ -78,7 +78,7 @@ pub fn show_path(path: &[u8]) {
     }
 }
 
-pub fn show_argument() {
+pub(crate) fn show_argument() {
     let mut path = io::buffer();
     let length = os::arg(2, &mut path);
     show_path(&path[..length]);
@@ -99,7 +99,7 @@ fn place_argument() -> Parsed {
     number_in(&text[..length])
 }
 
-pub fn explain_argument() {
+pub(crate) fn explain_argument() {
     let mut path = io::buffer();
     let length = os::arg(2, &mut path);
     match place_argument() {
@@ -147,7 +147,7 @@ pub fn resolve_paths(from: &[u8], to: &[u8]) {
     }
 }
 
-pub fn resolve_argument() {
+pub(crate) fn resolve_argument() {
     let mut from = io::buffer();
     let from_length = os::arg(2, &mut from);
     let mut to = io::buffer();
@@ -164,7 +164,7 @@ fn check_form(form: &[u8]) {
 }
 
 // Says whether the form in a file is accepted.
-pub fn check_path(path: &[u8]) {
+fn check_path(path: &[u8]) {
     let mut buffer = io::large_buffer();
     match load(path, &mut buffer, STDOUT_FILENO) {
         Loaded::Bytes(length) => {
@@ -182,7 +182,7 @@ fn check_argument(i: usize) {
     check_path(&path[..length]);
 }
 
-pub fn check_arguments() {
+pub(crate) fn check_arguments() {
     let count = os::arg_count();
     let mut i = 2;
     while i < count {

@@ -2,18 +2,18 @@
 use libc::STDERR_FILENO;
 use libc::STDIN_FILENO;
 use libc::STDOUT_FILENO;
-use view::words::say;
+use words::say;
 
 // The most bytes that a form has: those of an output of 4,092 rows.
 const LARGEST: usize = 65480;
 
 // What reading a file came to: so many bytes, or a sentence that says why not, already written.
-pub enum Loaded {
+pub(crate) enum Loaded {
     Bytes(usize),
     Failed,
 }
 
-pub fn is_dash(path: &[u8]) -> bool {
+fn is_dash(path: &[u8]) -> bool {
     if path.len() != 1 {
         return false;
     }
@@ -21,7 +21,7 @@ pub fn is_dash(path: &[u8]) -> bool {
 }
 
 // Where to say what happened, if the result goes to a path.
-pub fn talk_beside(path: &[u8]) -> i32 {
+pub(crate) fn talk_beside(path: &[u8]) -> i32 {
     if is_dash(path) {
         STDERR_FILENO
     } else {
@@ -73,7 +73,7 @@ fn read_whole(file: i32, path: &[u8], form: &mut [u8; 65536], talk: i32) -> Load
 }
 
 // Reads the file of a path.
-pub fn load(path: &[u8], form: &mut [u8; 65536], talk: i32) -> Loaded {
+pub(crate) fn load(path: &[u8], form: &mut [u8; 65536], talk: i32) -> Loaded {
     if is_dash(path) {
         return read_whole(STDIN_FILENO, path, form, talk);
     }
@@ -164,7 +164,7 @@ fn write_out(bytes: &[u8], talk: i32) -> bool {
 }
 
 // Writes the file of a path, whole or not at all, and answers whether it is written.
-pub fn save(path: &[u8], bytes: &[u8], talk: i32) -> bool {
+pub(crate) fn save(path: &[u8], bytes: &[u8], talk: i32) -> bool {
     if is_dash(path) {
         return write_out(bytes, talk);
     }
@@ -181,6 +181,6 @@ fn front(bytes: &[u8], length: usize) -> &[u8] {
 }
 
 // The first bytes of a buffer, so many.
-pub fn part(buffer: &[u8; 65536], length: usize) -> &[u8] {
+pub(crate) fn part(buffer: &[u8; 65536], length: usize) -> &[u8] {
     front(buffer, length)
 }

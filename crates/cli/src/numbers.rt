@@ -1,6 +1,6 @@
 // A place that is given as text.
 
-pub enum Parsed {
+pub(crate) enum Parsed {
     Number(u32),
     NoNumber,
 }
@@ -22,7 +22,7 @@ fn with_digit(number: u32, digit: u8) -> Parsed {
 }
 
 // The number that a text spells in decimal digits.
-pub fn number_in(text: &[u8]) -> Parsed {
+pub(crate) fn number_in(text: &[u8]) -> Parsed {
     if text.len() == 0 {
         return Parsed::NoNumber;
     }

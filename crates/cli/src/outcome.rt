@@ -2,7 +2,7 @@
 use resolver::run::Answer;
 use resolver::run::resolve;
 
-pub enum Outcome {
+pub(crate) enum Outcome {
     Accepted(u32),
     Refused { number: u32, place: u32 },
 }
@@ -12,7 +12,7 @@ fn refused(number: u32, place: u32) -> Outcome {
 }
 
 // Resolves a form into a buffer.
-pub fn outcome_of(form: &[u8], out: &mut [u8]) -> Outcome {
+pub(crate) fn outcome_of(form: &[u8], out: &mut [u8]) -> Outcome {
     match resolve(form, out) {
         Answer::Accepted(rows) => Outcome::Accepted(rows),
         Answer::Header => refused(1, 0),

@@ -8,9 +8,9 @@ use crate::parts::rows_in;
 use crate::parts::z_at;
 use crate::readings::say_reading;
 use crate::readings::say_reference;
-use crate::words::say;
-use crate::words::say_field;
-use crate::words::say_number;
+use words::rows::say_field_around;
+use words::say;
+use words::say_number;
 
 fn explain_row(fd: i32, form: &[u8], row: u16) {
     let field = field_of(form, row);
@@ -18,24 +18,28 @@ fn explain_row(fd: i32, form: &[u8], row: u16) {
     say_number(fd, row as u32);
     say(fd, b" refers to ");
     say_reference(fd, form, row);
-    say(fd, b", in the field at row ");
-    say_number(fd, field as u32);
-    say(fd, b": ");
-    say_field(fd, b_at(form, field));
-    if is_inserted(form, next(field)) {
-        say(fd, b" (inserted)");
-    }
+    say_field_around(
+        fd,
+        field as u32,
+        b_at(form, field),
+        is_inserted(form, next(field)),
+    );
     say_reading(fd, form, row, b"\n  ");
     say(fd, b"\n");
 }
 
+// Whether a row is a reference with that place.
+fn is_there(form: &[u8], row: u16, place: u32) -> bool {
+    is_reference(form, row) & (z_at(form, row) == place)
+}
+
 // Explains a row that is a reference with that place, and answers whether this or an earlier row was one.
 fn explained(fd: i32, form: &[u8], row: u16, place: u32, is_found: bool) -> bool {
-    if is_reference(form, row) && z_at(form, row) == place {
+    let is_one = is_there(form, row, place);
+    if is_one {
         explain_row(fd, form, row);
-        return true;
     }
-    is_found
+    is_found | is_one
 }
 
 // Explains the references with that place, and answers whether there was one.

@@ -1,4 +1,5 @@
 // A form put into words: its rows, what each reference means, and what a refusal means. It takes any bytes.
+mod blame;
 pub mod explain;
 mod meaning;
 pub mod parts;
@@ -6,4 +7,3 @@ mod readings;
 pub mod refusal;
 mod scopes;
 pub mod show;
-pub mod words;

@@ -15,15 +15,16 @@ use crate::scopes::Wanted;
 use crate::scopes::find;
 use crate::scopes::scope_of;
 use crate::scopes::scope_outward;
+use shapes::here_only;
 
 // The DECL row that is meant, its number in its scope, and how many scopes out that is.
-pub enum Meaning {
+pub(crate) enum Meaning {
     At { row: u16, number: u32, out: u32 },
     Nowhere,
 }
 
 // How the operand of a row is read.
-pub enum Reading {
+pub(crate) enum Reading {
     // Outward, scope by scope.
     Outward,
     // A name that is looked up in one scope.
@@ -33,7 +34,7 @@ pub enum Reading {
 }
 
 // The space in which a REF's operand is looked up: with PATHs, that of the instance where they start.
-pub fn space_sought(form: &[u8], row: u16) -> u8 {
+pub(crate) fn space_sought(form: &[u8], row: u16) -> u8 {
     let space = b_at(form, row);
     if y_at(form, row) == 0 {
         space
@@ -44,15 +45,6 @@ pub fn space_sought(form: &[u8], row: u16) -> u8 {
     }
 }
 
-// Whether a field's operands are looked up in its own scope and never outward.
-fn is_here_only(field: u8) -> bool {
-    match field {
-        4..=5 => true,
-        24 => true,
-        _ => false,
-    }
-}
-
 fn reading_of_ref(form: &[u8], row: u16) -> Reading {
     if e_at(form, row) == 0 {
         return Reading::Counting;
@@ -60,14 +52,14 @@ fn reading_of_ref(form: &[u8], row: u16) -> Reading {
     if y_at(form, row) != 0 {
         return Reading::LookedUp;
     }
-    if is_here_only(b_at(form, field_of(form, row))) {
+    if here_only(b_at(form, field_of(form, row))) {
         return Reading::LookedUp;
     }
     Reading::Outward
 }
 
 // How a REF or an OUTER is read.
-pub fn reading_of(form: &[u8], row: u16) -> Reading {
+pub(crate) fn reading_of(form: &[u8], row: u16) -> Reading {
     if code_at(form, row) == OUTER {
         if e_at(form, row) == 0 {
             Reading::Counting
@@ -76,6 +68,15 @@ pub fn reading_of(form: &[u8], row: u16) -> Reading {
         }
     } else {
         reading_of_ref(form, row)
+    }
+}
+
+// Whether a reference is read outward.
+pub(crate) fn is_outward(form: &[u8], row: u16) -> bool {
+    match reading_of(form, row) {
+        Reading::Outward => true,
+        Reading::LookedUp => false,
+        Reading::Counting => false,
     }
 }
 
@@ -108,7 +109,7 @@ fn index_key(e: u32, y: u32) -> Key {
 }
 
 // The declaration at an OUTER's index in its outer scope.
-pub fn through_outer(form: &[u8], row: u16) -> Meaning {
+pub(crate) fn through_outer(form: &[u8], row: u16) -> Meaning {
     let e = e_at(form, row);
     match scope_outward(form, scope_of(form, row), outer_wanted(e, x_at(form, row))) {
         Outer::At { scope, out } => in_scope(
@@ -131,7 +132,7 @@ fn key_of(form: &[u8], row: u16) -> Key {
 }
 
 // The declaration that a REF or an OUTER means; a number counts in its own scope, and no alias is followed.
-pub fn meaning_of(form: &[u8], row: u16) -> Meaning {
+pub(crate) fn meaning_of(form: &[u8], row: u16) -> Meaning {
     if code_at(form, row) == OUTER {
         return through_outer(form, row);
     }
@@ -144,6 +145,6 @@ pub fn meaning_of(form: &[u8], row: u16) -> Meaning {
 }
 
 // Whether a DECL row is that of an inserted outer alias.
-pub fn is_inserted_outer(form: &[u8], decl: u16) -> bool {
+pub(crate) fn is_inserted_outer(form: &[u8], decl: u16) -> bool {
     is_inserted(form, decl) && code_at(form, next(decl)) == OUTER
 }

@@ -1,25 +1,23 @@
 // The rows of a form, read with guards: what lies past the end is 0, so that any bytes can be looked at.
+use words::names::FIRST_FRESH;
 
-pub const FIELD: u8 = 1;
+pub(crate) const FIELD: u8 = 1;
 
-pub const DECL: u8 = 2;
+pub(crate) const DECL: u8 = 2;
 
-pub const REF: u8 = 3;
+pub(crate) const REF: u8 = 3;
 
-pub const PATH: u8 = 4;
+pub(crate) const PATH: u8 = 4;
 
-pub const OUTER: u8 = 5;
+pub(crate) const OUTER: u8 = 5;
 
-pub const CASE: u8 = 6;
+pub(crate) const CASE: u8 = 6;
 
-pub const OPEN: u8 = 7;
+pub(crate) const OPEN: u8 = 7;
 
-pub const CLOSE: u8 = 8;
+pub(crate) const CLOSE: u8 = 8;
 
-pub const EXPORT: u8 = 9;
-
-// A DECL's name from here up was inserted.
-pub const FIRST_FRESH: u32 = 2147483648;
+pub(crate) const EXPORT: u8 = 9;
 
 fn byte_at(form: &[u8], row: u16, k: u8) -> u8 {
     let at = 8 + 16 * (row as usize) + (k as usize);
@@ -42,27 +40,27 @@ fn word_at(form: &[u8], row: u16, k: u8) -> u32 {
     )
 }
 
-pub fn code_at(form: &[u8], row: u16) -> u8 {
+pub(crate) fn code_at(form: &[u8], row: u16) -> u8 {
     byte_at(form, row, 0)
 }
 
-pub fn b_at(form: &[u8], row: u16) -> u8 {
+pub(crate) fn b_at(form: &[u8], row: u16) -> u8 {
     byte_at(form, row, 1)
 }
 
-pub fn e_at(form: &[u8], row: u16) -> u32 {
+pub(crate) fn e_at(form: &[u8], row: u16) -> u32 {
     word(byte_at(form, row, 2), byte_at(form, row, 3), 0, 0)
 }
 
-pub fn x_at(form: &[u8], row: u16) -> u32 {
+pub(crate) fn x_at(form: &[u8], row: u16) -> u32 {
     word_at(form, row, 4)
 }
 
-pub fn y_at(form: &[u8], row: u16) -> u32 {
+pub(crate) fn y_at(form: &[u8], row: u16) -> u32 {
     word_at(form, row, 8)
 }
 
-pub fn z_at(form: &[u8], row: u16) -> u32 {
+pub(crate) fn z_at(form: &[u8], row: u16) -> u32 {
     word_at(form, row, 12)
 }
 
@@ -75,7 +73,7 @@ fn begins_wnt(form: &[u8]) -> bool {
 }
 
 // Whether the header is that of version 1.
-pub fn has_header(form: &[u8]) -> bool {
+pub(crate) fn has_header(form: &[u8]) -> bool {
     begins_wnt(form)
         && header_byte(form, 3) == 1
         && header_byte(form, 4) == 0
@@ -83,7 +81,7 @@ pub fn has_header(form: &[u8]) -> bool {
 }
 
 // The row count of the header.
-pub fn rows_said(form: &[u8]) -> u32 {
+pub(crate) fn rows_said(form: &[u8]) -> u32 {
     word(header_byte(form, 6), header_byte(form, 7), 0, 0)
 }
 
@@ -97,23 +95,23 @@ pub fn rows_in(form: &[u8]) -> u16 {
 }
 
 // The row behind a row; the last that can be is its own.
-pub fn next(row: u16) -> u16 {
+pub(crate) fn next(row: u16) -> u16 {
     if row < 65535 { row + 1 } else { row }
 }
 
 // Whether a row is an inserted DECL.
-pub fn is_inserted(form: &[u8], row: u16) -> bool {
+pub(crate) fn is_inserted(form: &[u8], row: u16) -> bool {
     code_at(form, row) == DECL && FIRST_FRESH <= x_at(form, row)
 }
 
 // Whether a row is a REF or an OUTER.
-pub fn is_reference(form: &[u8], row: u16) -> bool {
+pub(crate) fn is_reference(form: &[u8], row: u16) -> bool {
     let code = code_at(form, row);
     code == REF || code == OUTER
 }
 
 // The FIELD row to which a row belongs: the last one up to it, or row 0.
-pub fn field_of(form: &[u8], row: u16) -> u16 {
+pub(crate) fn field_of(form: &[u8], row: u16) -> u16 {
     let mut above = row;
     while 0 < above {
         if code_at(form, above) == FIELD {
@@ -125,12 +123,12 @@ pub fn field_of(form: &[u8], row: u16) -> u16 {
 }
 
 // One more; the largest number stays.
-pub fn one_more(count: u32) -> u32 {
+pub(crate) fn one_more(count: u32) -> u32 {
     if count < 4294967295 { count + 1 } else { count }
 }
 
 // One more, if there is one more to count.
-pub fn counted(count: u32, is_one: bool) -> u32 {
+pub(crate) fn counted(count: u32, is_one: bool) -> u32 {
     if is_one { one_more(count) } else { count }
 }
 

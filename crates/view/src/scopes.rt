@@ -13,19 +13,19 @@ use crate::parts::rows_in;
 use crate::parts::x_at;
 
 // What a declaration is looked for by.
-pub enum Key {
+pub(crate) enum Key {
     Name(u32),
     Number(u32),
 }
 
 // The DECL row of a declaration, and its number.
-pub enum Found {
+pub(crate) enum Found {
     At { row: u16, number: u32 },
     Nothing,
 }
 
 // Which scope is looked for, going outward.
-pub enum Wanted {
+pub(crate) enum Wanted {
     // The one so many scopes out.
     Out(u32),
     // One of that name.
@@ -35,7 +35,7 @@ pub enum Wanted {
 }
 
 // A scope, and how many scopes out it is.
-pub enum Outer {
+pub(crate) enum Outer {
     At { scope: u16, out: u32 },
     Nowhere,
 }
@@ -45,7 +45,7 @@ fn one_less(level: u32) -> u32 {
 }
 
 // How many scopes are open behind a row, of those that opened since the start.
-pub fn level_behind(level: u32, code: u8) -> u32 {
+pub(crate) fn level_behind(level: u32, code: u8) -> u32 {
     if code == OPEN {
         one_more(level)
     } else if code == CLOSE {
@@ -67,7 +67,7 @@ fn level_above(level: u32, code: u8) -> u32 {
 }
 
 // The innermost scope around a row; of an OPEN, the one around it.
-pub fn scope_of(form: &[u8], row: u16) -> u16
+pub(crate) fn scope_of(form: &[u8], row: u16) -> u16
     ensures { λ r. ⌜ r ≤ row ⌝ }
 {
     let mut above = row;
@@ -102,7 +102,7 @@ fn is_meant(key: Key, name: u32, number: u32) -> bool {
 }
 
 // The declaration of a space that a scope has by a name or a number.
-pub fn find(form: &[u8], scope: u16, space: u8, key: Key) -> Found {
+pub(crate) fn find(form: &[u8], scope: u16, space: u8, key: Key) -> Found {
     let rows = rows_in(form);
     let mut row = scope;
     let mut level: u32 = 0;
@@ -124,7 +124,7 @@ pub fn find(form: &[u8], scope: u16, space: u8, key: Key) -> Found {
 }
 
 // The number of the declaration at a DECL row, among those of its space in its scope.
-pub fn number_of(form: &[u8], decl: u16) -> u32 {
+pub(crate) fn number_of(form: &[u8], decl: u16) -> u32 {
     let space = b_at(form, decl);
     let mut row = scope_of(form, decl);
     let mut level: u32 = 0;
@@ -150,7 +150,7 @@ fn is_wanted(form: &[u8], scope: u16, out: u32, wanted: Wanted) -> bool {
 }
 
 // The first scope that is wanted, from a scope outward, that scope included.
-pub fn scope_outward(form: &[u8], scope: u16, wanted: Wanted) -> Outer {
+pub(crate) fn scope_outward(form: &[u8], scope: u16, wanted: Wanted) -> Outer {
     let mut around = scope;
     let mut out: u32 = 0;
     while 0 < around {

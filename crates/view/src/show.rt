@@ -19,17 +19,19 @@ use crate::parts::rows_in;
 use crate::parts::rows_said;
 use crate::parts::x_at;
 use crate::parts::z_at;
-use crate::readings::say_declaration;
 use crate::readings::say_reading;
 use crate::readings::say_reference;
 use crate::scopes::level_behind;
 use crate::scopes::number_of;
-use crate::words::say;
-use crate::words::say_export;
-use crate::words::say_field;
-use crate::words::say_name_if_any;
-use crate::words::say_number;
-use crate::words::say_scope;
+use words::kinds::say_scope;
+use words::names::say_export;
+use words::names::say_name_if_any;
+use words::rows::say_declaration;
+use words::rows::say_field_row;
+use words::rows::say_header;
+use words::rows::say_place;
+use words::rows::say_row_number;
+use words::say;
 
 // How far a row is indented behind so many open scopes: a field stands in its scope, and what it holds stands in it.
 fn indent_of(code: u8, level: u32) -> u32 {
@@ -58,36 +60,6 @@ fn say_indent(fd: i32, indent: u32) {
     }
 }
 
-fn say_row_number(fd: i32, row: u16) {
-    if row < 10 {
-        say(fd, b"   ");
-    } else if row < 100 {
-        say(fd, b"  ");
-    } else if row < 1000 {
-        say(fd, b" ");
-    }
-    say_number(fd, row as u32);
-    say(fd, b"  ");
-}
-
-fn say_place(fd: i32, place: u32) {
-    if place != 0 {
-        say(fd, b", place ");
-        say_number(fd, place);
-    }
-}
-
-fn say_field_row(fd: i32, form: &[u8], row: u16) {
-    say_field(fd, b_at(form, row));
-    if b_at(form, row) == 19 {
-        say(fd, b" ");
-        say_number(fd, e_at(form, row));
-    }
-    if is_inserted(form, next(row)) {
-        say(fd, b" (inserted)");
-    }
-}
-
 fn say_reference_row(fd: i32, form: &[u8], row: u16) {
     say(fd, b"refers to ");
     say_reference(fd, form, row);
@@ -95,10 +67,15 @@ fn say_reference_row(fd: i32, form: &[u8], row: u16) {
 
 fn say_content(fd: i32, form: &[u8], row: u16) {
     match code_at(form, row) {
-        FIELD => say_field_row(fd, form, row),
+        FIELD => say_field_row(
+            fd,
+            b_at(form, row),
+            e_at(form, row),
+            is_inserted(form, next(row)),
+        ),
         DECL => {
             say(fd, b"declares ");
-            say_declaration(fd, form, row, number_of(form, row));
+            say_declaration(fd, b_at(form, row), number_of(form, row), x_at(form, row));
         }
         REF => say_reference_row(fd, form, row),
         PATH => {
@@ -125,7 +102,7 @@ fn say_content(fd: i32, form: &[u8], row: u16) {
 }
 
 fn say_row(fd: i32, form: &[u8], row: u16, level: u32) {
-    say_row_number(fd, row);
+    say_row_number(fd, row as u32);
     say_indent(fd, indent_of(code_at(form, row), level));
     say_content(fd, form, row);
     say_place(fd, z_at(form, row));
@@ -146,25 +123,8 @@ fn say_rows(fd: i32, form: &[u8]) {
     }
 }
 
-// What the header says, where that is not what is there.
-fn say_header(fd: i32, form: &[u8]) {
-    say_number(fd, rows_in(form) as u32);
-    say(fd, b" rows");
-    if !has_header(form) {
-        say(
-            fd,
-            b", behind a header that is not that of a form of version 1",
-        );
-    }
-    if rows_said(form) != (rows_in(form) as u32) {
-        say(fd, b"; the header says ");
-        say_number(fd, rows_said(form));
-    }
-    say(fd, b"\n");
-}
-
 // Writes a form, whatever its bytes are.
 pub fn show(fd: i32, form: &[u8]) {
-    say_header(fd, form);
+    say_header(fd, rows_in(form) as u32, has_header(form), rows_said(form));
     say_rows(fd, form);
 }

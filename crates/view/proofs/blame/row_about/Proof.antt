@@ -1,8 +1,8 @@
--- `view::refusal::row_about` is safe and ends. The measure is the rows that are left.
+-- `view::blame::row_about` is safe and ends. The measure is the rows that are left.
 use Prim.Native.Nat.{_-_}
 use borrow.Author.Needs.{needs}
-use Rattle.view.proofs.refusal.row_about.Statement.{statement}
-use Rattle.view.proofs.refusal.row_about.Tie as tie
+use Rattle.view.proofs.blame.row_about.Statement.{statement}
+use Rattle.view.proofs.blame.row_about.Tie as tie
 
 abbrev Inv-loop : tie.InvT-loop
 Inv-loop form number place rows row₀ row = Unit {0}
