@@ -1,4 +1,10 @@
 // The rows of a form, read with guards: what lies past the end is 0, so that any bytes can be looked at.
+ghost use mathlib.Core.Path.{_≡_};
+ghost use Prim.Native.Nat.{_+_, _<_, _≤_};
+ghost use lib.ListN.{getD};
+ghost use Rattle.kit.specs.Pick.{pick};
+ghost use Rattle.rows.specs.Apart.{two, four};
+ghost use Rattle.view.specs.Parts.{startOf, codeAt, bAt, eAt, xAt, yAt, zAt, beginsWnt, hasHeader, rowsIn, isInserted, isReference, nextOf, fieldOf, insertedIn};
 use words::names::FIRST_FRESH;
 
 pub(crate) const FIELD: u8 = 1;
@@ -19,74 +25,110 @@ pub(crate) const CLOSE: u8 = 8;
 
 pub(crate) const EXPORT: u8 = 9;
 
-fn byte_at(form: &[u8], row: u16, k: u8) -> u8 {
-    let at = 8 + 16 * (row as usize) + (k as usize);
+// ---- numbers in bytes
+
+fn byte_at(form: &[u8], at: usize) -> u8
+    ensures { λ r. ⌜ r ≡ getD (now (form .entry)) at 0 ⌝ }
+{
     if at < form.len() { form[at] } else { 0 }
 }
 
-fn word(lowest: u8, second: u8, third: u8, highest: u8) -> u32 {
-    (lowest as u32) | ((second as u32) << 8) | ((third as u32) << 16) | ((highest as u32) << 24)
+fn wide(byte: u8) -> u32
+    ensures { λ r. ⌜ (r ≡ byte) × (r < 256) ⌝ }
+{
+    byte as u32
 }
 
-fn word_at(form: &[u8], row: u16, k: u8) -> u32 {
-    if 252 < k {
-        return 0;
-    }
-    word(
-        byte_at(form, row, k),
-        byte_at(form, row, k + 1),
-        byte_at(form, row, k + 2),
-        byte_at(form, row, k + 3),
-    )
+// The number in the two bytes from a place.
+fn half_at(form: &[u8], at: usize) -> u32
+    requires { ⌜ at < 2000000 ⌝ }
+    ensures { λ r. ⌜ r ≡ two (now (form .entry)) at ⌝ }
+{
+    wide(byte_at(form, at)) + wide(byte_at(form, at + 1)) * 256
 }
 
-pub(crate) fn code_at(form: &[u8], row: u16) -> u8 {
-    byte_at(form, row, 0)
+// The number in the four bytes from a place.
+fn word_at(form: &[u8], at: usize) -> u32
+    requires { ⌜ at < 2000000 ⌝ }
+    ensures { λ r. ⌜ r ≡ four (now (form .entry)) at ⌝ }
+{
+    wide(byte_at(form, at))
+        + wide(byte_at(form, at + 1)) * 256
+        + wide(byte_at(form, at + 2)) * 65536
+        + wide(byte_at(form, at + 3)) * 16777216
 }
 
-pub(crate) fn b_at(form: &[u8], row: u16) -> u8 {
-    byte_at(form, row, 1)
+// ---- the parts of a row
+
+// Where a row begins.
+fn start_of(row: u16) -> usize
+    ensures { λ r. ⌜ (r ≡ startOf row) × (r < 1048576) ⌝ }
+{
+    8 + 16 * (row as usize)
 }
 
-pub(crate) fn e_at(form: &[u8], row: u16) -> u32 {
-    word(byte_at(form, row, 2), byte_at(form, row, 3), 0, 0)
+pub(crate) fn code_at(form: &[u8], row: u16) -> u8
+    ensures { λ r. ⌜ r ≡ codeAt (now (form .entry)) row ⌝ }
+{
+    byte_at(form, start_of(row))
 }
 
-pub(crate) fn x_at(form: &[u8], row: u16) -> u32 {
-    word_at(form, row, 4)
+pub(crate) fn b_at(form: &[u8], row: u16) -> u8
+    ensures { λ r. ⌜ r ≡ bAt (now (form .entry)) row ⌝ }
+{
+    byte_at(form, start_of(row) + 1)
 }
 
-pub(crate) fn y_at(form: &[u8], row: u16) -> u32 {
-    word_at(form, row, 8)
+pub(crate) fn e_at(form: &[u8], row: u16) -> u32
+    ensures { λ r. ⌜ r ≡ eAt (now (form .entry)) row ⌝ }
+{
+    half_at(form, start_of(row) + 2)
 }
 
-pub(crate) fn z_at(form: &[u8], row: u16) -> u32 {
-    word_at(form, row, 12)
+pub(crate) fn x_at(form: &[u8], row: u16) -> u32
+    ensures { λ r. ⌜ r ≡ xAt (now (form .entry)) row ⌝ }
+{
+    word_at(form, start_of(row) + 4)
 }
 
-fn header_byte(form: &[u8], at: usize) -> u8 {
-    if at < form.len() { form[at] } else { 0 }
+pub(crate) fn y_at(form: &[u8], row: u16) -> u32
+    ensures { λ r. ⌜ r ≡ yAt (now (form .entry)) row ⌝ }
+{
+    word_at(form, start_of(row) + 8)
 }
 
-fn begins_wnt(form: &[u8]) -> bool {
-    header_byte(form, 0) == b'W' && header_byte(form, 1) == b'N' && header_byte(form, 2) == b'T'
+pub(crate) fn z_at(form: &[u8], row: u16) -> u32
+    ensures { λ r. ⌜ r ≡ zAt (now (form .entry)) row ⌝ }
+{
+    word_at(form, start_of(row) + 12)
+}
+
+// ---- the header
+
+fn begins_wnt(form: &[u8]) -> bool
+    ensures { λ r. ⌜ r ≡ beginsWnt (now (form .entry)) ⌝ }
+{
+    (byte_at(form, 0) == b'W') & (byte_at(form, 1) == b'N') & (byte_at(form, 2) == b'T')
 }
 
 // Whether the header is that of version 1.
-pub(crate) fn has_header(form: &[u8]) -> bool {
-    begins_wnt(form)
-        && header_byte(form, 3) == 1
-        && header_byte(form, 4) == 0
-        && header_byte(form, 5) == 0
+pub(crate) fn has_header(form: &[u8]) -> bool
+    ensures { λ r. ⌜ r ≡ hasHeader (now (form .entry)) ⌝ }
+{
+    begins_wnt(form) & (byte_at(form, 3) == 1) & (byte_at(form, 4) == 0) & (byte_at(form, 5) == 0)
 }
 
 // The row count of the header.
-pub(crate) fn rows_said(form: &[u8]) -> u32 {
-    word(header_byte(form, 6), header_byte(form, 7), 0, 0)
+pub(crate) fn rows_said(form: &[u8]) -> u32
+    ensures { λ r. ⌜ r ≡ two (now (form .entry)) 6 ⌝ }
+{
+    half_at(form, 6)
 }
 
 // How many whole rows stand behind the header, at most 65,535.
-pub fn rows_in(form: &[u8]) -> u16 {
+pub fn rows_in(form: &[u8]) -> u16
+    ensures { λ r. ⌜ r ≡ rowsIn (now (form .entry)) ⌝ }
+{
     if form.len() < 8 {
         return 0;
     }
@@ -94,24 +136,34 @@ pub fn rows_in(form: &[u8]) -> u16 {
     if rows < 65535 { rows as u16 } else { 65535 }
 }
 
+// ---- kinds of rows
+
 // The row behind a row; the last that can be is its own.
-pub(crate) fn next(row: u16) -> u16 {
+pub(crate) fn next(row: u16) -> u16
+    ensures { λ r. ⌜ r ≡ nextOf row ⌝ }
+{
     if row < 65535 { row + 1 } else { row }
 }
 
 // Whether a row is an inserted DECL.
-pub(crate) fn is_inserted(form: &[u8], row: u16) -> bool {
-    code_at(form, row) == DECL && FIRST_FRESH <= x_at(form, row)
+pub(crate) fn is_inserted(form: &[u8], row: u16) -> bool
+    ensures { λ r. ⌜ r ≡ isInserted (now (form .entry)) row ⌝ }
+{
+    (code_at(form, row) == DECL) & (FIRST_FRESH <= x_at(form, row))
 }
 
 // Whether a row is a REF or an OUTER.
-pub(crate) fn is_reference(form: &[u8], row: u16) -> bool {
+pub(crate) fn is_reference(form: &[u8], row: u16) -> bool
+    ensures { λ r. ⌜ r ≡ isReference (now (form .entry)) row ⌝ }
+{
     let code = code_at(form, row);
-    code == REF || code == OUTER
+    (code == REF) | (code == OUTER)
 }
 
 // The FIELD row to which a row belongs: the last one up to it, or row 0.
-pub(crate) fn field_of(form: &[u8], row: u16) -> u16 {
+pub(crate) fn field_of(form: &[u8], row: u16) -> u16
+    ensures { λ r. ⌜ r ≡ fieldOf (now (form .entry)) row ⌝ }
+{
     let mut above = row;
     while 0 < above {
         if code_at(form, above) == FIELD {
@@ -122,18 +174,20 @@ pub(crate) fn field_of(form: &[u8], row: u16) -> u16 {
     0
 }
 
-// One more; the largest number stays.
-pub(crate) fn one_more(count: u32) -> u32 {
-    if count < 4294967295 { count + 1 } else { count }
-}
+// ---- inserted fields
 
 // One more, if there is one more to count.
-pub(crate) fn counted(count: u32, is_one: bool) -> u32 {
-    if is_one { one_more(count) } else { count }
+pub(crate) fn counted(count: u32, more: bool) -> u32
+    requires { ⌜ count < 4294967295 ⌝ }
+    ensures { λ r. ⌜ (r ≡ pick more (count + 1) count) × (r ≤ count + 1) ⌝ }
+{
+    if more { count + 1 } else { count }
 }
 
 // How many fields of a form are inserted: each has one DECL.
-pub fn inserted_in(form: &[u8]) -> u32 {
+pub fn inserted_in(form: &[u8]) -> u32
+    ensures { λ r. ⌜ r ≡ insertedIn (now (form .entry)) ⌝ }
+{
     let rows = rows_in(form);
     let mut count: u32 = 0;
     let mut row: u16 = 0;

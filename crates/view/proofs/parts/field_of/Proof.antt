@@ -1,10 +1,13 @@
--- `view::parts::field_of` is safe and ends. The measure is the rows above.
+-- `view::parts::field_of` meets its contract. The invariant: the search from here answers what the search from the start does.
+use mathlib.Core.Path.{_≡_}
+use Rattle.view.specs.Parts.{fieldOf}
 use borrow.Author.Needs.{needs}
+use Rattle.view.proofs.PartLaws.{part-ways}
 use Rattle.view.proofs.parts.field_of.Statement.{statement}
 use Rattle.view.proofs.parts.field_of.Tie as tie
 
 abbrev Inv-loop : tie.InvT-loop
-Inv-loop form row above₀ above = Unit {0}
+Inv-loop form row above₀ above = fieldOf form above ≡ fieldOf form row
 
 abbrev μ-loop : tie.MeasureT-loop
 μ-loop form row above₀ above = above
@@ -15,10 +18,10 @@ field-of-spec =
     (tie.spec
     Inv-loop
     μ-loop
-    (λ c. search needs)  -- loop-holds
+    (λ c. search part-ways)  -- loop-holds
     (λ c κs. search needs)  -- code-at-requires
-    (λ c. search needs)  -- returns
+    (λ c. search part-ways)  -- returns
     (λ c. search needs)  -- sub-above
     (λ c. search needs)  -- loop-less
-    (λ c. search needs)  -- loop-again
-    (λ c. search needs))  -- returns-2
+    (λ c. search part-ways)  -- loop-again
+    (λ c. search part-ways))  -- returns-2

@@ -1,11 +1,14 @@
--- `view::parts::inserted_in` is safe and ends. The measure is the rows that are left.
-use Prim.Native.Nat.{_-_}
+-- `view::parts::inserted_in` meets its contract. The invariant: the count from here on is the whole count.
+use mathlib.Core.Path.{_≡_}
+use Prim.Native.Nat.{_-_, _≤_}
+use Rattle.view.specs.Parts.{insertedFrom, insertedIn}
 use borrow.Author.Needs.{needs}
+use Rattle.view.proofs.PartLaws.{part-ways, inserted-turn}
 use Rattle.view.proofs.parts.inserted_in.Statement.{statement}
 use Rattle.view.proofs.parts.inserted_in.Tie as tie
 
 abbrev Inv-loop : tie.InvT-loop
-Inv-loop form rows count₀ row₀ count row = Unit {0}
+Inv-loop form rows count₀ row₀ count row = (insertedFrom form row (rows - row) count ≡ insertedIn form) × (count ≤ row)
 
 abbrev μ-loop : tie.MeasureT-loop
 μ-loop form rows count₀ row₀ count row = rows - row
@@ -17,10 +20,12 @@ inserted-in-spec =
     Inv-loop
     μ-loop
     (λ c κs. search needs)  -- rows-in-requires
-    (λ c. search needs)  -- loop-holds
+    (λ c. search part-ways)  -- loop-holds
     (λ c κs. search needs)  -- is-inserted-requires
     (λ c κs. search needs)  -- counted-requires
     (λ c. search needs)  -- add-row
     (λ c. search needs)  -- loop-less
-    (λ c. search needs)  -- loop-again
-    (λ c. search needs))  -- returns
+    (λ c.
+    let turn = c .before .before in
+    (inserted-turn _ _ _ _ _ (turn .before .loop .inv .0) (turn .loop-test .taken) _ _ (c .before .is-inserted .ensures) (c .counted .ensures .0), search needs))  -- loop-again
+    (λ c. search part-ways))  -- returns

@@ -1,11 +1,14 @@
--- `view::scopes::find` is safe and ends. The measure is the rows that are left.
-use Prim.Native.Nat.{_-_}
+-- `view::scopes::find` meets its contract. The invariant: the search from here answers what the search from the start does.
+use mathlib.Core.Path.{_≡_}
+use Prim.Native.Nat.{_-_, _≤_}
+use Rattle.view.specs.Scopes.{findFrom, findIn}
 use borrow.Author.Needs.{needs}
+use Rattle.view.proofs.ScopeLaws.{scope-ways, find-on}
 use Rattle.view.proofs.scopes.find.Statement.{statement}
 use Rattle.view.proofs.scopes.find.Tie as tie
 
 abbrev Inv-loop : tie.InvT-loop
-Inv-loop form scope space key rows row₀ level₀ number₀ row level number = Unit {0}
+Inv-loop form scope space key rows row₀ level₀ number₀ row level number = (findFrom form space key row (rows - row) level number ≡ findIn form scope space key) × (level ≤ row) × (number ≤ row)
 
 abbrev μ-loop : tie.MeasureT-loop
 μ-loop form scope space key rows row₀ level₀ number₀ row level number = rows - row
@@ -17,17 +20,21 @@ find-spec =
     Inv-loop
     μ-loop
     (λ c κs. search needs)  -- rows-in-requires
-    (λ c. search needs)  -- loop-holds
+    (λ c. search scope-ways)  -- loop-holds
     (λ c κs. search needs)  -- code-at-requires
-    (λ c κs. search needs)  -- is-close-requires
-    (λ c. search needs)  -- returns
+    (λ c κs. search needs)  -- is-bound-requires
+    (λ c. search scope-ways)  -- returns
     (λ c κs. search needs)  -- declares-requires
     (λ c κs. search needs)  -- x-at-requires
     (λ c κs. search needs)  -- is-meant-requires
-    (λ c. search needs)  -- returns-2
+    (λ c. search scope-ways)  -- returns-2
     (λ c κs. search needs)  -- counted-requires
     (λ c κs. search needs)  -- level-behind-requires
     (λ c. search needs)  -- add-row
     (λ c. search needs)  -- loop-less
-    (λ c. search needs)  -- loop-again
-    (λ c. search needs))  -- returns-3
+    (λ c.
+    let meant = c .before .before .before in
+    let here = meant .before .before in
+    let bound = here .before .before in
+    (find-on _ _ _ _ _ _ _ _ (bound .before .before .before .loop .inv .0) (bound .before .before .loop-test .taken) _ (bound .before .code-at .ensures) _ (bound .is-bound .ensures) (here .before .if1 .left) _ (here .declares .ensures) _ (meant .before .x-at .ensures) _ (meant .is-meant .ensures) (c .before .before .if2 .left) _ _ (c .before .counted .ensures .0) (c .level-behind .ensures .0), search needs, search needs))  -- loop-again
+    (λ c. search scope-ways))  -- returns-3

@@ -1,11 +1,14 @@
--- `view::scopes::scope_of` answers no row behind its own, so that whoever goes outward ends. The measure is the rows above.
-use Prim.Native.Nat.{_≤_}
+-- `view::scopes::scope_of` meets its contract. The invariant: the way up from here ends where the way up from the row does.
+use mathlib.Core.Path.{_≡_}
+use Prim.Native.Nat.{_+_, _≤_}
+use Rattle.view.specs.Scopes.{scopeAbove, scopeOf}
 use borrow.Author.Needs.{needs}
+use Rattle.view.proofs.ScopeLaws.{scope-ways}
 use Rattle.view.proofs.scopes.scope_of.Statement.{statement}
 use Rattle.view.proofs.scopes.scope_of.Tie as tie
 
 abbrev Inv-loop : tie.InvT-loop
-Inv-loop form row above₀ level₀ above level = above ≤ row
+Inv-loop form row above₀ level₀ above level = (scopeAbove form above level ≡ scopeOf form row) × (level + above ≤ row)
 
 abbrev μ-loop : tie.MeasureT-loop
 μ-loop form row above₀ level₀ above level = above
@@ -16,12 +19,13 @@ scope-of-spec =
     (tie.spec
     Inv-loop
     μ-loop
-    (λ c. search needs)  -- loop-holds
+    (λ c. search scope-ways)  -- loop-holds
     (λ c. search needs)  -- sub-above
     (λ c κs. search needs)  -- code-at-requires
+    (λ c κs. search needs)  -- is-bound-requires
     (λ c. search needs)  -- add-result
-    (λ c. search needs)  -- returns
+    (λ c. search scope-ways)  -- returns
     (λ c κs. search needs)  -- level-above-requires
     (λ c. search needs)  -- loop-less
-    (λ c. search needs)  -- loop-again
-    (λ c. search needs))  -- returns-2
+    (λ c. search scope-ways)  -- loop-again
+    (λ c. search scope-ways))  -- returns-2

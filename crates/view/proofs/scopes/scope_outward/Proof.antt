@@ -1,10 +1,14 @@
--- `view::scopes::scope_outward` is safe and ends. The measure is the first row of the scope, which falls on the way out.
+-- `view::scopes::scope_outward` meets its contract. The invariant: the way outward from here answers what the way from the start does.
+use mathlib.Core.Path.{_≡_}
+use Prim.Native.Nat.{_+_, _-_, _≤_}
+use Rattle.view.specs.Scopes.{outwardFrom, scopeOutward}
 use borrow.Author.Needs.{needs}
+use Rattle.view.proofs.ScopeLaws.{scope-ways}
 use Rattle.view.proofs.scopes.scope_outward.Statement.{statement}
 use Rattle.view.proofs.scopes.scope_outward.Tie as tie
 
 abbrev Inv-loop : tie.InvT-loop
-Inv-loop form scope wanted around₀ out₀ around out = Unit {0}
+Inv-loop form scope wanted around₀ out₀ around out = (outwardFrom form wanted (scope - out) around out ≡ scopeOutward form scope wanted) × (around + out ≤ scope)
 
 abbrev μ-loop : tie.MeasureT-loop
 μ-loop form scope wanted around₀ out₀ around out = around
@@ -15,12 +19,12 @@ scope-outward-spec =
     (tie.spec
     Inv-loop
     μ-loop
-    (λ c. search needs)  -- loop-holds
+    (λ c. search scope-ways)  -- loop-holds
     (λ c κs. search needs)  -- is-wanted-requires
-    (λ c. search needs)  -- returns
-    (λ c. search needs)  -- sub-around
+    (λ c. search scope-ways)  -- returns
+    (λ c. search needs)  -- sub-scope-of
     (λ c κs. search needs)  -- scope-of-requires
-    (λ c κs. search needs)  -- one-more-requires
+    (λ c. search needs)  -- add-out
     (λ c. search needs)  -- loop-less
-    (λ c. search needs)  -- loop-again
-    (λ c. search needs))  -- returns-2
+    (λ c. search scope-ways)  -- loop-again
+    (λ c. search scope-ways))  -- returns-2
