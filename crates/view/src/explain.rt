@@ -1,4 +1,7 @@
 // One place of a form: which declaration each reference there means.
+ghost use mathlib.Core.Path.{_≡_};
+ghost use mathlib.Core.Bool.{_||_};
+ghost use Rattle.view.specs.Shown.{isThere, anyThere};
 use crate::parts::b_at;
 use crate::parts::field_of;
 use crate::parts::is_inserted;
@@ -29,21 +32,27 @@ fn explain_row(fd: i32, form: &[u8], row: u16) {
 }
 
 // Whether a row is a reference with that place.
-fn is_there(form: &[u8], row: u16, place: u32) -> bool {
+fn is_there(form: &[u8], row: u16, place: u32) -> bool
+    ensures { λ r. ⌜ r ≡ isThere (now (form .entry)) row place ⌝ }
+{
     is_reference(form, row) & (z_at(form, row) == place)
 }
 
 // Explains a row that is a reference with that place, and answers whether this or an earlier row was one.
-fn explained(fd: i32, form: &[u8], row: u16, place: u32, is_found: bool) -> bool {
+fn explained(fd: i32, form: &[u8], row: u16, place: u32, earlier: bool) -> bool
+    ensures { λ r. ⌜ r ≡ (earlier || isThere (now (form .entry)) row place) ⌝ }
+{
     let is_one = is_there(form, row, place);
     if is_one {
         explain_row(fd, form, row);
     }
-    is_found | is_one
+    earlier | is_one
 }
 
 // Explains the references with that place, and answers whether there was one.
-fn explain_each(fd: i32, form: &[u8], place: u32) -> bool {
+fn explain_each(fd: i32, form: &[u8], place: u32) -> bool
+    ensures { λ r. ⌜ r ≡ anyThere (now (form .entry)) place ⌝ }
+{
     let rows = rows_in(form);
     let mut is_found = false;
     let mut row: u16 = 0;

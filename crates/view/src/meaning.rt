@@ -1,5 +1,8 @@
 // What a reference means: by the outward reading where it is a name, by counting where it is a number.
+ghost use mathlib.Core.Path.{_≡_};
+ghost use Rattle.view.specs.Meaning.{spaceSought, isWalked, readingOf, isOutward, inScope, outwardFor, outerWanted, indexKey, throughOuter, keyOf, meaningOf, isInsertedOuter};
 use crate::parts::OUTER;
+use crate::parts::REF;
 use crate::parts::b_at;
 use crate::parts::code_at;
 use crate::parts::e_at;
@@ -34,7 +37,9 @@ pub(crate) enum Reading {
 }
 
 // The space in which a REF's operand is looked up: with PATHs, that of the instance where they start.
-pub(crate) fn space_sought(form: &[u8], row: u16) -> u8 {
+pub(crate) fn space_sought(form: &[u8], row: u16) -> u8
+    ensures { λ r. ⌜ r ≡ spaceSought (now (form .entry)) row ⌝ }
+{
     let space = b_at(form, row);
     if y_at(form, row) == 0 {
         space
@@ -45,34 +50,32 @@ pub(crate) fn space_sought(form: &[u8], row: u16) -> u8 {
     }
 }
 
-fn reading_of_ref(form: &[u8], row: u16) -> Reading {
-    if e_at(form, row) == 0 {
-        return Reading::Counting;
-    }
-    if y_at(form, row) != 0 {
-        return Reading::LookedUp;
-    }
-    if here_only(b_at(form, field_of(form, row))) {
-        return Reading::LookedUp;
-    }
-    Reading::Outward
+// Whether a name is walked: that of a REF without PATHs, in a field that is not here-only.
+fn is_walked(form: &[u8], row: u16) -> bool
+    ensures { λ r. ⌜ r ≡ isWalked (now (form .entry)) row ⌝ }
+{
+    (code_at(form, row) == REF)
+        & (y_at(form, row) == 0)
+        & !here_only(b_at(form, field_of(form, row)))
 }
 
 // How a REF or an OUTER is read.
-pub(crate) fn reading_of(form: &[u8], row: u16) -> Reading {
-    if code_at(form, row) == OUTER {
-        if e_at(form, row) == 0 {
-            Reading::Counting
-        } else {
-            Reading::LookedUp
-        }
+pub(crate) fn reading_of(form: &[u8], row: u16) -> Reading
+    ensures { λ r. ⌜ r ≡ readingOf (now (form .entry)) row ⌝ }
+{
+    if e_at(form, row) == 0 {
+        Reading::Counting
+    } else if is_walked(form, row) {
+        Reading::Outward
     } else {
-        reading_of_ref(form, row)
+        Reading::LookedUp
     }
 }
 
 // Whether a reference is read outward.
-pub(crate) fn is_outward(form: &[u8], row: u16) -> bool {
+pub(crate) fn is_outward(form: &[u8], row: u16) -> bool
+    ensures { λ r. ⌜ r ≡ isOutward (readingOf (now (form .entry)) row) ⌝ }
+{
     match reading_of(form, row) {
         Reading::Outward => true,
         Reading::LookedUp => false,
@@ -81,7 +84,9 @@ pub(crate) fn is_outward(form: &[u8], row: u16) -> bool {
 }
 
 // The declaration that one scope has, so many scopes out.
-fn in_scope(form: &[u8], scope: u16, out: u32, space: u8, key: Key) -> Meaning {
+fn in_scope(form: &[u8], scope: u16, out: u32, space: u8, key: Key) -> Meaning
+    ensures { λ r. ⌜ r ≡ inScope (now (form .entry)) scope out space key ⌝ }
+{
     match find(form, scope, space, key) {
         Found::At { row, number } => Meaning::At { row, number, out },
         Found::Nothing => Meaning::Nowhere,
@@ -89,27 +94,37 @@ fn in_scope(form: &[u8], scope: u16, out: u32, space: u8, key: Key) -> Meaning {
 }
 
 // A name by the outward reading: the innermost scope around a row that declares it.
-fn outward(form: &[u8], row: u16, space: u8, name: u32) -> Meaning {
+fn outward(form: &[u8], row: u16, space: u8, name: u32) -> Meaning
+    ensures { λ r. ⌜ r ≡ outwardFor (now (form .entry)) row space name ⌝ }
+{
     match scope_outward(form, scope_of(form, row), Wanted::Declaring { space, name }) {
         Outer::At { scope, out } => in_scope(form, scope, out, space, Key::Name(name)),
         Outer::Nowhere => Meaning::Nowhere,
     }
 }
 
-fn outer_wanted(e: u32, x: u32) -> Wanted {
-    if e == 1 || e == 3 {
+// The outer scope of an OUTER.
+fn outer_wanted(e: u32, x: u32) -> Wanted
+    ensures { λ r. ⌜ r ≡ outerWanted e x ⌝ }
+{
+    if (e == 1) | (e == 3) {
         Wanted::Named(x)
     } else {
         Wanted::Out(x)
     }
 }
 
-fn index_key(e: u32, y: u32) -> Key {
+// Its index there.
+fn index_key(e: u32, y: u32) -> Key
+    ensures { λ r. ⌜ r ≡ indexKey e y ⌝ }
+{
     if e < 2 { Key::Number(y) } else { Key::Name(y) }
 }
 
 // The declaration at an OUTER's index in its outer scope.
-pub(crate) fn through_outer(form: &[u8], row: u16) -> Meaning {
+pub(crate) fn through_outer(form: &[u8], row: u16) -> Meaning
+    ensures { λ r. ⌜ r ≡ throughOuter (now (form .entry)) row ⌝ }
+{
     let e = e_at(form, row);
     match scope_outward(form, scope_of(form, row), outer_wanted(e, x_at(form, row))) {
         Outer::At { scope, out } => in_scope(
@@ -123,28 +138,35 @@ pub(crate) fn through_outer(form: &[u8], row: u16) -> Meaning {
     }
 }
 
-fn key_of(form: &[u8], row: u16) -> Key {
+// A REF's operand.
+fn key_of(form: &[u8], row: u16) -> Key
+    ensures { λ r. ⌜ r ≡ keyOf (now (form .entry)) row ⌝ }
+{
+    let x = x_at(form, row);
     if e_at(form, row) == 0 {
-        Key::Number(x_at(form, row))
+        Key::Number(x)
     } else {
-        Key::Name(x_at(form, row))
+        Key::Name(x)
     }
 }
 
 // The declaration that a REF or an OUTER means; a number counts in its own scope, and no alias is followed.
-pub(crate) fn meaning_of(form: &[u8], row: u16) -> Meaning {
+pub(crate) fn meaning_of(form: &[u8], row: u16) -> Meaning
+    ensures { λ r. ⌜ r ≡ meaningOf (now (form .entry)) row ⌝ }
+{
     if code_at(form, row) == OUTER {
         return through_outer(form, row);
     }
     let space = space_sought(form, row);
-    match reading_of(form, row) {
-        Reading::Outward => outward(form, row, space, x_at(form, row)),
-        Reading::LookedUp => in_scope(form, scope_of(form, row), 0, space, key_of(form, row)),
-        Reading::Counting => in_scope(form, scope_of(form, row), 0, space, key_of(form, row)),
+    if is_outward(form, row) {
+        return outward(form, row, space, x_at(form, row));
     }
+    in_scope(form, scope_of(form, row), 0, space, key_of(form, row))
 }
 
 // Whether a DECL row is that of an inserted outer alias.
-pub(crate) fn is_inserted_outer(form: &[u8], decl: u16) -> bool {
-    is_inserted(form, decl) && code_at(form, next(decl)) == OUTER
+pub(crate) fn is_inserted_outer(form: &[u8], decl: u16) -> bool
+    ensures { λ r. ⌜ r ≡ isInsertedOuter (now (form .entry)) decl ⌝ }
+{
+    is_inserted(form, decl) & (code_at(form, next(decl)) == OUTER)
 }

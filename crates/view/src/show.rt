@@ -1,4 +1,6 @@
 // A whole form in words: one row a line, indented by scope.
+ghost use mathlib.Core.Path.{_≡_};
+ghost use Rattle.view.specs.Shown.{indentOf};
 use crate::parts::CASE;
 use crate::parts::CLOSE;
 use crate::parts::DECL;
@@ -34,7 +36,9 @@ use words::rows::say_row_number;
 use words::say;
 
 // How far a row is indented behind so many open scopes: a field stands in its scope, and what it holds stands in it.
-fn indent_of(code: u8, level: u32) -> u32 {
+fn indent_of(code: u8, level: u32) -> u32
+    ensures { λ r. ⌜ r ≡ indentOf code level ⌝ }
+{
     if level == 0 {
         0
     } else if 32 < level {
