@@ -1,4 +1,6 @@
 // The commands of wnt: each on the program's arguments, and on paths.
+ghost use mathlib.Core.Path.{_≡_};
+ghost use Prim.Native.Nat.{_+_, _*_};
 use crate::files::Loaded;
 use crate::files::load;
 use crate::files::part;
@@ -111,7 +113,10 @@ pub(crate) fn explain_argument() {
     }
 }
 
-fn bytes_of(rows: u32) -> usize {
+// How many bytes a form of so many rows has.
+fn bytes_of(rows: u32) -> usize
+    ensures { λ r. ⌜ r ≡ 8 + 16 * rows ⌝ }
+{
     8 + 16 * (rows as usize)
 }
 

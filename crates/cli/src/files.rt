@@ -1,4 +1,7 @@
 // Files: read whole, and written whole or not at all. `-` is standard input or output.
+ghost use mathlib.Core.Path.{_≡_};
+ghost use lib.ListN.{take};
+ghost use Rattle.cli.specs.Files.{isDash, talkBeside, Fits};
 use libc::STDERR_FILENO;
 use libc::STDIN_FILENO;
 use libc::STDOUT_FILENO;
@@ -13,7 +16,9 @@ pub(crate) enum Loaded {
     Failed,
 }
 
-fn is_dash(path: &[u8]) -> bool {
+fn is_dash(path: &[u8]) -> bool
+    ensures { λ r. ⌜ r ≡ isDash (now (path .entry)) ⌝ }
+{
     if path.len() != 1 {
         return false;
     }
@@ -21,7 +26,9 @@ fn is_dash(path: &[u8]) -> bool {
 }
 
 // Where to say what happened, if the result goes to a path.
-pub(crate) fn talk_beside(path: &[u8]) -> i32 {
+pub(crate) fn talk_beside(path: &[u8]) -> i32
+    ensures { λ r. ⌜ r ≡ talkBeside (now (path .entry)) ⌝ }
+{
     if is_dash(path) {
         STDERR_FILENO
     } else {
@@ -55,7 +62,9 @@ fn is_at_end(file: i32) -> bool {
     libc::read(file, &mut probe) == 0
 }
 
-fn read_whole(file: i32, path: &[u8], form: &mut [u8; 65536], talk: i32) -> Loaded {
+fn read_whole(file: i32, path: &[u8], form: &mut [u8; 65536], talk: i32) -> Loaded
+    ensures { λ r. ⌜ Fits r ⌝ }
+{
     let length = io::read_full(file, form);
     if LARGEST < length {
         say(talk, path);
@@ -73,7 +82,9 @@ fn read_whole(file: i32, path: &[u8], form: &mut [u8; 65536], talk: i32) -> Load
 }
 
 // Reads the file of a path.
-pub(crate) fn load(path: &[u8], form: &mut [u8; 65536], talk: i32) -> Loaded {
+pub(crate) fn load(path: &[u8], form: &mut [u8; 65536], talk: i32) -> Loaded
+    ensures { λ r. ⌜ Fits r ⌝ }
+{
     if is_dash(path) {
         return read_whole(STDIN_FILENO, path, form, talk);
     }
@@ -172,15 +183,19 @@ pub(crate) fn save(path: &[u8], bytes: &[u8], talk: i32) -> bool {
     save_in(&mut buffer, path, bytes, talk)
 }
 
-fn front(bytes: &[u8], length: usize) -> &[u8] {
-    if length <= bytes.len() {
-        &bytes[0..length]
+fn front(bytes: &[u8], count: usize) -> &[u8]
+    ensures { λ r. ⌜ now r ≡ take count (now (bytes .entry)) ⌝ }
+{
+    if count <= bytes.len() {
+        &bytes[0..count]
     } else {
         bytes
     }
 }
 
 // The first bytes of a buffer, so many.
-pub(crate) fn part(buffer: &[u8; 65536], length: usize) -> &[u8] {
-    front(buffer, length)
+pub(crate) fn part(buffer: &[u8; 65536], count: usize) -> &[u8]
+    ensures { λ r. ⌜ now r ≡ take count (now (buffer .entry)) ⌝ }
+{
+    front(buffer, count)
 }

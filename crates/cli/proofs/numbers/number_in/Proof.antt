@@ -1,12 +1,15 @@
--- `cli::numbers::number_in` is safe and ends. The measure is the bytes that are left.
+-- `cli::numbers::number_in` meets its contract. The invariant: the digits from here on make of the number so far what all of them make.
+use mathlib.Core.Path.{_≡_}
 use Prim.Native.Nat.{_-_}
-use lib.ListN.{length}
+use lib.ListN.{length, drop}
+use Rattle.cli.specs.Numbers.{withDigits, numberIn}
 use borrow.Author.Needs.{needs}
+use Rattle.cli.proofs.Laws.{ways}
 use Rattle.cli.proofs.numbers.number_in.Statement.{statement}
 use Rattle.cli.proofs.numbers.number_in.Tie as tie
 
 abbrev Inv-loop : tie.InvT-loop
-Inv-loop text number₀ i₀ number i = Unit {0}
+Inv-loop text number₀ i₀ number i = withDigits (drop i text) number ≡ numberIn text
 
 abbrev μ-loop : tie.MeasureT-loop
 μ-loop text number₀ i₀ number i = length text - i
@@ -17,14 +20,14 @@ number-in-spec =
     (tie.spec
     Inv-loop
     μ-loop
-    (λ c. search needs)  -- returns
-    (λ c. search needs)  -- loop-holds
+    (λ c. search ways)  -- returns
+    (λ c. search ways)  -- loop-holds
     (λ c. search needs)  -- shared-slice-read-with-digit
     (λ c κs. search needs)  -- with-digit-requires
     (λ c. search needs)  -- enum-known-longer
     (λ c. search needs)  -- enum-told
-    (λ c. search needs)  -- returns-2
+    (λ c. search ways)  -- returns-2
     (λ c. search needs)  -- add-i
     (λ c. search needs)  -- loop-less
-    (λ c. search needs)  -- loop-again
-    (λ c. search needs))  -- returns-3
+    (λ c. search ways)  -- loop-again
+    (λ c. search ways))  -- returns-3
