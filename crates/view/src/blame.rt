@@ -24,7 +24,8 @@ use crate::scopes::Found;
 use crate::scopes::Key;
 use crate::scopes::find;
 use crate::scopes::scope_of;
-use shapes::in_four;
+use codes::Spaces;
+use codes::has;
 
 // The row that a refusal's words speak of.
 pub(crate) enum About {
@@ -100,7 +101,7 @@ fn is_no_export(form: &[u8], row: u16) -> bool
 fn is_not_outer(form: &[u8], row: u16) -> bool
     ensures { λ r. ⌜ r ≡ isNotOuter (now (form .entry)) row ⌝ }
 {
-    (code_at(form, row) == REF) & !in_four(b_at(form, row)) & is_far(form, row)
+    (code_at(form, row) == REF) & !has(Spaces::Four, b_at(form, row)) & is_far(form, row)
 }
 
 // Refusal 9: a name that is not declared where it is looked for.

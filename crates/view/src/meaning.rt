@@ -18,7 +18,7 @@ use crate::scopes::Wanted;
 use crate::scopes::find;
 use crate::scopes::scope_of;
 use crate::scopes::scope_outward;
-use shapes::here_only;
+use codes::here_only;
 
 // The DECL row that is meant, its number in its scope, and how many scopes out that is.
 pub(crate) enum Meaning {
