@@ -202,8 +202,8 @@ fn plan_ref(
     }
 }
 
-// The REF in row i of the field that begins at row `from`.
-fn referring(space: u8, at: Index, paths: u32, z: u32, from: usize, i: usize) -> Reference
+// The REF in row i of the field that begins at row `from` of the input.
+pub fn referring(space: u8, at: Index, paths: u32, z: u32, from: usize, i: usize) -> Reference
     ensures { λ r. ⌜ r ≡ record { space = space; at = at; paths = paths; z = z; row = rowNumber from i } ⌝ }
 {
     Reference {

@@ -226,9 +226,9 @@ copy-row Broken field i entered names scopes out s k = refl
 
 module _ (field : List ℕ) (i : ℕ) (entered names : List Slot) (scopes : List (List ℕ)) (out : List ℕ) (s : State) (r : Row) (got : r ≡ rowAt field i) where
   module _ (a : Walked) (o : List ℕ) where
-    pub row-ref : (sp : ℕ) (at : Index) (p z : ℕ) → r ≡ Ref sp at p z → (k : ℕ) → k ≡ rowNumber (s .at) i → (here : List ℕ) → here ≡ innermostT scopes (s .depth) → a & o ≡ refT names here out s (record { space = sp; at = at; paths = p; z = z; row = k }) → a & entered & o ≡ rowT (rowAt field i) field i entered names scopes out s
+    pub row-ref : (sp : ℕ) (at : Index) (p z : ℕ) → r ≡ Ref sp at p z → (ref : Reference) → ref ≡ record { space = sp; at = at; paths = p; z = z; row = rowNumber (s .at) i } → (here : List ℕ) → here ≡ innermostT scopes (s .depth) → a & o ≡ refT names here out s ref → a & entered & o ≡ rowT (rowAt field i) field i entered names scopes out s
     unfolding rowT
-    row-ref sp at p z m k q here h w = rw (← got, m, ← q, ← h) (with-entered entered w)
+    row-ref sp at p z m ref q here h w = rw (← got, m, ← h) (with-entered entered (rw q at w))
 
     pub row-outer : (sp : ℕ) (up at : Index) (z : ℕ) → r ≡ Outer sp up at z → (k : OuterRow) → k ≡ outerRow field sp up at z → a & o ≡ outerT names scopes out s k → a & entered & o ≡ rowT (rowAt field i) field i entered names scopes out s
     unfolding rowT

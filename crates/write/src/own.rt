@@ -18,6 +18,7 @@ use names::slot_at;
 use plan::enter::is_twice;
 use plan::enter::row_number;
 use plan::plan::Reference;
+use plan::plan::referring;
 use put::copy_row;
 use put::put_row;
 use rows::row::FIELD;
@@ -346,13 +347,7 @@ fn write_row(
             paths,
             z,
         } => {
-            let r = Reference {
-                space: space as u32,
-                at,
-                paths,
-                z,
-                row: row_number(s.at, i),
-            };
+            let r = referring(space, at, paths, z, s.at, i);
             write_ref(names, innermost(scopes, s.depth), out, s, r)
         }
         Row::Outer { space, up, at, z } => {

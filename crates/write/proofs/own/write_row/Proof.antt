@@ -14,8 +14,7 @@ write-row-spec =
     (λ c. search ways)  -- returns
     (λ c κs. search needs)  -- row-at-requires
     (λ c. search needs)  -- enum-known-space
-    (λ c. search needs)  -- cast-t22
-    (λ c κs. search needs)  -- row-number-requires
+    (λ c κs. search needs)  -- referring-requires
     (λ c κs. search needs)  -- innermost-requires
     (λ c κs. search needs)  -- write-ref-requires
     (λ c. search needs)  -- enum-known-space-2
