@@ -11,13 +11,11 @@ use crate::numbers::number_in;
 use crate::outcome::Outcome;
 use crate::outcome::outcome_of;
 use libc::STDOUT_FILENO;
+use view::accepted::say_accepted;
 use view::explain::explain;
-use view::parts::inserted_in;
-use view::parts::rows_in;
 use view::refusal::say_refusal;
 use view::show::show;
 use words::say;
-use words::say_number;
 
 // How the program is used.
 pub(crate) fn help() {
@@ -118,14 +116,6 @@ fn bytes_of(rows: u32) -> usize
     ensures { λ r. ⌜ r ≡ 8 + 16 * rows ⌝ }
 {
     8 + 16 * (rows as usize)
-}
-
-fn say_accepted(talk: i32, form: &[u8]) {
-    say(talk, b"accepted: ");
-    say_number(talk, rows_in(form) as u32);
-    say(talk, b" rows, inserted aliases: ");
-    say_number(talk, inserted_in(form));
-    say(talk, b"\n");
 }
 
 fn save_form(form: &[u8], path: &[u8], talk: i32) {

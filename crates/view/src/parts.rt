@@ -126,7 +126,7 @@ pub(crate) fn rows_said(form: &[u8]) -> u32
 }
 
 // How many whole rows stand behind the header, at most 65,535.
-pub fn rows_in(form: &[u8]) -> u16
+pub(crate) fn rows_in(form: &[u8]) -> u16
     ensures { λ r. ⌜ r ≡ rowsIn (now (form .entry)) ⌝ }
 {
     if form.len() < 8 {
@@ -185,7 +185,7 @@ pub(crate) fn counted(count: u32, more: bool) -> u32
 }
 
 // How many fields of a form are inserted: each has one DECL.
-pub fn inserted_in(form: &[u8]) -> u32
+pub(crate) fn inserted_in(form: &[u8]) -> u32
     ensures { λ r. ⌜ r ≡ insertedIn (now (form .entry)) ⌝ }
 {
     let rows = rows_in(form);
