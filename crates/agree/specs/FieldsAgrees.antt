@@ -22,14 +22,13 @@ use Rattle.rules.specs.Laws.Meaning.Runs.{head-grown}
 use Rattle.rules.specs.Laws.Output.FourTimes.{inner, item-size, fields-size}
 use Rattle.rules.specs.Laws.Output.Counts.{deep}
 use Rattle.rows.specs.Taken.{codeAt}
-use Rattle.names.specs.Table.{Slot}
+use Rattle.names.specs.Table.{Slot, innermostT}
 use Rattle.names.specs.Stands.{Envs, Below}
 use Rattle.names.proofs.Storey.{between-kept, envs-kept}
 use Rattle.plan.specs.Enter.{rowNumber}
 use Rattle.write.specs.declared.alias.State.{State}
 use Rattle.write.specs.declared.alias.Walked.the-variants.{Done}
 use Rattle.write.specs.State.{begunT, putThen}
-use Rattle.write.specs.Own.{innermostT}
 use Rattle.walk.specs.Walk.{Wrote₃, wroteThen₃, fieldT, closedT, endedT, fieldsT, scopeT}
 use Rattle.agree.specs.At.{Is, At, putAll}
 use Rattle.agree.specs.AtLaws.{at-left, at-right, at-head, row-number, code-is}

@@ -16,14 +16,14 @@ use Rattle.rules.specs.Shapes.{hereOnly}
 use Rattle.rules.specs.Rules.{Result, refused, ok, _>>=_, Env, fresh, Expanded, as-it-is, expandOperands, expandHead, headsDecls, resolveInserted, resolveHead}
 use Rattle.rules.specs.Laws.Results.{ok-same, bind-inv}
 use Rattle.rows.specs.Taken.{taken}
-use Rattle.names.specs.Table.{Slot, scopeAt}
+use Rattle.names.specs.Table.{Slot, scopeAt, innermostT}
 use Rattle.names.specs.Stands.{Opens, Envs}
 use Rattle.plan.specs.Views.{fieldCode}
 use Rattle.plan.specs.Plan.{fieldCodeT}
 use Rattle.write.specs.declared.alias.State.{State}
 use Rattle.write.specs.declared.alias.Walked.the-variants.{Refused}
 use Rattle.write.specs.State.{Wrote, wroteThen}
-use Rattle.write.specs.Own.{Wrote₂, innermostT}
+use Rattle.write.specs.Own.{Wrote₂}
 use Rattle.walk.specs.Walk.{insertedT, headT}
 use Rattle.agree.specs.At.{Is, At}
 use Rattle.agree.specs.AtLaws.{at-head, at-right, at-tail}

@@ -16,11 +16,11 @@ use Rattle.rules.specs.Rules.{Result, refused, ok, _>>=_, Env, fresh, Expanded,
 use Rattle.rules.specs.Laws.Output.FourTimes.{inner, item-size}
 use Rattle.rows.specs.Taken.{codeAt}
 use Rattle.form.specs.Part.{fieldRows}
-use Rattle.names.specs.Table.{Slot}
+use Rattle.names.specs.Table.{Slot, innermostT}
 use Rattle.write.specs.declared.alias.State.{State}
 use Rattle.write.specs.declared.alias.Walked.the-variants.{Done}
 use Rattle.write.specs.State.{arrivedT, atDepthT, afterScopeT}
-use Rattle.write.specs.Own.{Wrote₂, wroteThen₂, innermostT}
+use Rattle.write.specs.Own.{Wrote₂, wroteThen₂}
 use Rattle.walk.specs.Walk.{wroteThen₃, stops₃, headT, fieldT, scopeT}
 use Rattle.agree.specs.At.{At, putAll}
 use Rattle.agree.specs.AtLaws.{at-right, at-head, at-fits, part-at, part-size, code-is}

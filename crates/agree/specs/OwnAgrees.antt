@@ -16,13 +16,13 @@ use Rattle.rules.specs.Tree.{Declaration, Operand, ref, outer, case, Head, with
 use Rattle.rules.specs.Rules.{Result, refused, ok, _>>=_, Env, orRefused, numberIn, resolveOuter, resolveOperands, resolveHead}
 use Rattle.rows.specs.Taken.{taken, asIndex, rowAt}
 use Rattle.put.specs.Put.{putRow}
-use Rattle.names.specs.Table.{Slot}
+use Rattle.names.specs.Table.{Slot, innermostT}
 use Rattle.names.specs.Stands.{Envs}
 use Rattle.plan.specs.Enter.{rowNumber, enteredSlot}
 use Rattle.write.specs.declared.alias.State.{State}
 use Rattle.write.specs.declared.alias.Walked.the-variants.{Done, Refused}
 use Rattle.write.specs.State.{writtenT, arrivedT, putThen}
-use Rattle.write.specs.Own.{Wrote₂, wroteThen₂, stops₂, numberedT, refT, outerT, caseT, declT, copyT, innermostT, placeOf, withT, doneWithT, rowT, ownT}
+use Rattle.write.specs.Own.{Wrote₂, wroteThen₂, stops₂, numberedT, refT, outerT, caseT, declT, copyT, placeOf, withT, doneWithT, rowT, ownT}
 use Rattle.agree.specs.At.{Is, At, putAll}
 use Rattle.agree.specs.AtLaws.{at-right, at-tail, rowCode, code-is, row-number}
 use Rattle.agree.specs.Slots.{declSlots}

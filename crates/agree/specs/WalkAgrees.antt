@@ -16,14 +16,13 @@ use Rattle.rules.specs.Laws.Meaning.Names.{LowFields}
 use Rattle.rules.specs.Laws.Meaning.Runs.{prepared}
 use Rattle.rules.specs.Laws.Output.Counts.{own, deep, rows-split, scope-split, prepare-counts}
 use Rattle.rows.specs.Taken.{taken}
-use Rattle.names.specs.Table.{Slot, noScope}
+use Rattle.names.specs.Table.{Slot, noScope, innermostT}
 use Rattle.names.specs.Stands.{Stands}
 use Rattle.names.proofs.Storey.{envs-kept, below-more, envs-push, below-push}
 use Rattle.plan.specs.Enter.{rowNumber}
 use Rattle.plan.specs.declared.plan.Planned.{Planned}
 use Rattle.write.specs.declared.alias.State.{State}
 use Rattle.write.specs.State.{begunT, putThen}
-use Rattle.write.specs.Own.{innermostT}
 use Rattle.walk.specs.Walk.{beginT, openName, fieldsT, insideT, scopedT, scopeT}
 use Rattle.agree.specs.At.{At, putAll}
 use Rattle.agree.specs.AtLaws.{at-head, at-tail, at-behind, row-number}

@@ -15,12 +15,12 @@ use Rattle.rules.specs.Laws.Meaning.Names.{LowScope, LowFields, LowItem}
 use Rattle.rules.specs.Laws.Output.FourTimes.{inner}
 use Rattle.rules.specs.Laws.Output.Counts.{deep}
 use Rattle.rows.specs.Taken.{codeAt}
-use Rattle.names.specs.Table.{Slot}
+use Rattle.names.specs.Table.{Slot, innermostT}
 use Rattle.names.specs.Stands.{Envs, Below}
 use Rattle.write.specs.declared.alias.State.{State}
 use Rattle.write.specs.declared.alias.Walked.the-variants.{Done, Refused}
 use Rattle.write.specs.State.{begunT}
-use Rattle.write.specs.Own.{Wrote₂, wroteThen₂, innermostT}
+use Rattle.write.specs.Own.{Wrote₂, wroteThen₂}
 use Rattle.walk.specs.Walk.{Wrote₃, wroteThen₃, stops₃, fieldT, fieldsT, scopeT}
 use Rattle.agree.specs.At.{At, putAll}
 use Rattle.form.specs.Ends.{Ends, Inside, EndsIn}

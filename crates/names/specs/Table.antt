@@ -51,6 +51,10 @@ noScope = replicate 3 0
 abbrev pub scopeAt : List (List ℕ) → ℕ → List ℕ
 scopeAt scopes k = getD scopes k noScope
 
+-- the innermost of so many open scopes
+unfoldable pub innermostT : (scopes : List (List ℕ)) (depth : ℕ) → List ℕ
+innermostT scopes depth = pick (eqb depth 0) noScope (scopeAt scopes (depth - 1))
+
 -- the slots of a scope
 unfoldable pub slotsIn : List Slot → (scope : List ℕ) → List Slot
 slotsIn table scope = between (getD scope 1 0) (getD scope 2 0) table

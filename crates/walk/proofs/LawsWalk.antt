@@ -17,7 +17,7 @@ use Rattle.put.specs.Put.{copyRow}
 use Rattle.rows.specs.declared.row.Row.{Row}
 use Rattle.rows.specs.declared.row.Row.the-variants.{Open}
 use Rattle.form.specs.Part.{fieldRows}
-use Rattle.names.specs.Table.{Slot}
+use Rattle.names.specs.Table.{Slot, innermostT}
 use Rattle.plan.specs.Enter.{rowNumber, enterFieldsT}
 use Rattle.plan.specs.Plan.{fieldCodeT}
 use Rattle.plan.specs.Plan as plan
@@ -31,7 +31,7 @@ use Rattle.write.specs.declared.alias.Walked.{Walked}
 use Rattle.write.specs.declared.alias.Walked.the-variants.{Done, Refused}
 use Rattle.write.specs.State.{begunT, atDepthT, afterScopeT, Wrote}
 use Rattle.write.specs.Alias.{aliasesT}
-use Rattle.write.specs.Own.{innermostT, Wrote₂, ownT}
+use Rattle.write.specs.Own.{Wrote₂, ownT}
 use Rattle.walk.specs.Walk.{Wrote₃, insertedT, headT, besideT, plannedT, beginT, openName, wroteThen₃, fieldT, closeT, closedT, endedT, fieldsT, scopedT, scopeT}
 use Rattle.walk.proofs.Else.{not-open}
 use Rattle.write.proofs.LawsAlias.{put-then, wrote-done, wrote-stop}

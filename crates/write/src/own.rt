@@ -11,6 +11,7 @@ use names::Named;
 use names::Scope;
 use names::Slot;
 use names::find;
+use names::innermost;
 use names::push;
 use names::scope_at;
 use names::scope_named;
@@ -34,7 +35,7 @@ ghost use Rattle.kit.specs.Out.{_&_};
 ghost use Rattle.rows.specs.Taken.{rowAt};
 ghost use Rattle.names.specs.Table.{namedFrom};
 ghost use Rattle.write.specs.State.{writtenT, arrivedT};
-ghost use Rattle.write.specs.Own.{aheadT, nameNumberT, refNumberT, refT, indexOutT, scopeOutT, outerNumbersT, outerT, caseT, declT, copyT, innermostT, placeOf, outerRow, rowT, ownT};
+ghost use Rattle.write.specs.Own.{aheadT, nameNumberT, refNumberT, refT, indexOutT, scopeOutT, outerNumbersT, outerT, caseT, declT, copyT, placeOf, outerRow, rowT, ownT};
 
 // The other refusals of step C.
 const UNKNOWN_SCOPE: u32 = 10;
@@ -313,16 +314,6 @@ fn write_copy(field: &[u8], i: usize, out: &mut [u8], s: State) -> Walked
 {
     let to = copy_row(field, i, out, s.to);
     Walked::Done(written(s, to))
-}
-
-// The innermost of the open scopes.
-pub fn innermost(scopes: &[Scope], depth: usize) -> Scope
-    ensures { λ r. ⌜ r ≡ innermostT (now (scopes .entry)) depth ⌝ }
-{
-    if depth == 0 {
-        return [0; 3];
-    }
-    scope_at(scopes, depth - 1)
 }
 
 // One row of the field: names become numbers, PATHs go, and the others stay.
