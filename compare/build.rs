@@ -5,6 +5,7 @@ use std::env;
 use std::fmt::Write as _;
 use std::fs;
 use std::path::{Path, PathBuf};
+use std::process::Command;
 
 mod planted;
 
@@ -17,8 +18,12 @@ fn main() {
     println!("cargo:rerun-if-changed=planted.rs");
     let source = folder("WAST_SRC", "../../shared/docs/src", "the supplied source of the crate").join("src");
     let library = folder("WNT_LIB_DIR", "../target/staticlib", "what `rt staticlib resolver` writes");
-    link(&library);
     let out = PathBuf::from(env::var("OUT_DIR").expect("cargo sets OUT_DIR"));
+    if env::var("CARGO_CFG_TARGET_ARCH").as_deref() == Ok("x86_64") {
+        link(&library);
+    } else {
+        build_answers(&library, &out);
+    }
     write(&out.join("crate_files.rs"), &crate_files(&source));
     write(&out.join("keywords.rs"), &names_after(&source, "kw::"));
     write(&out.join("annotations.rs"), &names_after(&source, "annotation::"));
@@ -39,6 +44,24 @@ fn link(library: &Path) {
     println!("cargo:rerun-if-changed={}", library.join("libresolver.a").display());
     println!("cargo:rustc-link-search=native={}", library.display());
     println!("cargo:rustc-link-lib=static=resolver");
+}
+
+/// On another processor than the library's: the program that answers in its place, made by a compiler for x86-64.
+fn build_answers(library: &Path, out: &Path) {
+    println!("cargo:rerun-if-changed=answers.c");
+    println!("cargo:rerun-if-env-changed=WNT_CC");
+    let archive = library.join("libresolver.a");
+    println!("cargo:rerun-if-changed={}", archive.display());
+    let compiler = env::var("WNT_CC").unwrap_or_else(|_| "x86_64-linux-gnu-gcc".to_string());
+    let program = out.join("answers");
+    let built = Command::new(&compiler).args(["-O2", "answers.c"]).arg(archive).arg("-o").arg(&program).status();
+    match built {
+        Ok(status) => assert!(status.success(), "{compiler} could not build answers.c"),
+        Err(problem) => {
+            panic!("the library is for x86-64, and WNT_CC is to name a C compiler for it: {compiler}: {problem}")
+        }
+    }
+    println!("cargo:rustc-env=WNT_ANSWERS={}", program.display());
 }
 
 /// Modules whose text is the crate's own files, where they stand.

@@ -6,6 +6,7 @@
  *   target/resolve-c examples/driver/driver.wnt
  *   target/resolve-c examples/driver/driver.wnt target/driver-resolved.wnt
  *
+ * The library is for x86-64: on an Arm machine take x86_64-linux-gnu-gcc for cc, and put tools/run before target/resolve-c.
  * The exit status is 0 if the form was resolved, and OUT written, else 1. A refused form leaves OUT alone. */
 #include <inttypes.h>
 #include <stdio.h>
