@@ -91,7 +91,7 @@ fn declare(names: &mut [Slot], counts: &mut [u32], used: usize, slot: Slot) -> u
 fn insert(
     names: &mut [Slot],
     counts: &mut [u32],
-    plan: Plan,
+    mut plan: Plan,
     space: u32,
     row: u32,
     out: u32,
@@ -100,14 +100,9 @@ fn insert(
     ensures { λ r. ⌜ (r & now (names .exit) & now (counts .exit)) ≡ insertT (now (names .entry)) (now (counts .entry)) plan space row out index ⌝ }
 {
     let fresh = plan.fresh;
-    let used = declare(names, counts, plan.used, [space, fresh, 0, row, out, index]);
-    Plan {
-        at: plan.at,
-        entered: plan.entered,
-        depth: plan.depth,
-        used,
-        fresh: wrapping_add_u32(fresh, 1),
-    }
+    plan.used = declare(names, counts, plan.used, [space, fresh, 0, row, out, index]);
+    plan.fresh = wrapping_add_u32(fresh, 1);
+    plan
 }
 
 // One alias for each PATH: all but the last are of instances.
@@ -322,14 +317,9 @@ fn plan_field(
     match plan_insertions(field, entered, names, scopes, counts, plan) {
         Planned::Refused(number, place) => Planned::Refused(number, place),
         Planned::Done(p) => {
-            let used = plan_decls(field, names, counts, p.at, p.used);
-            Planned::Done(Plan {
-                at: p.at,
-                entered: p.entered,
-                depth: p.depth,
-                used,
-                fresh: p.fresh,
-            })
+            let mut next = p;
+            next.used = plan_decls(field, names, counts, p.at, p.used);
+            Planned::Done(next)
         }
     }
 }

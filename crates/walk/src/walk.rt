@@ -197,65 +197,38 @@ fn field_walk(
 }
 
 // A field begins where so many scopes are open: its inserted slots are the scope's next, and none of its cases was seen.
-fn begun(s: State, depth: usize) -> State
+fn begun(mut s: State, depth: usize) -> State
     ensures { λ r. ⌜ (r ≡ begunT s depth) × (r .depth ≡ depth) ⌝ }
 {
-    State {
-        at: s.at,
-        to: s.to,
-        used: s.used,
-        fresh: s.fresh,
-        depth,
-        next: s.next,
-        alias: s.next,
-        seen: 0,
-    }
+    s.depth = depth;
+    s.alias = s.next;
+    s.seen = 0;
+    s
 }
 
 // The same state where so many scopes are open.
-fn at_depth(s: State, depth: usize) -> State
+fn at_depth(mut s: State, depth: usize) -> State
     ensures { λ r. ⌜ (r ≡ atDepthT s depth) × (r .depth ≡ depth) ⌝ }
 {
-    State {
-        at: s.at,
-        to: s.to,
-        used: s.used,
-        fresh: s.fresh,
-        depth,
-        next: s.next,
-        alias: s.alias,
-        seen: s.seen,
-    }
+    s.depth = depth;
+    s
 }
 
 // The CLOSE of a scope.
-fn closed(rows: &[u8], out: &mut [u8], s: State) -> State
+fn closed(rows: &[u8], out: &mut [u8], mut s: State) -> State
     ensures { λ r. ⌜ (r & now (out .exit)) ≡ closeT (now (rows .entry)) (now (out .entry)) s ⌝ }
 {
-    State {
-        at: row_number(s.at, 1) as usize,
-        to: copy_row(rows, s.at, out, s.to),
-        used: s.used,
-        fresh: s.fresh,
-        depth: s.depth,
-        next: s.next,
-        alias: s.alias,
-        seen: s.seen,
-    }
+    s.to = copy_row(rows, s.at, out, s.to);
+    s.at = row_number(s.at, 1) as usize;
+    s
 }
 
 // Where the scope inside a field has ended: its slots are free again.
-fn after_scope(before: State, inside: State) -> State
+fn after_scope(mut before: State, inside: State) -> State
     ensures { λ r. ⌜ r ≡ afterScopeT before inside ⌝ }
 {
-    State {
-        at: inside.at,
-        to: inside.to,
-        used: before.used,
-        fresh: inside.fresh,
-        depth: before.depth,
-        next: before.next,
-        alias: before.alias,
-        seen: before.seen,
-    }
+    before.at = inside.at;
+    before.to = inside.to;
+    before.fresh = inside.fresh;
+    before
 }

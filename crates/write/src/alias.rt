@@ -149,16 +149,13 @@ fn write_export(out: &mut [u8], to: usize, slot: Slot, chain: Chain, export: u32
 }
 
 // One PATH on: the alias just written is the next one's instance.
-fn chain_on(chain: Chain, instance: u32) -> Chain
+fn chain_on(mut chain: Chain, instance: u32) -> Chain
     requires { ⌜ 0 < chain .left ⌝ }
     ensures { λ r. ⌜ r ≡ chainOn chain instance ⌝ }
 {
-    Chain {
-        of: chain.of,
-        instance,
-        left: chain.left - 1,
-        z: chain.z,
-    }
+    chain.instance = instance;
+    chain.left -= 1;
+    chain
 }
 
 // One alias for each PATH, from row i of the field on.
@@ -194,19 +191,12 @@ fn write_chain(
 }
 
 // One slot passed, `to` rows written.
-pub(crate) fn passed(names: &[Slot], s: State, to: usize) -> State
+pub(crate) fn passed(names: &[Slot], mut s: State, to: usize) -> State
     ensures { λ r. ⌜ r ≡ passedT (now (names .entry)) s to ⌝ }
 {
-    State {
-        at: s.at,
-        to,
-        used: s.used,
-        fresh: s.fresh,
-        depth: s.depth,
-        next: following(names, s.next),
-        alias: s.alias,
-        seen: s.seen,
-    }
+    s.to = to;
+    s.next = following(names, s.next);
+    s
 }
 
 // The space of the instances that a chain to a space goes through.

@@ -100,13 +100,14 @@ fn ref_number(names: &[Slot], here: Scope, alias: usize, r: Reference) -> Number
     }
 }
 
-fn write_ref(names: &[Slot], here: Scope, out: &mut [u8], s: State, r: Reference) -> Walked
+fn write_ref(names: &[Slot], here: Scope, out: &mut [u8], mut s: State, r: Reference) -> Walked
     ensures { λ a. ⌜ (a & now (out .exit)) ≡ refT (now (names .entry)) here (now (out .entry)) s r ⌝ }
 {
     match ref_number(names, here, s.alias, r) {
         Numbered::Unknown => Walked::Refused(UNKNOWN_NAME, r.z),
         Numbered::Is { number, alias } => {
-            let to = put_row(
+            s.alias = alias;
+            s.to = put_row(
                 out,
                 s.to,
                 Row::Ref {
@@ -116,16 +117,7 @@ fn write_ref(names: &[Slot], here: Scope, out: &mut [u8], s: State, r: Reference
                     z: r.z,
                 },
             );
-            Walked::Done(State {
-                at: s.at,
-                to,
-                used: s.used,
-                fresh: s.fresh,
-                depth: s.depth,
-                next: s.next,
-                alias,
-                seen: s.seen,
-            })
+            Walked::Done(s)
         }
     }
 }
@@ -210,35 +202,19 @@ fn write_outer(names: &[Slot], scopes: &[Scope], out: &mut [u8], s: State, o: Ou
 }
 
 // The same state with `to` rows written.
-fn written(s: State, to: usize) -> State
+fn written(mut s: State, to: usize) -> State
     ensures { λ r. ⌜ r ≡ writtenT s to ⌝ }
 {
-    State {
-        at: s.at,
-        to,
-        used: s.used,
-        fresh: s.fresh,
-        depth: s.depth,
-        next: s.next,
-        alias: s.alias,
-        seen: s.seen,
-    }
+    s.to = to;
+    s
 }
 
 // The same state at another input row.
-fn arrived(s: State, at: usize) -> State
+fn arrived(mut s: State, at: usize) -> State
     ensures { λ r. ⌜ r ≡ arrivedT s at ⌝ }
 {
-    State {
-        at,
-        to: s.to,
-        used: s.used,
-        fresh: s.fresh,
-        depth: s.depth,
-        next: s.next,
-        alias: s.alias,
-        seen: s.seen,
-    }
+    s.at = at;
+    s
 }
 
 // The place of a field: its FIELD's z.

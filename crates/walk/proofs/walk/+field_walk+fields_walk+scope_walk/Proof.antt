@@ -174,12 +174,12 @@ pub +field-walk+fields-walk+scope-walk-spec : {M : Type 1} → statement M
     (λ c. search needs)  -- scope-walk-enum-known-number
     (λ c. search needs)  -- scope-walk-enum-known-p
     (λ c κs. search needs)  -- scope-walk-scope-name-requires
-    (λ c. search needs)  -- scope-walk-mul-stack
-    (λ c. search needs)  -- scope-walk-array-set-from-stack
+    (λ c. search needs)  -- scope-walk-mul-scopes
+    (λ c. search needs)  -- scope-walk-array-set-from-scopes
     (λ c κs. search needs)  -- scope-walk-copy-row-requires
     (λ c κs. search needs)  -- scope-walk-row-number-requires
-    (λ c. search needs)  -- scope-walk-cast-t26
-    (λ c. search needs)  -- scope-walk-add-t28
+    (λ c. search needs)  -- scope-walk-cast-t24
+    (λ c. search needs)  -- scope-walk-add-t26
     (λ c κs. search needs)  -- scope-walk-fields-walk-requires
     (λ c. search needs)  -- scope-walk-same-length
     (λ c. search needs)  -- scope-walk-same-length-2

@@ -25,16 +25,16 @@ write-row-spec =
     (λ c. search needs)  -- enum-told
     (λ c κs. search needs)  -- write-decl-requires
     (λ c. search needs)  -- enum-told-2
-    (λ c κs. search needs)  -- write-copy-requires
-    (λ c. search needs)  -- same-length
-    (λ c. search ways)  -- returns
+    (λ c κs. search needs)  -- write-copy-requires-2
     (λ c. search needs)  -- same-length-2
     (λ c. search ways)  -- returns-2
     (λ c. search needs)  -- same-length-3
-    (λ c. search needs)  -- same-length-4
     (λ c. search ways)  -- returns-3
+    (λ c. search needs)  -- same-length-4
     (λ c. search needs)  -- same-length-5
     (λ c. search ways)  -- returns-4
-    (λ c. search ways)  -- returns-5
     (λ c. search needs)  -- same-length-6
-    (λ c. search ways))  -- returns-6
+    (λ c. search ways)  -- returns-5
+    (λ c. search ways)  -- returns-6
+    (λ c. search needs)  -- same-length-7
+    (λ c. search ways))  -- returns-7
