@@ -13,6 +13,7 @@ mod recognise;
 mod reduce;
 mod rows;
 mod run;
+mod samples;
 #[cfg(feature = "planted")]
 mod sensitivity;
 mod shapes;
@@ -28,6 +29,7 @@ mod vectors;
 use standins::error::Error;
 use standins::{annotation, core, kw, lexer, parser};
 use std::io::Write as _;
+use std::path::Path;
 use std::process::ExitCode;
 
 include!(concat!(env!("OUT_DIR"), "/crate_files.rs"));
@@ -38,7 +40,8 @@ compare --sensitivity [--seed S]               plant changes on both sides and s
                                                (built with --features planted)
 compare --vectors N [--seed S] > FILE          write fixed vectors, at most N of each refusal
 compare --bench FILE [--repetitions N]         time both sides; the picture goes to FILE as SVG
-compare --shapes FOLDER                        write the benchmark's forms of about 1,000 rows, for a profiler";
+compare --shapes FOLDER                        write the benchmark's forms of about 1,000 rows, for a profiler
+compare --samples FOLDER [--forms N]           write accepted random forms and their outputs, for readings.py";
 
 /// The value after `--name`, read as a number.
 fn number(arguments: &[String], name: &str) -> Option<u64> {
@@ -89,19 +92,25 @@ fn bench(arguments: &[String], file: &str) -> bool {
     }
     let repetitions = number(arguments, "--repetitions").unwrap_or(1001);
     let picture = bench::run(repetitions as usize);
-    let written = std::fs::write(file, picture);
+    is_written(file, std::fs::write(file, picture))
+}
+
+/// Whether a file or folder could be written; if not, why.
+fn is_written(path: &str, written: std::io::Result<()>) -> bool {
     if let Err(problem) = &written {
-        eprintln!("{file}: {problem}");
+        eprintln!("{path}: {problem}");
     }
     written.is_ok()
 }
 
 fn write_shapes(folder: &str) -> bool {
-    let written = bench::write_forms(std::path::Path::new(folder));
-    if let Err(problem) = &written {
-        eprintln!("{folder}: {problem}");
-    }
-    written.is_ok()
+    is_written(folder, bench::write_forms(Path::new(folder)))
+}
+
+fn write_samples(arguments: &[String], folder: &str) -> bool {
+    let count = number(arguments, "--forms").unwrap_or(1000);
+    let seed = number(arguments, "--seed").unwrap_or(1);
+    is_written(folder, samples::write_to(Path::new(folder), &comparison(), seed, count))
 }
 
 fn main() -> ExitCode {
@@ -111,6 +120,8 @@ fn main() -> ExitCode {
         bench(&arguments, file)
     } else if let Some(folder) = value(&arguments, "--shapes") {
         write_shapes(folder)
+    } else if let Some(folder) = value(&arguments, "--samples") {
+        write_samples(&arguments, folder)
     } else if let Some(count) = number(&arguments, "--vectors") {
         write_vectors(&arguments, count)
     } else if has("--sensitivity") {
