@@ -1,11 +1,11 @@
 // Files: read whole, and written whole or not at all. `-` is standard input or output.
-ghost use mathlib.Core.Path.{_≡_};
-ghost use lib.ListN.{take};
-ghost use Rattle.cli.specs.Files.{isDash, talkBeside, Fits};
 use libc::STDERR_FILENO;
 use libc::STDIN_FILENO;
 use libc::STDOUT_FILENO;
 use words::say;
+ghost use mathlib.Core.Path.{_≡_};
+ghost use lib.ListN.{take};
+ghost use Rattle.cli.specs.Files.{isDash, talkBeside, Fits};
 
 // The most bytes that a form has: those of an output of 4,092 rows.
 const LARGEST: usize = 65480;

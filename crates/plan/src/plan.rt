@@ -34,6 +34,11 @@ const NOT_OUTER: u32 = 8;
 // The code that no field has.
 const NO_FIELD: u8 = 0;
 
+// The spaces of core items that cannot be exported.
+const CORE_TYPE: u32 = 4;
+
+const CORE_INSTANCE: u32 = 6;
+
 // The space of instances, which every PATH but the last leads to.
 const INSTANCE: u32 = 10;
 
@@ -171,6 +176,7 @@ fn plan_name(
     }
 }
 
+// A REF: an alias for each of its PATHs; without PATHs, a number stays and a name is walked.
 fn plan_ref(
     entered: &[Slot],
     names: &mut [Slot],
@@ -182,10 +188,10 @@ fn plan_ref(
     ensures { λ a. ⌜ (a & now (names .exit) & now (counts .exit)) ≡ refT (now (entered .entry)) (now (names .entry)) (now (scopes .entry)) (now (counts .entry)) plan r ⌝ }
 {
     if 0 < r.paths {
-        if r.space == 4 {
+        if r.space == CORE_TYPE {
             return Planned::Refused(NOT_EXPORTED, r.z);
         }
-        if r.space == 6 {
+        if r.space == CORE_INSTANCE {
             return Planned::Refused(NOT_EXPORTED, r.z);
         }
         return Planned::Done(plan_paths(names, counts, plan, r.space, r.paths, r.row));

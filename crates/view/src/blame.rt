@@ -1,12 +1,4 @@
 // The row that a refusal is about.
-ghost use mathlib.Core.Path.{_≡_};
-ghost use mathlib.Core.Bool.{_&&_};
-ghost use mathlib.Core.List.{[], _∷_};
-ghost use lib.Dec.{eqb};
-ghost use Rattle.rules.specs.Tools.{isIn};
-ghost use Rattle.view.specs.Parts.{rowsIn};
-ghost use Rattle.view.specs.Meaning.{meaningOf};
-ghost use Rattle.view.specs.Blame.{declaredBefore, isNowhere, isOut, isTwice, isNoExport, isNotOuter, isUnknown, isAbout, isBlamed, rowAbout, spaceAbout};
 use crate::meaning::Meaning;
 use crate::meaning::meaning_of;
 use crate::meaning::space_sought;
@@ -26,6 +18,14 @@ use crate::scopes::find;
 use crate::scopes::scope_of;
 use codes::Spaces;
 use codes::has;
+ghost use mathlib.Core.Path.{_≡_};
+ghost use mathlib.Core.Bool.{_&&_};
+ghost use mathlib.Core.List.{[], _∷_};
+ghost use lib.Dec.{eqb};
+ghost use Rattle.rules.specs.Tools.{isIn};
+ghost use Rattle.view.specs.Parts.{rowsIn};
+ghost use Rattle.view.specs.Meaning.{meaningOf};
+ghost use Rattle.view.specs.Blame.{declaredBefore, isNowhere, isOut, isTwice, isNoExport, isNotOuter, isUnknown, isAbout, isBlamed, rowAbout, spaceAbout};
 
 // The row that a refusal's words speak of.
 pub(crate) enum About {

@@ -1,6 +1,4 @@
 // What a reference means: by the outward reading where it is a name, by counting where it is a number.
-ghost use mathlib.Core.Path.{_≡_};
-ghost use Rattle.view.specs.Meaning.{spaceSought, isWalked, readingOf, isOutward, inScope, outwardFor, outerWanted, indexKey, throughOuter, keyOf, meaningOf, isInsertedOuter};
 use crate::parts::OUTER;
 use crate::parts::REF;
 use crate::parts::b_at;
@@ -19,6 +17,8 @@ use crate::scopes::find;
 use crate::scopes::scope_of;
 use crate::scopes::scope_outward;
 use codes::here_only;
+ghost use mathlib.Core.Path.{_≡_};
+ghost use Rattle.view.specs.Meaning.{spaceSought, isWalked, readingOf, isOutward, inScope, outwardFor, outerWanted, indexKey, throughOuter, keyOf, meaningOf, isInsertedOuter};
 
 // The DECL row that is meant, its number in its scope, and how many scopes out that is.
 pub(crate) enum Meaning {

@@ -1,11 +1,11 @@
 // The rows of a form, read with guards: what lies past the end is 0, so that any bytes can be looked at.
+use words::names::FIRST_FRESH;
 ghost use mathlib.Core.Path.{_≡_};
 ghost use Prim.Native.Nat.{_+_, _<_, _≤_};
 ghost use lib.ListN.{getD};
 ghost use Rattle.kit.specs.Pick.{pick};
 ghost use Rattle.rows.specs.Apart.{two, four};
 ghost use Rattle.view.specs.Parts.{startOf, codeAt, bAt, eAt, xAt, yAt, zAt, beginsWnt, hasHeader, rowsIn, isInserted, isReference, nextOf, fieldOf, insertedIn};
-use words::names::FIRST_FRESH;
 
 pub(crate) const FIELD: u8 = 1;
 

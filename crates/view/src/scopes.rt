@@ -1,11 +1,6 @@
 // Scopes and what they declare, found by going through the rows.
 //
 // A scope is known by its first row, the one behind its OPEN. The rows outside every OPEN have 0 for theirs.
-ghost use mathlib.Core.Path.{_≡_};
-ghost use mathlib.Core.Bool.{_&&_};
-ghost use Prim.Native.Nat.{_+_, _-_, _<_, _≤_};
-ghost use lib.Dec.{eqb};
-ghost use Rattle.view.specs.Scopes.{levelBehind, levelAbove, scopeOf, declares, isMeant, findIn, numberOf, declaresName, isWanted, scopeOutward};
 use crate::parts::CLOSE;
 use crate::parts::DECL;
 use crate::parts::OPEN;
@@ -14,6 +9,11 @@ use crate::parts::code_at;
 use crate::parts::counted;
 use crate::parts::rows_in;
 use crate::parts::x_at;
+ghost use mathlib.Core.Path.{_≡_};
+ghost use mathlib.Core.Bool.{_&&_};
+ghost use Prim.Native.Nat.{_+_, _-_, _<_, _≤_};
+ghost use lib.Dec.{eqb};
+ghost use Rattle.view.specs.Scopes.{levelBehind, levelAbove, scopeOf, declares, isMeant, findIn, numberOf, declaresName, isWanted, scopeOutward};
 
 // What a declaration is looked for by.
 pub(crate) enum Key {

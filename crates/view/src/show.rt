@@ -1,6 +1,4 @@
 // A whole form in words: one row a line, indented by scope.
-ghost use mathlib.Core.Path.{_≡_};
-ghost use Rattle.view.specs.Shown.{indentOf};
 use crate::parts::CASE;
 use crate::parts::CLOSE;
 use crate::parts::DECL;
@@ -34,6 +32,8 @@ use words::rows::say_header;
 use words::rows::say_place;
 use words::rows::say_row_number;
 use words::say;
+ghost use mathlib.Core.Path.{_≡_};
+ghost use Rattle.view.specs.Shown.{indentOf};
 
 // How far a row is indented behind so many open scopes: a field stands in its scope, and what it holds stands in it.
 fn indent_of(code: u8, level: u32) -> u32

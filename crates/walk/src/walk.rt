@@ -50,6 +50,7 @@ fn write_head(
     }
 }
 
+// What step B inserted before a field.
 fn write_inserted(field: &[u8], names: &[Slot], here: Scope, out: &mut [u8], s: State) -> Walked
     ensures { λ r. ⌜ (r & now (out .exit)) ≡ insertedT (now (field .entry)) (now (names .entry)) here (now (out .entry)) s ⌝ }
 {

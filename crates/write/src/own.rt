@@ -83,6 +83,7 @@ fn name_number(names: &[Slot], here: Scope, alias: usize, r: Reference, name: u3
     }
 }
 
+// The number of a REF: with PATHs, that of its last alias.
 fn ref_number(names: &[Slot], here: Scope, alias: usize, r: Reference) -> Numbered
     ensures { λ a. ⌜ a ≡ refNumberT (now (names .entry)) here alias r ⌝ }
 {
@@ -100,6 +101,7 @@ fn ref_number(names: &[Slot], here: Scope, alias: usize, r: Reference) -> Number
     }
 }
 
+// A REF: its number takes the place of name and PATHs.
 fn write_ref(names: &[Slot], here: Scope, out: &mut [u8], mut s: State, r: Reference) -> Walked
     ensures { λ a. ⌜ (a & now (out .exit)) ≡ refT (now (names .entry)) here (now (out .entry)) s r ⌝ }
 {
@@ -180,6 +182,7 @@ fn outer_numbers(names: &[Slot], scopes: &[Scope], depth: usize, o: Outer) -> Ou
     }
 }
 
+// An OUTER, with two numbers.
 fn write_outer(names: &[Slot], scopes: &[Scope], out: &mut [u8], s: State, o: Outer) -> Walked
     ensures { λ r. ⌜ (r & now (out .exit)) ≡ outerT (now (names .entry)) (now (scopes .entry)) (now (out .entry)) s o ⌝ }
 {
