@@ -1,9 +1,0 @@
-unsafe extern "C" {
-    fn wnt_resolve(form: *const u8, form_len: usize, out: *mut u8, out_len: usize) -> u64;
-}
-
-/// The answer of `wnt_resolve`, which may write into `out`.
-pub fn resolve(form: &[u8], out: &mut [u8]) -> u64 {
-    // SAFETY: both parts are valid for their lengths, apart from each other, for as long as the call lasts.
-    unsafe { wnt_resolve(form.as_ptr(), form.len(), out.as_mut_ptr(), out.len()) }
-}
