@@ -1,11 +1,10 @@
-//! Finds the crate's source and our library, and writes the small files that tie them in.
+//! Finds the crate's source and our library, whose name is `links` in Cargo.toml, and writes the small files that tie them in.
 
 use std::collections::BTreeSet;
 use std::env;
 use std::fmt::Write as _;
 use std::fs;
 use std::path::{Path, PathBuf};
-use std::process::Command;
 
 mod planted;
 
@@ -13,55 +12,66 @@ mod planted;
 const TREE: [&str; 10] =
     ["alias", "component", "custom", "export", "func", "import", "instance", "item_ref", "module", "types"];
 
+/// The crate's other files that are compiled.
+const OTHERS: [&str; 5] = ["component/resolve.rs", "core/export.rs", "gensym.rs", "names.rs", "token.rs"];
+
 fn main() {
-    println!("cargo:rerun-if-changed=build.rs");
-    println!("cargo:rerun-if-changed=planted.rs");
-    let source = folder("WAST_SRC", "../../shared/docs/src", "the supplied source of the crate").join("src");
-    let library = folder("WNT_LIB_DIR", "../target/staticlib", "what `rt staticlib resolver` writes");
-    let out = PathBuf::from(env::var("OUT_DIR").expect("cargo sets OUT_DIR"));
-    if env::var("CARGO_CFG_TARGET_ARCH").as_deref() == Ok("x86_64") {
-        link(&library);
-    } else {
-        build_answers(&library, &out);
-    }
-    write(&out.join("crate_files.rs"), &crate_files(&source));
-    write(&out.join("keywords.rs"), &names_after(&source, "kw::"));
-    write(&out.join("annotations.rs"), &names_after(&source, "annotation::"));
-    if env::var("CARGO_FEATURE_PLANTED").is_ok() {
-        planted::write_copies(&source, &out);
+    println!("cargo::rerun-if-changed=build.rs");
+    println!("cargo::rerun-if-changed=planted.rs");
+    let source = folder("WAST_SRC", "../../shared/docs/src").join("src");
+    let library = folder("WNT_LIB_DIR", "../target/staticlib");
+    match missing(&source, &library) {
+        Some(what) => println!("cargo::error={what}"),
+        None => build(&source, &library),
     }
 }
 
 /// The folder that a variable names, or the usual one, from this package's folder.
-fn folder(variable: &str, usual: &str, holds: &str) -> PathBuf {
-    println!("cargo:rerun-if-env-changed={variable}");
+fn folder(variable: &str, usual: &str) -> PathBuf {
+    println!("cargo::rerun-if-env-changed={variable}");
     let here = PathBuf::from(env::var("CARGO_MANIFEST_DIR").expect("cargo sets CARGO_MANIFEST_DIR"));
     let path = here.join(env::var(variable).unwrap_or_else(|_| usual.to_string()));
-    path.canonicalize().unwrap_or_else(|_| panic!("{variable}: no folder {} with {holds}", path.display()))
+    path.canonicalize().unwrap_or(path)
 }
 
-fn link(library: &Path) {
-    println!("cargo:rerun-if-changed={}", library.join("libresolver.a").display());
-    println!("cargo:rustc-link-search=native={}", library.display());
-    println!("cargo:rustc-link-lib=static=resolver");
+/// The library's name.
+fn name() -> String {
+    env::var("CARGO_MANIFEST_LINKS").expect("cargo sets CARGO_MANIFEST_LINKS")
 }
 
-/// On another processor than the library's: the program that answers in its place, made by a compiler for x86-64.
-fn build_answers(library: &Path, out: &Path) {
-    println!("cargo:rerun-if-changed=answers.c");
-    println!("cargo:rerun-if-env-changed=WNT_CC");
-    let archive = library.join("libresolver.a");
-    println!("cargo:rerun-if-changed={}", archive.display());
-    let compiler = env::var("WNT_CC").unwrap_or_else(|_| "x86_64-linux-gnu-gcc".to_string());
-    let program = out.join("answers");
-    let built = Command::new(&compiler).args(["-O2", "answers.c"]).arg(archive).arg("-o").arg(&program).status();
-    match built {
-        Ok(status) => assert!(status.success(), "{compiler} could not build answers.c"),
-        Err(problem) => {
-            panic!("the library is for x86-64, and WNT_CC is to name a C compiler for it: {compiler}: {problem}")
-        }
+/// What of the crate's source or of our library is not there, and how to get it.
+fn missing(source: &Path, library: &Path) -> Option<String> {
+    let name = name();
+    let archive = library.join(format!("lib{name}.a"));
+    if let Some(file) = compiled_files().map(|file| source.join(file)).find(|file| is_missing(file)) {
+        let says = "this needs the source of the crate wast 262.0.0";
+        return Some(format!("{says}, and there is no {}; WAST_SRC may name the folder of its src", file.display()));
     }
-    println!("cargo:rustc-env=WNT_ANSWERS={}", program.display());
+    let how = format!("`tools/staticlib {name}` writes it, and WNT_LIB_DIR may name its folder");
+    is_missing(&archive).then(|| format!("this needs the library, and there is no {}; {how}", archive.display()))
+}
+
+/// Cargo builds again when that changes.
+fn is_missing(file: &Path) -> bool {
+    println!("cargo::rerun-if-changed={}", file.display());
+    !file.is_file()
+}
+
+/// The crate's files that are compiled, below its `src`.
+fn compiled_files() -> impl Iterator<Item = String> {
+    TREE.map(|name| format!("component/{name}.rs")).into_iter().chain(OTHERS.map(str::to_string))
+}
+
+fn build(source: &Path, library: &Path) {
+    let out = PathBuf::from(env::var("OUT_DIR").expect("cargo sets OUT_DIR"));
+    println!("cargo::rustc-link-search=native={}", library.display());
+    println!("cargo::rustc-link-lib=static={}", name());
+    write(&out.join("crate_files.rs"), &crate_files(source));
+    write(&out.join("keywords.rs"), &names_after(source, "kw::"));
+    write(&out.join("annotations.rs"), &names_after(source, "annotation::"));
+    if env::var("CARGO_FEATURE_PLANTED").is_ok() {
+        planted::write_copies(source, &out);
+    }
 }
 
 /// Modules whose text is the crate's own files, where they stand.
@@ -82,16 +92,13 @@ fn crate_files(source: &Path) -> String {
 }
 
 fn module(text: &mut String, visible: &str, name: &str, file: &Path) {
-    println!("cargo:rerun-if-changed={}", file.display());
     writeln!(text, "#[allow(warnings)]\n#[path = {file:?}]\n{visible} mod {name};").unwrap();
 }
 
 /// A `keywords!` list of every name that follows `prefix` in the crate's files that are compiled.
 fn names_after(source: &Path, prefix: &str) -> String {
     let mut names = BTreeSet::new();
-    let tree = TREE.iter().map(|name| format!("component/{name}.rs"));
-    let others = ["component/resolve.rs", "core/export.rs", "token.rs"];
-    for file in tree.chain(others.map(str::to_string)) {
+    for file in compiled_files() {
         let text = read(&source.join(file));
         names.extend(text.split(prefix).skip(1).map(identifier).filter(|name| !name.is_empty()));
     }

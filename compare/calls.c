@@ -1,7 +1,4 @@
-/* Calls wnt_resolve so many times on a form, for a profiler to count. From the repository's root:
- *     cc -O2 compare/calls.c target/staticlib/libresolver.a -o target/calls
- *     valgrind --tool=callgrind target/calls 200 FORM
- */
+/* Calls wnt_resolve so many times on a form, for a profiler to count; docs/BENCHMARK.md says how it is built. */
 #include <stdint.h>
 #include <stdio.h>
 #include <stdlib.h>

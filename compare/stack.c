@@ -1,7 +1,5 @@
 /* How much stack a call of wnt_resolve takes: it runs on a stack of its own that is painted before, and what lost its paint
- * is counted. From the repository's root:
- *     cc -O2 compare/stack.c target/staticlib/libresolver.a -o target/stack && target/stack FORM..
- */
+ * is counted. docs/BENCHMARK.md says how it is built. */
 #include <stdint.h>
 #include <stdio.h>
 #include <string.h>

@@ -1,7 +1,8 @@
 /* Resolves the names of a WebAssembly component, given as rows, into index numbers. For C99 and C++.
  *
- * Link with libresolver.a; no other library is needed than the C library. What is answered and what the output then
- * holds is fixed for every input by the contract of wnt_resolve; docs/RULES.md has the rules in words. */
+ * Link with the static library that `tools/staticlib` writes; no other library is needed than the C library. What is
+ * answered and what the output then holds is fixed for every input by the contract of wnt_resolve; docs/RULES.md has the
+ * rules in words. */
 #ifndef WNT_H
 #define WNT_H
 

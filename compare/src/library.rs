@@ -1,11 +1,11 @@
-//! Our resolver, as a C program calls it: linked in on x86-64, and on another processor in a program of its own.
+//! Our resolver, called as a C program calls it.
 
-#[cfg(target_arch = "x86_64")]
-mod linked;
-#[cfg(target_arch = "x86_64")]
-pub use linked::resolve;
+unsafe extern "C" {
+    fn wnt_resolve(form: *const u8, form_len: usize, out: *mut u8, out_len: usize) -> u64;
+}
 
-#[cfg(not(target_arch = "x86_64"))]
-mod emulated;
-#[cfg(not(target_arch = "x86_64"))]
-pub use emulated::resolve;
+/// The answer of `wnt_resolve`, which may write into `out`.
+pub fn resolve(form: &[u8], out: &mut [u8]) -> u64 {
+    // SAFETY: both parts are valid for their lengths, apart from each other, for as long as the call lasts.
+    unsafe { wnt_resolve(form.as_ptr(), form.len(), out.as_mut_ptr(), out.len()) }
+}

@@ -86,10 +86,6 @@ fn write_vectors(arguments: &[String], count: u64) -> bool {
 }
 
 fn bench(arguments: &[String], file: &str) -> bool {
-    if !cfg!(target_arch = "x86_64") {
-        eprintln!("the library is for x86-64, and a time under an emulator says nothing");
-        return false;
-    }
     let repetitions = number(arguments, "--repetitions").unwrap_or(1001);
     let picture = bench::run(repetitions as usize);
     is_written(file, std::fs::write(file, picture))

@@ -1,12 +1,6 @@
 /* Resolves the form IN and prints the rows that became of it, or the refusal; writes the file OUT if there is one.
+ * examples/README.md says how it is built.
  *
- * From the repository's root, with the library that `rt staticlib resolver` writes:
- *
- *   cc -Iinclude examples/c/resolve.c target/staticlib/libresolver.a -o target/resolve-c
- *   target/resolve-c examples/driver/driver.wnt
- *   target/resolve-c examples/driver/driver.wnt target/driver-resolved.wnt
- *
- * The library is for x86-64: on an Arm machine take x86_64-linux-gnu-gcc for cc, and put tools/run before target/resolve-c.
  * The exit status is 0 if the form was resolved, and OUT written, else 1. A refused form leaves OUT alone. */
 #include <inttypes.h>
 #include <stdio.h>

@@ -1,11 +1,6 @@
 /* Does the runs of crates/runs with the static library, and prints the lines that the proved program prints: for each run
  * its name, the refusal's number and place or 0 and the number of rows, and a sum over the output.
- *
- * From the repository's root, with the library that `rt staticlib resolver` writes; nothing is printed if all is as it is
- * stored:
- *
- *   cc -Iinclude examples/c/runs.c target/staticlib/libresolver.a -o target/runs-c
- *   tools/run target/runs-c < crates/runs/stdin | diff - crates/runs/stdout
+ * examples/README.md says how it is built and run.
  *
  * crates/runs/src/main.rt has the layout of the input. */
 #include <inttypes.h>

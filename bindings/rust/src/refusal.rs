@@ -79,7 +79,7 @@ impl Refusal {
             10 => Refusal::UnknownScope { place },
             11 => Refusal::CountTooLarge { place },
             12 => Refusal::DuplicateCase { place },
-            _ => unreachable!("libresolver.a is of another version: it answered refusal {number}"),
+            _ => unreachable!("the static library is of another version: it answered refusal {number}"),
         }
     }
 
