@@ -45,7 +45,7 @@ fn missing(source: &Path, library: &Path) -> Option<String> {
     let archive = library.join(format!("lib{name}.a"));
     if let Some(file) = compiled_files().map(|file| source.join(file)).find(|file| is_missing(file)) {
         let says = "this needs the source of the crate wast 262.0.0";
-        return Some(format!("{says}, and there is no {}; WAST_SRC may name the folder of its src", file.display()));
+        return Some(format!("{says}, and there is no {}; WAST_SRC may name the folder around its src", file.display()));
     }
     let how = format!("`tools/staticlib {name}` writes it, and WNT_LIB_DIR may name its folder");
     is_missing(&archive).then(|| format!("this needs the library, and there is no {}; {how}", archive.display()))

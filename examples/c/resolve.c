@@ -1,7 +1,7 @@
 /* Resolves the form IN and prints the rows that became of it, or the refusal; writes the file OUT if there is one.
  * examples/README.md says how it is built.
  *
- * The exit status is 0 if the form was resolved, and OUT written, else 1. A refused form leaves OUT alone. */
+ * The exit status is 0 if the form was resolved, and all was written, else 1. A refused form leaves OUT alone. */
 #include <inttypes.h>
 #include <stdio.h>
 
@@ -104,7 +104,7 @@ static int resolve(size_t length, const char *name)
         return fail(name, "written");
     }
     print_rows(WNT_ROWS(answer));
-    return 0;
+    return fflush(stdout) == 0 ? 0 : fail("standard output", "written");
 }
 
 int main(int count, char **arguments)

@@ -1,9 +1,10 @@
 //! Resolves the form IN and prints the rows that became of it, or the refusal; writes the file OUT if there is one.
 //!
-//! The exit status is 0 if the form was resolved, and OUT written, else 1. A refused form leaves OUT alone.
+//! The exit status is 0 if the form was resolved, and all was written, else 1. A refused form leaves OUT alone.
 
 use std::env;
 use std::fs;
+use std::io::{self, Write as _};
 use std::process::ExitCode;
 
 fn main() -> ExitCode {
@@ -39,25 +40,27 @@ fn resolve(form: &[u8], output: Option<&str>) -> ExitCode {
             return fail(file, "written", problem);
         }
     }
-    print_rows(&resolved[wnt::HEADER_SIZE..]);
-    ExitCode::SUCCESS
+    match io::stdout().write_all(lines(&resolved[wnt::HEADER_SIZE..]).as_bytes()) {
+        Ok(()) => ExitCode::SUCCESS,
+        Err(problem) => fail("standard output", "written", problem),
+    }
 }
 
-fn fail(file: &str, what: &str, problem: std::io::Error) -> ExitCode {
+fn fail(file: &str, what: &str, problem: io::Error) -> ExitCode {
     eprintln!("{file} cannot be {what}: {problem}");
     ExitCode::FAILURE
 }
 
-fn print_rows(rows: &[u8]) {
-    println!("accepted: {} rows", rows.len() / wnt::ROW_SIZE);
-    for row in rows.chunks_exact(wnt::ROW_SIZE) {
-        print_row(row);
-    }
+/// The rows in words, a line each.
+fn lines(rows: &[u8]) -> String {
+    let mut text = format!("accepted: {} rows\n", rows.len() / wnt::ROW_SIZE);
+    text.extend(rows.chunks_exact(wnt::ROW_SIZE).map(line));
+    text
 }
 
-/// Prints a row as [code b e x y z].
-fn print_row(row: &[u8]) {
+/// A row as [code b e x y z].
+fn line(row: &[u8]) -> String {
     let e = u16::from_le_bytes([row[2], row[3]]);
     let part = |at: usize| u32::from_le_bytes([row[at], row[at + 1], row[at + 2], row[at + 3]]);
-    println!("[{} {} {e} {} {} {}]", row[0], row[1], part(4), part(8), part(12));
+    format!("[{} {} {e} {} {} {}]\n", row[0], row[1], part(4), part(8), part(12))
 }
