@@ -43,12 +43,14 @@ fn name() -> String {
 fn missing(source: &Path, library: &Path) -> Option<String> {
     let name = name();
     let archive = library.join(format!("lib{name}.a"));
+    let says =
+        |what: &str, file: &Path, how: &str| format!("this needs {what}, and there is no {}; {how}", file.display());
     if let Some(file) = compiled_files().map(|file| source.join(file)).find(|file| is_missing(file)) {
-        let says = "this needs the source of the crate wast 262.0.0";
-        return Some(format!("{says}, and there is no {}; WAST_SRC may name the folder around its src", file.display()));
+        let how = "WAST_SRC may name the folder around its src";
+        return Some(says("the source of the crate wast 262.0.0", &file, how));
     }
     let how = format!("`tools/staticlib {name}` writes it, and WNT_LIB_DIR may name its folder");
-    is_missing(&archive).then(|| format!("this needs the library, and there is no {}; {how}", archive.display()))
+    is_missing(&archive).then(|| says("the library", &archive, &how))
 }
 
 /// Cargo builds again when that changes.
