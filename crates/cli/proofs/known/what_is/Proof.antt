@@ -1,0 +1,11 @@
+-- `cli::known::what_is` meets its contract.
+use Rattle.cli.proofs.Laws.{ways}
+use Rattle.cli.proofs.known.what_is.Statement.{statement}
+use Rattle.cli.proofs.known.what_is.Tie as tie
+
+pub what-is-spec : {M : Type 1} → statement M
+what-is-spec = tie.close (tie.spec
+    (λ c. search ways)  -- returns
+    (λ c. search ways)  -- returns-2
+    (λ c. search ways)  -- returns-3
+    (λ c. search ways))  -- returns-4

@@ -1,0 +1,77 @@
+// How the program is used, and which it is.
+use libc::STDERR_FILENO;
+use libc::STDOUT_FILENO;
+use words::say;
+
+fn say_commands(talk: i32) {
+    say(
+        talk,
+        b"  wnt resolve IN OUT      resolve the form IN, and write OUT whole or not at all\n",
+    );
+    say(
+        talk,
+        b"  wnt check FORM..        say of each form whether it is accepted; write nothing\n",
+    );
+    say(
+        talk,
+        b"  wnt show FORM           print a form, a row a line, and what each reference means\n",
+    );
+    say(
+        talk,
+        b"  wnt explain FORM PLACE  say which declaration the references with that place mean\n",
+    );
+    say(talk, b"  wnt help                print this\n");
+    say(talk, b"  wnt --version           print the version\n\n");
+}
+
+// The whole help.
+pub(crate) fn help(talk: i32) {
+    say(
+        talk,
+        b"wnt turns the names of a WebAssembly component into index numbers.\n\n",
+    );
+    say_commands(talk);
+    say(
+        talk,
+        b"A form is a file of rows, as it is written or as it was resolved.\n",
+    );
+    say(
+        talk,
+        b"For a file, - stands for standard input or output.\n",
+    );
+    say(
+        talk,
+        b"Answers go to standard output, errors to standard error.\n",
+    );
+    say(
+        talk,
+        b"The exit status is 0 for accepted or done, 1 for refused or a no, 2 for what could not be done.\n",
+    );
+}
+
+pub(crate) fn version() {
+    say(STDOUT_FILENO, b"wnt 0.2.0-dev\n");
+}
+
+// Where the first word is no command, or there is none.
+pub(crate) fn no_command(word: &[u8]) {
+    if word.len() == 0 {
+        help(STDERR_FILENO);
+    } else {
+        say(STDERR_FILENO, word);
+        say(
+            STDERR_FILENO,
+            b" is no command of wnt: wnt help prints those that are\n",
+        );
+    }
+}
+
+// Where a command has not the number of arguments that it takes.
+pub(crate) fn wrong_count(usage: &[u8]) {
+    say(
+        STDERR_FILENO,
+        b"That is not the number of arguments that this command takes. Its usage is: ",
+    );
+    say(STDERR_FILENO, usage);
+    say(STDERR_FILENO, b"\n");
+}

@@ -1,0 +1,63 @@
+// What a file is that the resolver refuses, and the words for it.
+use crate::text::is_text;
+use view::accepted::is_resolved;
+use view::accepted::say_resolved;
+use view::refusal::say_refusal;
+use words::refusals::say_where;
+use words::say;
+ghost use mathlib.Core.Path.{_≡_};
+ghost use Rattle.cli.specs.Known.{knownOf};
+
+// No form at all; a form whose names alone are refused; one that is resolved already; or rows that make no form.
+pub(crate) enum Known {
+    NoForm,
+    Whole,
+    Resolved,
+    Broken,
+}
+
+// By the refusal's number, and whether the form is resolved already.
+pub(crate) fn what_is(number: u32, resolved: bool) -> Known
+    ensures { λ r. ⌜ r ≡ knownOf number resolved ⌝ }
+{
+    if number == 1 {
+        Known::NoForm
+    } else if 5 < number {
+        Known::Whole
+    } else if resolved {
+        Known::Resolved
+    } else {
+        Known::Broken
+    }
+}
+
+// Of what is no form: whether it is empty or looks like text.
+fn say_no_form(talk: i32, bytes: &[u8], number: u32, place: u32) {
+    if bytes.len() == 0 {
+        say_where(talk, number, place);
+        say(talk, b"this is no form: the file is empty\n");
+    } else if is_text(bytes) {
+        say_where(talk, number, place);
+        say(
+            talk,
+            b"this is no form: this looks like text: wnt takes rows\n",
+        );
+    } else {
+        say_refusal(talk, bytes, number, place);
+    }
+}
+
+fn say_resolved_before(talk: i32, form: &[u8], number: u32, place: u32) {
+    say_where(talk, number, place);
+    say_resolved(talk, form);
+}
+
+// A refusal in words, which begin with what the file is.
+pub(crate) fn say_refused(talk: i32, form: &[u8], number: u32, place: u32) {
+    match what_is(number, is_resolved(form)) {
+        Known::NoForm => say_no_form(talk, form, number, place),
+        Known::Resolved => say_resolved_before(talk, form, number, place),
+        Known::Whole => say_refusal(talk, form, number, place),
+        Known::Broken => say_refusal(talk, form, number, place),
+    }
+}

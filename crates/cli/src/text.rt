@@ -1,0 +1,24 @@
+// Whether a file is text, as its bytes tell.
+ghost use mathlib.Core.Path.{_≡_};
+ghost use Rattle.cli.specs.Text.{isTextByte, isText};
+
+// A byte that text has: it is no control byte but a tab or the end of a line.
+fn is_text_byte(byte: u8) -> bool
+    ensures { λ r. ⌜ r ≡ isTextByte byte ⌝ }
+{
+    (31 < byte) | ((byte == 9) | ((byte == 10) | (byte == 13)))
+}
+
+pub(crate) fn is_text(bytes: &[u8]) -> bool
+    ensures { λ r. ⌜ r ≡ isText (now (bytes .entry)) ⌝ }
+{
+    let mut i = 0;
+    while i < bytes.len() {
+        if is_text_byte(bytes[i]) {
+            i += 1;
+        } else {
+            return false;
+        }
+    }
+    true
+}

@@ -1,0 +1,4 @@
+// Runs `wnt show` on the resolved driver.
+fn main() {
+    cli::run();
+}
