@@ -15,6 +15,7 @@ FIELD, DECL, REF, OUTER, OPEN, CLOSE = 1, 2, 3, 5, 7, 8
 HERE_ONLY = {4, 5, 24}
 FRESH = 2147483648
 SAID = re.compile(r"(outward|looked up|counting): (?:row (\d+) declares [a-z ]+ (\d+)[^,;]*, (?:here|(\d+) scopes? out))?")
+ROW = re.compile(r" *\d+  ")
 THROUGH = re.compile(r"through it: row (\d+)")
 
 
@@ -103,7 +104,7 @@ def named(scope, name):
 def said(path):
     """what `wnt show` says of each row of a form"""
     text = subprocess.run(["tools/wnt", "show", path], capture_output=True, text=True, check=True).stdout
-    return text.splitlines()[1:]
+    return [line for line in text.splitlines() if ROW.match(line)]
 
 
 def check_said(form, lines):

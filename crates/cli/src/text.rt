@@ -6,7 +6,7 @@ ghost use Rattle.cli.specs.Text.{isTextByte, isText};
 fn is_text_byte(byte: u8) -> bool
     ensures { λ r. ⌜ r ≡ isTextByte byte ⌝ }
 {
-    (31 < byte) | ((byte == 9) | ((byte == 10) | (byte == 13)))
+    (31 < byte) | ((byte == b'\t') | ((byte == b'\n') | (byte == b'\r')))
 }
 
 pub(crate) fn is_text(bytes: &[u8]) -> bool

@@ -5,6 +5,11 @@ ghost use mathlib.Core.Path.{_≡_};
 ghost use Prim.Native.Nat.{_<_, _%_};
 ghost use Rattle.files.specs.Modes.{isRegular};
 
+// Where in a mode the kind of file begins, and how far who may read, write and run it reaches.
+const KIND: u32 = 0o10000;
+
+const RIGHTS: u32 = 0o1000;
+
 fn no_time() -> timespec {
     timespec {
         tv_sec: 0,
@@ -45,16 +50,16 @@ pub(crate) fn mode_of(file: i32) -> u32 {
     mode_in(file, unknown())
 }
 
-// Whether a mode is that of a regular file: the kind stands above the twelve bits for who may use it.
+// Whether a mode is that of a regular file.
 pub(crate) fn is_regular(mode: u32) -> bool
     ensures { λ r. ⌜ r ≡ isRegular mode ⌝ }
 {
-    mode / 4096 == libc::S_IFREG / 4096
+    mode / KIND == libc::S_IFREG / KIND
 }
 
 // Of a mode, who may read, write and run the file.
-pub(crate) fn permissions(mode: u32) -> u32
+pub(crate) fn rights(mode: u32) -> u32
     ensures { λ r. ⌜ r ≡ mode % 512 ⌝ }
 {
-    mode % 512
+    mode % RIGHTS
 }

@@ -1,8 +1,12 @@
 // Parts of texts and buffers.
+use libc::PATH_MAX;
 ghost use mathlib.Core.Path.{_≡_};
 ghost use lib.ListN.{take};
 ghost use Rattle.libc.specs.Io.{Ended};
 ghost use Rattle.files.specs.Paths.{isDash};
+
+// The last byte of the array in which C takes a path: it is 0.
+const LAST: usize = PATH_MAX - 1;
 
 // Whether a path is `-`, which stands for standard input or output.
 pub fn is_dash(path: &[u8]) -> bool
@@ -38,18 +42,18 @@ pub(crate) fn copy(text: &[u8], buffer: &mut [u8]) {
 }
 
 // A path in the array that C takes: as much of it as leaves room for the 0 behind it.
-pub(crate) fn ended(path: &[u8]) -> [u8; 4096]
+pub(crate) fn ended(path: &[u8]) -> [u8; PATH_MAX]
     ensures { λ r. ⌜ Ended r ⌝ }
 {
     let mut array = io::buffer();
     let mut i = 0;
     while i < path.len() {
-        if 4095 <= i {
+        if LAST <= i {
             break;
         }
         array[i] = path[i];
         i += 1;
     }
-    array[4095] = 0;
+    array[LAST] = 0;
     array
 }

@@ -5,7 +5,7 @@ use crate::links::Target;
 use crate::links::follow;
 use crate::mode::is_regular;
 use crate::mode::mode_of;
-use crate::mode::permissions;
+use crate::mode::rights;
 use crate::parts::copy;
 use crate::parts::front;
 use crate::parts::is_dash;
@@ -107,7 +107,7 @@ fn save_over(file: i32, path: &[u8], bytes: &[u8]) -> bool {
     let mode = mode_of(file);
     if is_regular(mode) {
         libc::close(file);
-        save_linked(path, permissions(mode), bytes)
+        save_linked(path, rights(mode), bytes)
     } else {
         write_special(file, path, bytes)
     }

@@ -1,0 +1,15 @@
+-- `view::parts::is_whole` meets its contract.
+use borrow.Author.Needs.{needs}
+use Rattle.view.proofs.PartLaws.{part-ways}
+use Rattle.view.proofs.parts.is_whole.Statement.{statement}
+use Rattle.view.proofs.parts.is_whole.Tie as tie
+
+pub is-whole-spec : {M : Type 1} → statement M
+is-whole-spec =
+    tie.close
+    (tie.spec
+    (λ c κs. search needs)  -- rows-in-requires
+    (λ c κs. search needs)  -- rows-said-requires
+    (λ c. search needs)  -- cast-rows
+    (λ c κs. search needs)  -- start-of-requires
+    (λ c. search part-ways))  -- returns
