@@ -161,6 +161,21 @@ cases =
     -- an OUTER whose scope no open one is named; two CASEs of one name
     ∷ record { input = root (raw 1 11 0 0 0 50 ∷ raw 2 9 0 1 0 0 ∷ raw 5 9 1 7 0 51 ∷ []); expected = refusal 10 50 }
     ∷ record { input = root (raw 1 12 0 0 0 0 ∷ raw 2 9 0 0 0 0 ∷ raw 6 0 0 1 0 60 ∷ raw 6 0 0 1 0 61 ∷ []); expected = refusal 12 61 }
+    -- an export with an ascribed type: of two references the first is the type's, which is looked up first
+    ∷ record { input = root (raw 1 22 1 0 0 0 ∷ raw 2 9 0 1 0 0 ∷ raw 3 9 1 7 0 3 ∷ raw 3 9 1 8 0 4 ∷ []); expected = refusal 9 3 }
+    ∷ record { input = root (raw 1 22 1 0 0 0 ∷ raw 2 9 0 1 0 0 ∷ raw 3 9 1 1 0 3 ∷ raw 3 9 1 8 0 4 ∷ []); expected = refusal 9 4 }
+    -- one alone is the export's own and may have PATHs, and then no other follows; without any the form ends early
+    ∷ record {
+      input = root (raw 1 8 0 0 0 0 ∷ raw 2 10 0 1 0 0 ∷ raw 1 22 1 0 0 0 ∷ raw 2 9 0 0 0 0 ∷ raw 3 9 1 1 1 70 ∷ raw 4 0 0 5 0 0 ∷ []);
+      expected = rows (root (raw 1 8 0 0 0 0 ∷ raw 2 10 0 1 0 0 ∷ raw 1 9 0 0 0 70 ∷ raw 2 9 0 2147483648 0 70 ∷ raw 3 10 0 0 0 70 ∷ raw 9 0 0 5 0 0 ∷ raw 1 22 1 0 0 0 ∷ raw 2 9 0 0 0 0 ∷ raw 3 9 0 0 0 70 ∷ []));
+    }
+    ∷ record { input = root (raw 1 22 1 0 0 0 ∷ raw 2 9 0 0 0 0 ∷ raw 3 9 0 0 1 0 ∷ raw 4 0 0 5 0 0 ∷ raw 3 9 0 0 0 0 ∷ []); expected = refusal 4 5 }
+    ∷ record { input = root (raw 1 22 1 0 0 0 ∷ raw 2 9 0 0 0 0 ∷ []); expected = refusal 4 3 }
+    -- a value needs no type either, a func does; e above 1
+    ∷ record { input = root (raw 1 22 1 0 0 0 ∷ raw 2 12 0 0 0 0 ∷ raw 3 12 0 0 0 0 ∷ []); expected = rows (root (raw 1 22 1 0 0 0 ∷ raw 2 12 0 0 0 0 ∷ raw 3 12 0 0 0 0 ∷ [])) }
+    ∷ record { input = root (raw 1 22 1 0 0 0 ∷ raw 2 12 0 0 0 0 ∷ raw 3 9 0 0 0 0 ∷ []); expected = refusal 4 4 }
+    ∷ record { input = root (raw 1 22 1 0 0 0 ∷ raw 2 8 0 0 0 0 ∷ raw 3 8 0 0 0 0 ∷ []); expected = refusal 4 3 }
+    ∷ record { input = root (raw 1 22 2 0 0 0 ∷ raw 2 8 0 0 0 0 ∷ []); expected = refusal 4 1 }
     ∷ []
 
 all-right : all base (record { version = version1; rules = today }) cases ≡ true
