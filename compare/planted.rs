@@ -135,6 +135,30 @@ const CHANGES: &[Change] = &[
             "if false {\n                        ns.register",
         )],
     },
+    Change {
+        name: "the export's own reference comes before its ascribed type",
+        edits: &[(
+            "if let Some(ty) = &mut e.ty {
+                    self.item_sig(&mut ty.0)?;
+                }
+                self.export(&mut e.kind)",
+            "self.export(&mut e.kind)?;
+                if let Some(ty) = &mut e.ty {
+                    self.item_sig(&mut ty.0)?;
+                }
+                Ok(())",
+        )],
+    },
+    Change {
+        name: "the ascribed type of an export is passed over",
+        edits: &[(
+            "if let Some(ty) = &mut e.ty {
+                    self.item_sig(&mut ty.0)?;
+                }
+                self.export(&mut e.kind)",
+            "self.export(&mut e.kind)",
+        )],
+    },
     Change { name: "options of a lift are passed over", edits: &[("self.canon_opts(&mut info.opts)?;", "")] },
     Change {
         name: "tables are looked up among memories",

@@ -223,7 +223,10 @@ impl<'a> Writer<'a> {
                 start.args.iter().for_each(|arg| self.reference(12, &arg.idx));
             }
             ComponentField::Import(import) => self.signature(&import.item.kind),
-            ComponentField::Export(export) => self.export(&export.kind),
+            ComponentField::Export(export) => {
+                export.ty.iter().for_each(|ty| self.signature(&ty.0.kind));
+                self.export(&export.kind);
+            }
             ComponentField::CoreFunc(_) | ComponentField::Func(_) => unreachable!("never built"),
         }
     }

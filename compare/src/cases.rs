@@ -1,5 +1,5 @@
-//! The runs that document 01 states with their answers (P1 to P10), the smallest forms of docs/DIFFERENCES.md, and
-//! forms on both sides of each limit.
+//! The runs that document 01 states with their answers (P1 to P10), the smallest forms of docs/DIFFERENCES.md, exports
+//! with an ascribed type, and forms on both sides of each limit.
 
 use crate::compare::Case;
 use crate::rows::{Answer, CLOSE, DECL, FIELD, MOST_ROWS, MOST_SCOPES, OPEN, PATH, REF, Row, encode, output_size};
@@ -28,11 +28,12 @@ fn refused(name: &'static str, form: &[Parts], number: u32, place: u32) -> State
     Stated { name, rows: rows(form), answer: Answer::refused(number, place) }
 }
 
-/// P1 to P10, and a form for each named difference.
+/// P1 to P10, a form for each named difference, and exports with an ascribed type.
 pub fn stated() -> Vec<Stated> {
     let mut cases = vec![p1(), p9(), written_number_stays(), heap_type_is_a_type()];
     cases.extend(scopes_and_outers());
     cases.extend(references());
+    cases.extend(ascribed());
     cases
 }
 
@@ -111,6 +112,73 @@ fn heap_type_is_a_type() -> Stated {
     refused("heap types are looked up among the types", &[&core_type[..], &resource].concat(), 9, 9)
 }
 
+/// The rows of an export with an ascribed type, without its operands.
+fn typed_export(space: u8) -> [Parts; 2] {
+    [(1, 22, 1, 0, 0, 50), (2, space, 0, 0, 0, 51)]
+}
+
+/// The ascribed type comes first: where both references are unknown, and where aliases are inserted for both. Of an
+/// exported type a lone reference is the export's own, with PATHs or without; a value may have a type without one too.
+fn ascribed() -> Vec<Stated> {
+    let named = |space: u8, z: u32| (3, space, 1, 1, 0, z);
+    let unknown = [&[ROOT][..], &typed_export(8), &[named(9, 52), named(8, 53), END]].concat();
+    let a_type = [(1, 12, 0, 0, 0, 0), (2, 9, 0, 1, 0, 0)];
+    let own_unknown = [&[ROOT][..], &a_type, &typed_export(12), &[named(9, 52), named(12, 53), END]].concat();
+    let a_value = [ROOT, (1, 20, 0, 0, 0, 0), (2, 12, 0, 1, 0, 0), (3, 8, 0, 0, 0, 0)];
+    vec![
+        refused("the ascribed type is looked up first", &unknown, 9, 52),
+        refused("then the export's own reference", &own_unknown, 9, 53),
+        accepted(
+            "a value with a type without an operand",
+            &[&a_value[..], &typed_export(12), &[named(12, 52), END]].concat(),
+            &[&a_value[..], &typed_export(12), &[(3, 12, 0, 0, 0, 52), END]].concat(),
+        ),
+        lone_reference(),
+        aliases_of_both(),
+    ]
+}
+
+fn lone_reference() -> Stated {
+    let front = [ROOT, (1, 8, 0, 0, 0, 0), (2, 10, 0, 1, 0, 0)];
+    let alias = [(1, 9, 0, 0, 0, 52), (2, 9, 0, 2_147_483_648, 0, 52), (3, 10, 0, 0, 0, 52), (9, 0, 0, 5, 0, 0)];
+    let form = [&front[..], &typed_export(9), &[(3, 9, 1, 1, 1, 52), (4, 0, 0, 5, 0, 0), END]].concat();
+    let output = [&front[..], &alias, &typed_export(9), &[(3, 9, 0, 0, 0, 52), END]].concat();
+    accepted("a lone reference is the export's own", &form, &output)
+}
+
+fn aliases_of_both() -> Stated {
+    let front = [ROOT, (1, 12, 0, 0, 0, 0), (2, 9, 0, 1, 0, 0), (1, 6, 0, 0, 0, 0), (2, 11, 0, 0, 0, 0), ROOT];
+    let alias = |k: u32, z: u32| [(1, 11, 0, 0, 0, z), (2, 9, 0, 2_147_483_648 + k, 0, z), (5, 9, 0, 1, 0, z)];
+    let form = [&front[..], &typed_export(9), &[(3, 9, 1, 1, 0, 52), (3, 9, 1, 1, 0, 53), END, END]].concat();
+    let both = [(3, 9, 0, 0, 0, 52), (3, 9, 0, 1, 0, 53), END, END];
+    let output = [&front[..], &alias(0, 52), &alias(1, 53), &typed_export(9), &both].concat();
+    accepted("aliases for the ascribed type stand first", &form, &output)
+}
+
+/// Exports with an ascribed type that end too early, have one reference too many or one that may not stand there;
+/// and e above 1.
+fn broken_exports() -> Vec<Case> {
+    let to = |space: u8| (3, space, 0, 0, 0, 52);
+    let (by_path, path) = ((3, 9, 0, 0, 1, 52), (4, 0, 0, 5, 0, 0));
+    let operands: [(u8, &[Parts]); 9] = [
+        (9, &[]),
+        (9, &[to(9), to(9), to(9)]),
+        (9, &[by_path, path, to(9)]),
+        (9, &[to(12)]),
+        (12, &[to(9)]),
+        (12, &[by_path, path, to(12)]),
+        (12, &[to(12), to(9)]),
+        (8, &[to(8)]),
+        (7, &[to(9), to(7)]),
+    ];
+    let mut forms: Vec<Vec<Parts>> = Vec::new();
+    for (space, operands) in operands {
+        forms.push([&[ROOT][..], &typed_export(space), operands, &[END]].concat());
+    }
+    forms.extend([2, 3, 48, 256].map(|e| vec![ROOT, (1, 22, e, 0, 0, 50), (2, 8, 0, 0, 0, 51), to(8), END]));
+    forms.iter().map(|form| exact(rows(form))).collect()
+}
+
 /// Forms at and beyond each limit.
 pub fn limits() -> Vec<Case> {
     let mut cases = Vec::new();
@@ -131,6 +199,7 @@ pub fn limits() -> Vec<Case> {
     }
     cases.extend(short_outputs(&nested(4, COMPONENT_FIELD)));
     cases.extend(headers());
+    cases.extend(broken_exports());
     cases
 }
 

@@ -2,7 +2,7 @@
 
 use crate::chance::Chance;
 use crate::rows::{CASE, CLOSE, DECL, EXPORT, FIELD, FIRST_INSERTED, OPEN, OUTER, PATH, REF, Row};
-use crate::shapes::{BUILTIN_FIELD, BUILTINS, COMPONENT, FIELDS, FOUR, Shape, Shapes, Want, allowed};
+use crate::shapes::{COMPONENT, FIELDS, FOUR, Shape, Shapes, Want, allowed, values_of_e};
 
 /// What a form is like: how large, how deep, how many names it has to choose from, how often it is wrong.
 #[derive(Clone)]
@@ -121,8 +121,11 @@ impl Sketch<'_> {
     /// A field; `taken` are the names that its scope declares already, with their spaces.
     fn field(&mut self, kind: u8, taken: &mut Vec<(u8, u32)>) {
         let code = self.field_code(kind);
-        let builtin = if code == BUILTIN_FIELD { self.chance.below(usize::from(BUILTINS)) as u16 } else { 0 };
-        let head = Row::new(FIELD, code, builtin, 0, 0, self.place());
+        let e = match values_of_e(code) {
+            1 => 0,
+            values => self.chance.below(usize::from(values)) as u16,
+        };
+        let head = Row::new(FIELD, code, e, 0, 0, self.place());
         self.rows.push(head);
         let shape = self.shapes.of(head);
         self.sample(shape, taken);

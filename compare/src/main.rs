@@ -38,7 +38,8 @@ const USAGE: &str = "\
 compare [--seconds N | --forms N] [--seed S]   compare on forms, for a minute if nothing is said
 compare --sensitivity [--seed S]               plant changes on both sides and show that each is caught
                                                (built with --features planted)
-compare --vectors N [--seed S] > FILE          write fixed vectors, at most N of each refusal
+compare --vectors N [--seed S] [--onto FILE] > OTHER
+                                               write fixed vectors, at most N of each refusal, behind those of FILE
 compare --bench FILE [--repetitions N]         time both sides; the picture goes to FILE as SVG
 compare --shapes FOLDER                        write the benchmark's forms of about 1,000 rows, for a profiler
 compare --samples FOLDER [--forms N]           write accepted random forms and their outputs, for readings.py";
@@ -80,8 +81,14 @@ fn sensitivity(_seed: u64) -> bool {
 }
 
 fn write_vectors(arguments: &[String], count: u64) -> bool {
-    let (bytes, tally) = vectors::file(&comparison(), count as usize, number(arguments, "--seed").unwrap_or(1));
-    eprintln!("{} vectors\n{}", tally.forms, tally.summary());
+    let kept = value(arguments, "--onto").map_or(Ok(Vec::new()), std::fs::read);
+    let Ok(kept) = kept else {
+        eprintln!("the vectors to keep cannot be read");
+        return false;
+    };
+    let seed = number(arguments, "--seed").unwrap_or(1);
+    let (bytes, tally) = vectors::file(&comparison(), &kept, count as usize, seed);
+    eprintln!("{} new vectors\n{}", tally.forms, tally.summary());
     std::io::stdout().write_all(&bytes).is_ok()
 }
 

@@ -34,6 +34,16 @@ pub const MODULE_TYPE: u8 = 3;
 pub const FIELDS: u8 = 25;
 pub const BUILTIN_FIELD: u8 = 19;
 pub const BUILTINS: u16 = 48;
+pub const EXPORT_FIELD: u8 = 22;
+
+/// How many values e of a FIELD row may have: a builtin, or whether an export has an ascribed type.
+pub fn values_of_e(field: u8) -> u16 {
+    match field {
+        BUILTIN_FIELD => BUILTINS,
+        EXPORT_FIELD => 2,
+        _ => 1,
+    }
+}
 
 /// Whether a scope of this kind may have this field.
 pub fn allowed(kind: u8, field: u8) -> bool {
@@ -91,8 +101,7 @@ impl Want {
 }
 
 pub fn sound_field(row: Row) -> bool {
-    let most_e = if row.b == BUILTIN_FIELD { BUILTINS - 1 } else { 0 };
-    row.code == FIELD && (1..=FIELDS).contains(&row.b) && row.e <= most_e && (row.x, row.y) == (0, 0)
+    row.code == FIELD && (1..=FIELDS).contains(&row.b) && row.e < values_of_e(row.b) && (row.x, row.y) == (0, 0)
 }
 
 pub fn sound_path(row: Row) -> bool {
@@ -216,7 +225,7 @@ fn operands_of_builtin(code: u16) -> Shape {
     }
 }
 
-fn shape(field: u8, builtin: u16) -> Shape {
+fn shape(field: u8, e: u16) -> Shape {
     let export = || Shape::One(Want::Export);
     match field {
         1 => decl(7),
@@ -240,34 +249,29 @@ fn shape(field: u8, builtin: u16) -> Shape {
         16 => decl(9).then(p(9).maybe()).then(r(0).maybe()),
         17 => open(4, MODULE_TYPE),
         18 => decl(8).then(r(9)).then(r(0)).then(options()),
-        BUILTIN_FIELD => decl(0).then(operands_of_builtin(builtin)),
+        BUILTIN_FIELD => decl(0).then(operands_of_builtin(e)),
         20 => decl(12).many().then(p(8)).then(r(12).many()),
         21 | 23 => by_space(SIX, signature),
-        22 => by_space(SIX, r),
+        EXPORT_FIELD if e == 0 => by_space(SIX, r),
+        EXPORT_FIELD => by_space(SIX, |space| signature(space).then(r(space))),
         24 => p(4).many(),
         _ => Shape::Done,
     }
 }
 
-/// The shapes of all fields, made once.
+/// The shapes of all fields by code and e, made once.
 pub struct Shapes {
-    fields: Vec<Shape>,
-    builtins: Vec<Shape>,
+    fields: Vec<Vec<Shape>>,
 }
 
 impl Shapes {
     pub fn new() -> Shapes {
-        Shapes {
-            fields: (0..=FIELDS).map(|field| shape(field, 0)).collect(),
-            builtins: (0..BUILTINS).map(|builtin| shape(BUILTIN_FIELD, builtin)).collect(),
-        }
+        let by_e = |field| (0..values_of_e(field)).map(|e| shape(field, e)).collect();
+        Shapes { fields: (0..=FIELDS).map(by_e).collect() }
     }
 
     /// What follows this FIELD row, which is sound.
     pub fn of(&self, row: Row) -> &Shape {
-        match row.b {
-            BUILTIN_FIELD => &self.builtins[usize::from(row.e)],
-            field => &self.fields[usize::from(field)],
-        }
+        &self.fields[usize::from(row.b)][usize::from(row.e)]
     }
 }

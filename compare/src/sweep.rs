@@ -4,7 +4,7 @@
 
 use crate::rows::{CASE, CLOSE, DECL, EXPORT, FIELD, OPEN, OUTER, PATH, REF, Row};
 use crate::shapes::{
-    BUILTIN_FIELD, BUILTINS, COMPONENT, COMPONENT_TYPE, FIELDS, FIVE, FOUR, SIX, Shape, Shapes, Spaces, Want, allowed,
+    COMPONENT, COMPONENT_TYPE, FIELDS, FIVE, FOUR, SIX, Shape, Shapes, Spaces, Want, allowed, values_of_e,
 };
 
 /// The name that an operand asks for, and those of the three scopes.
@@ -41,8 +41,8 @@ pub fn forms(shapes: &Shapes) -> Vec<Vec<Row>> {
     let mut forms = Vec::new();
     for kind in 0..4 {
         for field in (1..=FIELDS).filter(|field| allowed(kind, *field)) {
-            for builtin in 0..if field == BUILTIN_FIELD { BUILTINS } else { 1 } {
-                let head = Row::new(FIELD, field, builtin, 0, 0, 0);
+            for e in 0..values_of_e(field) {
+                let head = Row::new(FIELD, field, e, 0, 0, 0);
                 for wants in written_out(shapes.of(head)) {
                     forms_of_field(kind, head, &wants, &mut forms);
                 }

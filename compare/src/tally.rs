@@ -2,7 +2,7 @@
 
 use crate::compare::Case;
 use crate::rows::{Answer, CLOSE, DECL, FIELD, FIRST_INSERTED, OPEN, Row, decode};
-use crate::shapes::{BUILTIN_FIELD, BUILTINS, FIELDS, allowed};
+use crate::shapes::{BUILTIN_FIELD, BUILTINS, EXPORT_FIELD, FIELDS, SIX, allowed};
 use crate::source::Stage;
 use std::collections::BTreeSet;
 
@@ -15,6 +15,8 @@ pub struct Tally {
     answers: [u64; 13],
     fields: BTreeSet<(u8, u8)>,
     builtins: BTreeSet<u16>,
+    ascribed: u64,
+    spaces: BTreeSet<u8>,
 }
 
 impl Tally {
@@ -37,15 +39,10 @@ impl Tally {
         }
     }
 
-    /// How many answers had the number of this one.
-    pub fn like(&self, answer: &Answer) -> u64 {
-        self.answers[(answer.packed() >> 32) as usize]
-    }
-
     /// Notes which fields an accepted form has, and in which kind of scope.
     fn cover(&mut self, rows: &[Row]) {
         let mut kinds = Vec::new();
-        for row in rows {
+        for (at, row) in rows.iter().enumerate() {
             match row.code {
                 OPEN => kinds.push(row.b),
                 CLOSE => drop(kinds.pop()),
@@ -53,6 +50,10 @@ impl Tally {
                     self.fields.extend(kinds.last().map(|kind| (*kind, row.b)));
                     if row.b == BUILTIN_FIELD {
                         self.builtins.insert(row.e);
+                    }
+                    if row.b == EXPORT_FIELD && row.e == 1 {
+                        self.ascribed += 1;
+                        self.spaces.insert(rows[at + 1].b);
                     }
                 }
                 _ => {}
@@ -67,13 +68,17 @@ impl Tally {
         format!(
             "forms: stated {stated}, limits {limits}, sweep {sweep}, random {random}, damaged {damaged}\n\
              accepted {} forms with {} rows and {} inserted fields\nrefusals {}\n\
-             fields of accepted forms by kind of scope {} of {pairs}, builtins {} of {BUILTINS}",
+             fields of accepted forms by kind of scope {} of {pairs}, builtins {} of {BUILTINS}, \
+             exports with an ascribed type {} of {} of {} spaces",
             self.answers[0],
             self.rows,
             self.inserted,
             refusals.join(", "),
             self.fields.len(),
             self.builtins.len(),
+            self.ascribed,
+            self.spaces.len(),
+            SIX.each().count(),
         )
     }
 }

@@ -452,7 +452,12 @@ impl<'a> Builder<'a> {
     fn signature(&mut self, head: Row) -> ItemSig<'a> {
         let space = self.here().b;
         let id = self.decl();
-        let kind = match space {
+        let kind = self.signature_kind(space);
+        ItemSig { span: place(head), id, name: None, kind }
+    }
+
+    fn signature_kind(&mut self, space: u8) -> ItemSigKind<'a> {
+        match space {
             7 => ItemSigKind::CoreModule(CoreTypeUse::Ref(self.core_item(kw::r#type))),
             8 => ItemSigKind::Func(ComponentTypeUse::Ref(self.item(kw::r#type))),
             9 => ItemSigKind::Type(match self.maybe_index() {
@@ -465,21 +470,25 @@ impl<'a> Builder<'a> {
                 Some(index) => ComponentValType::Ref(index),
                 None => self.primitive(),
             })),
-        };
-        ItemSig { span: place(head), id, name: None, kind }
+        }
     }
 
-    /// An export; a type ascribed to it, where there is one, has no references.
     fn export(&mut self, head: Row) -> ComponentExport<'a> {
+        let space = self.here().b;
         let id = self.decl();
+        let ty = (head.e == 1).then(|| self.ascribed(head, space));
         let kind = self.export_kind();
-        let ty = match self.choice.below(4) {
-            0 => Some(ItemSigKind::Type(TypeBounds::SubResource)),
-            1 => Some(ItemSigKind::Value(ComponentValTypeUse(self.primitive()))),
-            _ => None,
-        };
-        let ty = ty.map(|kind| ItemSigNoName(ItemSig { span: place(head), id: None, name: None, kind }));
         ComponentExport { span: place(head), id, debug_name: None, name: extern_name(), kind, ty }
+    }
+
+    /// The type ascribed to an export. Of an exported type a lone reference is the export's own.
+    fn ascribed(&mut self, head: Row, space: u8) -> ItemSigNoName<'a> {
+        let is_lone = self.rows[self.at + 1].code != REF;
+        let kind = match space {
+            9 if is_lone => ItemSigKind::Type(TypeBounds::SubResource),
+            _ => self.signature_kind(space),
+        };
+        ItemSigNoName(ItemSig { span: place(head), id: None, name: None, kind })
     }
 
     fn start(&mut self) -> Start<'a> {

@@ -7,6 +7,7 @@
 
 use crate::compare::{Case, Comparison};
 use crate::rows::{Answer, CLOSE, FIELD, HEADER, OPEN, REF, ROW, Row, decode, encode, output_size};
+use crate::shapes::EXPORT_FIELD;
 use crate::source::{self, Stage};
 use crate::tally::Tally;
 use std::collections::BTreeSet;
@@ -22,10 +23,19 @@ fn largest(stage: Stage) -> usize {
 /// How many random forms are looked through.
 const RANDOM: u64 = 200_000;
 
-/// The file, with at most `most` vectors of each refusal, and what its vectors show.
-pub fn file(comparison: &Comparison, most: usize, seed: u64) -> (Vec<u8>, Tally) {
-    let mut shown = BTreeSet::new();
+/// The vectors `kept` and behind them new ones, with at most `most` of each refusal in all; and what the new ones show.
+pub fn file(comparison: &Comparison, kept: &[u8], most: usize, seed: u64) -> (Vec<u8>, Tally) {
+    let (mut shown, mut forms) = (BTreeSet::new(), BTreeSet::new());
     let (mut bytes, mut tally) = (Vec::new(), Tally::default());
+    let mut like = [0; 13];
+    for case in cases(kept) {
+        let answer = comparison.expected(&case);
+        like[number(&answer)] += 1;
+        shown.extend(features(&decode(&case.form), &answer));
+        append(&mut bytes, &case, &answer);
+        forms.insert(case.form);
+    }
+    assert!(bytes == kept, "a vector that is kept has another answer now");
     let fixed = source::fixed(&comparison.shapes).into_iter();
     let random = (0..RANDOM).map(|number| source::random(&comparison.shapes, seed, number));
     let small = |(stage, case): &(Stage, Case)| case.form.len() <= HEADER + ROW * largest(*stage);
@@ -33,14 +43,33 @@ pub fn file(comparison: &Comparison, most: usize, seed: u64) -> (Vec<u8>, Tally)
         let answer = comparison.expected(&case);
         let features = features(&decode(&case.form), &answer);
         let new = features.iter().any(|feature| !shown.contains(feature));
-        let room = matches!(answer, Answer::Accepted(_)) || tally.like(&answer) < most as u64;
-        if stage == Stage::Stated || (new && room) {
+        let room = matches!(answer, Answer::Accepted(_)) || like[number(&answer)] < most;
+        if (stage == Stage::Stated || (new && room)) && !forms.contains(&case.form) {
+            like[number(&answer)] += 1;
             shown.extend(features);
             append(&mut bytes, &case, &answer);
             tally.count(stage, &case, &answer);
         }
     }
     (bytes, tally)
+}
+
+/// The refusal's number, or 0.
+fn number(answer: &Answer) -> usize {
+    (answer.packed() >> 32) as usize
+}
+
+/// The forms of a file, each with the output that is lent for it.
+fn cases(mut bytes: &[u8]) -> Vec<Case> {
+    let mut cases = Vec::new();
+    while !bytes.is_empty() {
+        let word = |at: usize| u32::from_le_bytes(bytes[4 * at..4 * at + 4].try_into().expect("four bytes")) as usize;
+        let (form, out_len, written) = (word(0), word(1), word(2));
+        let words = 24;
+        cases.push(Case { form: bytes[words..words + form].to_vec(), out_len, fill: 0, choice: 0 });
+        bytes = &bytes[words + form + written..];
+    }
+    cases
 }
 
 fn append(bytes: &mut Vec<u8>, case: &Case, answer: &Answer) {
@@ -62,10 +91,11 @@ fn append(bytes: &mut Vec<u8>, case: &Case, answer: &Answer) {
 }
 
 /// What a vector shows: an accepted one each field with its kind of scope and its references, a refused one the
-/// field and the row that the place is about.
+/// field and the row that the place is about. An export counts by its space, by whether it has an ascribed type and by
+/// how many references it has.
 fn features(rows: &[Row], answer: &Answer) -> BTreeSet<[u32; 4]> {
     let (mut kinds, mut field) = (Vec::new(), Row::default());
-    let number = (answer.packed() >> 32) as u32;
+    let number = number(answer) as u32;
     let length = if (1..=3).contains(&number) { rows.len() as u32 } else { 0 };
     let mut features = BTreeSet::from([[100, number, length, 0]]);
     for (at, row) in rows.iter().enumerate() {
@@ -76,9 +106,20 @@ fn features(rows: &[Row], answer: &Answer) -> BTreeSet<[u32; 4]> {
             _ => {}
         }
         let kind = kinds.last().map_or(4, |kind| u32::from(*kind));
-        features.extend(feature(answer, at as u32, *row, kind, u32::from(field.b)));
+        features.extend(feature(answer, at as u32, *row, kind, shown_field(field)));
+        if number == 0 && row.code == FIELD && row.b == EXPORT_FIELD {
+            let operands = rows[at + 1..].iter().take_while(|row| !matches!(row.code, FIELD | CLOSE));
+            let references = operands.filter(|row| row.code == REF).count() as u32;
+            features.insert([40, u32::from(rows[at + 1].b), u32::from(row.e), references]);
+        }
     }
     features
+}
+
+/// A field's code; exports with an ascribed type count as fields of their own.
+fn shown_field(field: Row) -> u32 {
+    let ascribed = if field.b == EXPORT_FIELD { u32::from(field.e) } else { 0 };
+    u32::from(field.b) + 100 * ascribed
 }
 
 /// What one row shows, which stands in this kind of scope and belongs to this field.

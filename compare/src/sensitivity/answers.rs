@@ -4,6 +4,7 @@ use crate::library::resolve;
 use crate::rows::{
     CLOSE, DECL, EXPORT, FIELD, FIRST_INSERTED, HEADER, MOST_ROWS, OPEN, REF, ROW, Row, decode, encode, output_size,
 };
+use crate::shapes::EXPORT_FIELD;
 
 pub const CHANGES: &[(&str, fn(&[u8], &mut [u8]) -> u64)] = &[
     ("refuses everything", |_, _| 4 << 32),
@@ -90,6 +91,20 @@ pub const CHANGES: &[(&str, fn(&[u8], &mut [u8]) -> u64)] = &[
             if form.len() == HEADER + ROW * MOST_ROWS { 2 << 32 } else { resolve(form, out) }
         },
     ),
+    ("of an exported type a lone reference is the ascribed type's", lone_type),
+    ("a FIELD row loses that there is an ascribed type", |form, out| {
+        with_rows(form, out, |row| {
+            if row.code == FIELD && row.b == EXPORT_FIELD {
+                row.e = 0
+            }
+        })
+    }),
+    ("e of an export may be 2", |form, out| {
+        let mut rows = decode(form);
+        let exports = rows.iter_mut().filter(|row| row.code == FIELD && row.b == EXPORT_FIELD && row.e == 2);
+        exports.for_each(|row| row.e = 1);
+        resolve(&[&form[..form.len().min(HEADER)], &encode(&rows)[HEADER..]].concat(), out)
+    }),
 ];
 
 fn is_inserted(row: &Row) -> bool {
@@ -131,6 +146,25 @@ fn keeps_paths(form: &[u8], out: &mut [u8]) -> u64 {
         out[..end].copy_from_slice(&encode(&rows));
     }
     answer
+}
+
+/// The first exported type with an ascribed type and one reference without PATHs is refused behind it.
+fn lone_type(form: &[u8], out: &mut [u8]) -> u64 {
+    let rows = decode(form);
+    let is_lone = |part: &[Row]| {
+        let export = (part[0].code, part[0].b, part[0].e) == (FIELD, EXPORT_FIELD, 1);
+        let of_type = (part[1].code, part[1].b, part[2].code, part[2].y) == (DECL, 9, REF, 0);
+        export && of_type && part[3].code != REF
+    };
+    let before = out.to_vec();
+    let answer = resolve(form, out);
+    match rows.windows(4).position(is_lone) {
+        Some(at) if !(1..=5).contains(&(answer >> 32)) => {
+            out.copy_from_slice(&before);
+            (4 << 32) | (at as u64 + 3)
+        }
+        _ => answer,
+    }
 }
 
 fn tail_kept(form: &[u8], out: &mut [u8]) -> u64 {
