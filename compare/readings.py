@@ -13,6 +13,7 @@ import sys
 
 FIELD, DECL, REF, OUTER, OPEN, CLOSE = 1, 2, 3, 5, 7, 8
 HERE_ONLY = {4, 5, 24}
+EXPORT = 22
 FRESH = 2147483648
 SAID = re.compile(r"(outward|looked up|counting): (?:row (\d+) declares [a-z ]+ (\d+)[^,;]*, (?:here|(\d+) scopes? out))?")
 ROW = re.compile(r" *\d+  ")
@@ -62,6 +63,12 @@ class Form:
     def is_walked(self, i):
         code, _, e, _, y, _ = self.rows[i]
         return code == REF and e == 1 and y == 0 and self.rows[self.field[i]][1] not in HERE_ONLY
+
+    def is_ascribed(self, i):
+        """whether row i is the reference of the type that is ascribed to an export: the first of two"""
+        field = self.field[i]
+        references = [j for j in range(field, len(self.rows)) if self.field[j] == field and self.rows[j][0] == REF]
+        return self.rows[field][1:3] == (EXPORT, 1) and len(references) == 2 and i == references[0]
 
     def is_inserted(self, i):
         """whether row i belongs to a field that the resolver inserted"""
@@ -117,7 +124,8 @@ def check_said(form, lines):
         through = THROUGH.search(lines[i])
         end = int(through.group(1)) if through else found and found[0]
         after = form.followed(i)
-        if (how, found) != form.meaning(i) or end != (after and after[0]):
+        ascribed = ", the ascribed type" in lines[i]
+        if (how, found) != form.meaning(i) or end != (after and after[0]) or ascribed != form.is_ascribed(i):
             wrong.append(i)
     return len(references), wrong
 

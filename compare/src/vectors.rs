@@ -91,10 +91,9 @@ fn append(bytes: &mut Vec<u8>, case: &Case, answer: &Answer) {
 }
 
 /// What a vector shows: an accepted one each field with its kind of scope and its references, a refused one the
-/// field and the row that the place is about. An export counts by its space, by whether it has an ascribed type and by
-/// how many references it has.
+/// field and the row that the place is about.
 fn features(rows: &[Row], answer: &Answer) -> BTreeSet<[u32; 4]> {
-    let (mut kinds, mut field) = (Vec::new(), Row::default());
+    let (mut kinds, mut field) = (Vec::new(), 0);
     let number = number(answer) as u32;
     let length = if (1..=3).contains(&number) { rows.len() as u32 } else { 0 };
     let mut features = BTreeSet::from([[100, number, length, 0]]);
@@ -102,24 +101,31 @@ fn features(rows: &[Row], answer: &Answer) -> BTreeSet<[u32; 4]> {
         match row.code {
             OPEN => kinds.push(row.b),
             CLOSE => drop(kinds.pop()),
-            FIELD => field = *row,
+            FIELD => field = shown_field(&rows[at..]),
             _ => {}
         }
         let kind = kinds.last().map_or(4, |kind| u32::from(*kind));
-        features.extend(feature(answer, at as u32, *row, kind, shown_field(field)));
+        features.extend(feature(answer, at as u32, *row, kind, field));
         if number == 0 && row.code == FIELD && row.b == EXPORT_FIELD {
-            let operands = rows[at + 1..].iter().take_while(|row| !matches!(row.code, FIELD | CLOSE));
-            let references = operands.filter(|row| row.code == REF).count() as u32;
-            features.insert([40, u32::from(rows[at + 1].b), u32::from(row.e), references]);
+            features.insert(export_feature(&rows[at..]));
         }
     }
     features
 }
 
-/// A field's code; exports with an ascribed type count as fields of their own.
-fn shown_field(field: Row) -> u32 {
-    let ascribed = if field.b == EXPORT_FIELD { u32::from(field.e) } else { 0 };
-    u32::from(field.b) + 100 * ascribed
+/// The code of the field that begins here; exports with an ascribed type count by the space that they declare.
+fn shown_field(rows: &[Row]) -> u32 {
+    let declared = rows.get(1).map_or(0, |decl| 1 + u32::from(decl.b));
+    let ascribed = rows[0].b == EXPORT_FIELD && rows[0].e == 1;
+    u32::from(rows[0].b) + if ascribed { 100 * declared } else { 0 }
+}
+
+/// What an export shows: its space, whether it has an ascribed type, how many references, and the PATHs of its own.
+fn export_feature(rows: &[Row]) -> [u32; 4] {
+    let operands = rows[1..].iter().take_while(|row| !matches!(row.code, FIELD | CLOSE));
+    let references: Vec<&Row> = operands.filter(|row| row.code == REF).collect();
+    let paths = references.last().map_or(0, |own| own.y.min(2));
+    [40 + paths, u32::from(rows[1].b), u32::from(rows[0].e), references.len() as u32]
 }
 
 /// What one row shows, which stands in this kind of scope and belongs to this field.
