@@ -164,7 +164,13 @@ cases =
     -- an export with an ascribed type: of two references the first is the type's, which is looked up first
     ∷ record { input = root (raw 1 22 1 0 0 0 ∷ raw 2 9 0 1 0 0 ∷ raw 3 9 1 7 0 3 ∷ raw 3 9 1 8 0 4 ∷ []); expected = refusal 9 3 }
     ∷ record { input = root (raw 1 22 1 0 0 0 ∷ raw 2 9 0 1 0 0 ∷ raw 3 9 1 1 0 3 ∷ raw 3 9 1 8 0 4 ∷ []); expected = refusal 9 4 }
+    -- and its alias is inserted first
+    ∷ record {
+      input = root (raw 1 12 0 0 0 0 ∷ raw 2 9 0 1 0 0 ∷ raw 1 6 0 0 0 0 ∷ raw 2 11 0 0 0 0 ∷ raw 7 0 0 0 0 0 ∷ raw 1 22 1 0 0 0 ∷ raw 2 9 0 0 0 0 ∷ raw 3 9 1 1 0 3 ∷ raw 3 9 1 1 0 4 ∷ raw 8 0 0 0 0 0 ∷ []);
+      expected = rows (root (raw 1 12 0 0 0 0 ∷ raw 2 9 0 1 0 0 ∷ raw 1 6 0 0 0 0 ∷ raw 2 11 0 0 0 0 ∷ raw 7 0 0 0 0 0 ∷ raw 1 11 0 0 0 3 ∷ raw 2 9 0 2147483648 0 3 ∷ raw 5 9 0 1 0 3 ∷ raw 1 11 0 0 0 4 ∷ raw 2 9 0 2147483649 0 4 ∷ raw 5 9 0 1 0 4 ∷ raw 1 22 1 0 0 0 ∷ raw 2 9 0 0 0 0 ∷ raw 3 9 0 0 0 3 ∷ raw 3 9 0 1 0 4 ∷ raw 8 0 0 0 0 0 ∷ []));
+    }
     -- one alone is the export's own and may have PATHs, and then no other follows; without any the form ends early
+    ∷ record { input = root (raw 1 22 1 0 0 0 ∷ raw 2 9 0 0 0 0 ∷ raw 3 9 0 0 0 0 ∷ []); expected = rows (root (raw 1 22 1 0 0 0 ∷ raw 2 9 0 0 0 0 ∷ raw 3 9 0 0 0 0 ∷ [])) }
     ∷ record {
       input = root (raw 1 8 0 0 0 0 ∷ raw 2 10 0 1 0 0 ∷ raw 1 22 1 0 0 0 ∷ raw 2 9 0 0 0 0 ∷ raw 3 9 1 1 1 70 ∷ raw 4 0 0 5 0 0 ∷ []);
       expected = rows (root (raw 1 8 0 0 0 0 ∷ raw 2 10 0 1 0 0 ∷ raw 1 9 0 0 0 70 ∷ raw 2 9 0 2147483648 0 70 ∷ raw 3 10 0 0 0 70 ∷ raw 9 0 0 5 0 0 ∷ raw 1 22 1 0 0 0 ∷ raw 2 9 0 0 0 0 ∷ raw 3 9 0 0 0 70 ∷ []));
