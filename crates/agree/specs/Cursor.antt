@@ -1,6 +1,6 @@
 -- The slots that are left of a scope: the next of them, whether it is a reference's own, and the number that it has.
 use mathlib.Core.Path.{_≡_, refl, sym, _∙_}
-use mathlib.Core.Option.{Option, none, some, Option·map}
+use mathlib.Core.Option.{Option, some, Option·map}
 use mathlib.Core.Bool.{Bool, true, false}
 use mathlib.Core.Logic.{_⊎_, inl, inr}
 use mathlib.Core.List.{List, [], _∷_, _++_}
@@ -15,7 +15,7 @@ use Rattle.kit.proofs.Laws.{lt-or-le, yes!, no!, tests}
 use Rattle.rules.specs.Tools.{if_then_else_}
 use Rattle.rules.specs.Tree.{Declaration, Operand, Head, Fields, end, _▸_, headOf, operandRow, itemRows}
 use Rattle.rules.specs.Shapes.{hereOnly}
-use Rattle.rules.specs.Rules.{Env, Result, refused, ok, find, headsDecls, expandOperand, expandHead}
+use Rattle.rules.specs.Rules.{Outside, onward, Result, refused, ok, find, headsDecls, expandOperand, expandHead}
 use Rattle.names.specs.Table.{Slot, emptySlot, between}
 use Rattle.names.specs.Stands.{count}
 use Rattle.names.proofs.Laws.{any-default, between-cons, between-nil}
@@ -143,7 +143,7 @@ unfolding if_then_else_
 choice-apart row true xs a = tt
 choice-apart row false xs a = a
 
-module _ (here : List Declaration) (outside : List Env) (row : ℕ) where
+module _ (here : List Declaration) (outside : Outside) (row : ℕ) where
   pub operands-apart : (before : List Declaration) (k row′ : ℕ) (os : List Operand) → row < row′ → Apart row (operandsSlots here outside before k row′ os)
   unfolding operandsSlots
   operands-apart before k row′ [] h = tt
@@ -156,15 +156,15 @@ module _ (here : List Declaration) (outside : List Env) (row : ℕ) where
   unfolding headSlots
   head-apart before k row′ h l = choice-apart row (hereOnly (h .code)) _ (operands-apart before k (row′ + 1 + length (h .decls)) (h .operands) (omega arith))
 
-  pub fields-apart : (before : List Declaration) (k row′ : ℕ) (fs : Fields) → row < row′ → Apart row (fieldsSlots here outside before k row′ fs)
-  unfolding fieldsSlots
-  fields-apart before k row′ end h = tt
-  fields-apart before k row′ (i ▸ fs) h =
-      if-apart row (expandHead here outside k (headOf i)) _ λ e.
-      let ds = before ++ headsDecls (e .inserted) in
-      apart-append row (headSlots here outside before k row′ (headOf i)) _ (head-apart before k row′ (headOf i) h)
-      (apart-append row (declSlots ds (row′ + 1) (headOf i .decls)) _ (later-apart row ds (row′ + 1) (headOf i .decls) (omega arith))
-      (fields-apart (ds ++ headOf i .decls) (e .k) (row′ + length (itemRows i)) fs (omega arith)))
+pub fields-apart : (here : List Declaration) (outside : Outside) (row : ℕ) (before : List Declaration) (k row′ : ℕ) (fs : Fields) → row < row′ → Apart row (fieldsSlots here outside before k row′ fs)
+unfolding fieldsSlots
+fields-apart here outside row before k row′ end h = tt
+fields-apart here outside row before k row′ (i ▸ fs) h =
+    if-apart row (expandHead here outside k (headOf i)) _ λ e.
+    let ds = before ++ headsDecls (e .inserted) in
+    apart-append row (headSlots here outside before k row′ (headOf i)) _ (head-apart here outside row before k row′ (headOf i) h)
+    (apart-append row (declSlots ds (row′ + 1) (headOf i .decls)) _ (later-apart row ds (row′ + 1) (headOf i .decls) (omega arith))
+    (fields-apart here (onward i outside) row (ds ++ headOf i .decls) (e .k) (row′ + length (itemRows i)) fs (omega arith)))
 
 -- ---- is the next slot a reference's own?
 

@@ -11,12 +11,13 @@ use Rattle.kit.specs.Out.{Out, _&_}
 use Rattle.rules.specs.Tools.{if_then_else_}
 use Rattle.rules.specs.Versions.{today}
 use Rattle.rules.specs.Rows.{Close}
-use Rattle.rules.specs.Tree.{Declaration, Head, scope, Fields, end, _▸_, Item, headOf, flatten, fieldsRows, itemRows}
+use Rattle.rules.specs.Tree.{Declaration, Head, Fields, end, _▸_, Item, headOf, flatten, fieldsRows, itemRows}
 use Rattle.rules.specs.Shapes.{hereOnly}
 use Rattle.rules.specs.Good.{GoodFields, heightItem, heights}
 use Rattle.rules.specs.Rules
-use Rattle.rules.specs.Rules.{Result, refused, ok, _>>=_, Env, fresh, Expanded, as-it-is, expandHead, expandFields, headsDecls, resolveInserted, resolveHead, resolveScope, resolveFields, resolveItem}
+use Rattle.rules.specs.Rules.{Entry, declsIn, tableOf, Outside, onward, opened, Result, refused, ok, _>>=_, Env, fresh, Expanded, as-it-is, expandHead, expandFields, headsDecls, resolveInserted, resolveHead, resolveScope, resolveFields, resolveItem}
 use Rattle.rules.specs.Laws.Results.{ok-same, bind-inv, holds-of}
+use Rattle.rules.specs.Laws.Entries.{field-decls}
 use Rattle.rules.specs.Laws.Meaning.Names.{LowDecls, LowFields}
 use Rattle.rules.specs.Laws.Meaning.Runs.{head-grown}
 use Rattle.rules.specs.Laws.Output.FourTimes.{inner, item-size, fields-size}
@@ -46,35 +47,35 @@ use Rattle.agree.specs.WalkStates.{Ready, Gone, FieldGone, says-then₃,
 
 -- ---- what the rules say of the fields
 
-fields-made : (here : List Declaration) (outside : List Env) (b : ℕ) (i : Item) (fs : Fields) (X : List Declaration × ℕ) → expandFields here outside b (i ▸ fs) ≡ ok X
-    → (e : Expanded Head) × (r : List Declaration × ℕ) × (expandHead here outside b (headOf i) ≡ ok e) × (expandFields here outside (e .k) fs ≡ ok r) × (X .0 ≡ headsDecls (e .inserted) ++ (headOf i .decls ++ r .0))
+fields-made : (here : List Declaration) (outside : Outside) (b : ℕ) (i : Item) (fs : Fields) (X : List Entry × ℕ) → expandFields here outside b (i ▸ fs) ≡ ok X
+    → (e : Expanded Head) × (r : List Entry × ℕ) × (expandHead here outside b (headOf i) ≡ ok e) × (expandFields here (onward i outside) (e .k) fs ≡ ok r) × (declsIn (X .0) ≡ headsDecls (e .inserted) ++ (headOf i .decls ++ declsIn (r .0)))
 unfolding expandFields
 fields-made here outside b i fs X q =
     let c₁ = bind-inv (expandHead here outside b (headOf i)) _ X q in
-    let c₂ = bind-inv (expandFields here outside (c₁ .0 .k) fs) _ X (c₁ .2) in
-    (c₁ .0, c₂ .0, c₁ .1, c₂ .1, ap (λ (x : List Declaration × ℕ). x .0) (sym (ok-same _ X (c₂ .2))))
+    let c₂ = bind-inv (expandFields here (onward i outside) (c₁ .0 .k) fs) _ X (c₁ .2) in
+    (c₁ .0, c₂ .0, c₁ .1, c₂ .1, ap (λ (x : List Entry × ℕ). declsIn (x .0)) (sym (ok-same _ X (c₂ .2))) ∙ field-decls _ _ (c₁ .0 .inserted) (c₁ .0 .rows) (headOf i .decls) (c₂ .0 .0))
 
 -- the field and what was inserted before it, and then the others
-unfoldable laterSays : (fs : Fields) (here₀ : List Declaration) (env : Env) (outside : List Env) (b : ℕ) → List Head × (Item × ℕ) → Result (Fields × ℕ)
+unfoldable laterSays : (fs : Fields) (here₀ : List Declaration) (env : Env) (outside : Outside) (b : ℕ) → List Head × (Item × ℕ) → Result (Fields × ℕ)
 laterSays fs here₀ env outside b x = resolveFields fs here₀ env outside b (x .1 .1) >>= λ rs. ok (Rules._before_ (x .0) (x .1 .0 ▸ rs .0), rs .1)
 
-fields-says : (i : Item) (fs : Fields) (here₀ : List Declaration) (env : Env) (outside : List Env) (b k : ℕ) (e : Expanded Head) → expandHead here₀ outside b (headOf i) ≡ ok e
-    → resolveFields (i ▸ fs) here₀ env outside b k ≡ (itemSays i env outside k e >>= laterSays fs here₀ env outside (e .k))
+fields-says : (i : Item) (fs : Fields) (here₀ : List Declaration) (env : Env) (outside : Outside) (b k : ℕ) (e : Expanded Head) → expandHead here₀ outside b (headOf i) ≡ ok e
+    → resolveFields (i ▸ fs) here₀ env outside b k ≡ (itemSays i env outside k e >>= laterSays fs here₀ env (onward i outside) (e .k))
 unfolding resolveScope itemSays headSays laterSays _>>=_
 fields-says i fs here₀ env outside b k e q = rw q (go (resolveInserted env outside (e .inserted)))
   where
-    third : (new : List Head) (h : Head) (m : Result (Item × ℕ)) → _≡_ {A = Result (Fields × ℕ)} (m >>= λ r. resolveFields fs here₀ env outside (e .k) (r .1) >>= λ rs. ok (Rules._before_ new (r .0 ▸ rs .0), rs .1))
-        (_>>=_ {B = List Head × (Item × ℕ)} m (λ r. ok (new, r)) >>= laterSays fs here₀ env outside (e .k))
+    third : (new : List Head) (h : Head) (m : Result (Item × ℕ)) → _≡_ {A = Result (Fields × ℕ)} (m >>= λ r. resolveFields fs here₀ env (onward i outside) (e .k) (r .1) >>= λ rs. ok (Rules._before_ new (r .0 ▸ rs .0), rs .1))
+        (_>>=_ {B = List Head × (Item × ℕ)} m (λ r. ok (new, r)) >>= laterSays fs here₀ env (onward i outside) (e .k))
     third new h (refused n z) = unfold _>>=_ in refl
     third new h (ok r) = unfold _>>=_ laterSays in refl
 
-    second : (new : List Head) (m : Result Head) → _≡_ {A = Result (Fields × ℕ)} (m >>= λ h. resolveItem i h env outside k >>= λ r. resolveFields fs here₀ env outside (e .k) (r .1) >>= λ rs. ok (Rules._before_ new (r .0 ▸ rs .0), rs .1))
-        (_>>=_ {B = List Head × (Item × ℕ)} (_>>=_ {B = List Head × Head} m (λ h′. ok (new, h′))) (λ p. resolveItem i (p .1) env outside k >>= λ r. ok (p .0, r)) >>= laterSays fs here₀ env outside (e .k))
+    second : (new : List Head) (m : Result Head) → _≡_ {A = Result (Fields × ℕ)} (m >>= λ h. resolveItem i h env outside k >>= λ r. resolveFields fs here₀ env (onward i outside) (e .k) (r .1) >>= λ rs. ok (Rules._before_ new (r .0 ▸ rs .0), rs .1))
+        (_>>=_ {B = List Head × (Item × ℕ)} (_>>=_ {B = List Head × Head} m (λ h′. ok (new, h′))) (λ p. resolveItem i (p .1) env outside k >>= λ r. ok (p .0, r)) >>= laterSays fs here₀ env (onward i outside) (e .k))
     second new (refused n z) = unfold _>>=_ in refl
     second new (ok h) = unfold _>>=_ in third new h (resolveItem i h env outside k)
 
-    go : (m : Result (List Head)) → _≡_ {A = Result (Fields × ℕ)} (m >>= λ new. resolveHead env outside (e .now) >>= λ h. resolveItem i h env outside k >>= λ r. resolveFields fs here₀ env outside (e .k) (r .1) >>= λ rs. ok (Rules._before_ new (r .0 ▸ rs .0), rs .1))
-        (_>>=_ {B = List Head × (Item × ℕ)} (_>>=_ {B = List Head × Head} m (λ new. resolveHead env outside (e .now) >>= λ h′. ok (new, h′))) (λ p. resolveItem i (p .1) env outside k >>= λ r. ok (p .0, r)) >>= laterSays fs here₀ env outside (e .k))
+    go : (m : Result (List Head)) → _≡_ {A = Result (Fields × ℕ)} (m >>= λ new. resolveHead env outside (e .now) >>= λ h. resolveItem i h env outside k >>= λ r. resolveFields fs here₀ env (onward i outside) (e .k) (r .1) >>= λ rs. ok (Rules._before_ new (r .0 ▸ rs .0), rs .1))
+        (_>>=_ {B = List Head × (Item × ℕ)} (_>>=_ {B = List Head × Head} m (λ new. resolveHead env outside (e .now) >>= λ h′. ok (new, h′))) (λ p. resolveItem i (p .1) env outside k >>= λ r. ok (p .0, r)) >>= laterSays fs here₀ env (onward i outside) (e .k))
     go (refused n z) = unfold _>>=_ in refl
     go (ok new) = unfold _>>=_ in second new (resolveHead env outside (e .now))
 
@@ -90,7 +91,7 @@ unfolding fresh
 low-under k [] l = tt
 low-under k (d ∷ ds) l = (omega arith, low-under k ds (l .1))
 
-heads-slots : (here : List Declaration) (outside : List Env) (before : List Declaration) (k row : ℕ) (h : Head) (e : Expanded Head) → expandHead here outside k h ≡ ok e → length (headSlots here outside before k row h) ≡ length (e .inserted)
+heads-slots : (here : List Declaration) (outside : Outside) (before : List Declaration) (k row : ℕ) (h : Head) (e : Expanded Head) → expandHead here outside k h ≡ ok e → length (headSlots here outside before k row h) ≡ length (e .inserted)
 unfolding headSlots if_then_else_ as-it-is
 heads-slots here outside before k row h e q = go (hereOnly (h .code)) refl
   where
@@ -99,6 +100,12 @@ heads-slots here outside before k row h e q = go (hereOnly (h .code)) refl
     go false c =
         let m = head-made here outside k h e q c in
         unfold if_then_else_ in rw (← m .2) (slots-inserted here outside (h .operands) before k (row + 1 + length (h .decls)) (m .0) (m .1))
+
+-- an open scope stays open from field to field
+envs-onward : (names : List Slot) (scopes : List (List ℕ)) (depth : ℕ) (env : Env) (outside : Outside) (i : Item) → Envs names scopes depth (opened env outside) → Envs names scopes depth (opened env (onward i outside))
+unfolding Envs
+envs-onward names scopes zero env outside i en = absurd en
+envs-onward names scopes (suc depth) env outside i en = (record { name = en .0 .name; order = en .0 .order; room = en .0 .room; stands = en .0 .stands; rows = en .0 .rows }, en .1)
 
 -- the slots of the innermost scope lie below those that are used
 below-innermost : (names : List Slot) (n : ℕ) (scopes : List (List ℕ)) (depth : ℕ) (env : Env) (es : List Env) → Envs names scopes depth (env ∷ es) → Below n scopes depth → getD (innermostT scopes depth) 2 0 ≤ n
@@ -122,8 +129,8 @@ module _ (rows ends : List ℕ) (short : length rows / 16 ≤ 1023) where
 
   pub fields-end : FieldsGo rows ends end
   unfolding flatten resolveScope fieldsT pick heights deep
-  fields-end allowed kind b k here₀ env outside before X entered names scopes out s depth zero h at en good low x ds u l ready t = absurd (omega arith)
-  fields-end allowed kind b k here₀ env outside before X entered names scopes out s depth (suc turns) h at en good low x ds u l ready t =
+  fields-end allowed kind b k here₀ env outside before X entered names scopes out s depth zero any-time at-row h at en good low x ds u l ready t = absurd (omega arith)
+  fields-end allowed kind b k here₀ env outside before X entered names scopes out s depth (suc turns) any-time at-row h at en good low x ds u l ready t =
       let is = at-head rows (s .at) Close [] at in
       let there = is .there in
       rw (code-is rows (s .at) Close is) (go (putAll out (s .to) (Close ∷ [])) refl)
@@ -149,17 +156,17 @@ module _ (rows ends : List ℕ) (short : length rows / 16 ≤ 1023) where
           )
 
   -- the fields behind one that is done
-  fields-later : (i : Item) (fs : Fields) → FieldsGo rows ends fs → (allowed kind b k : ℕ) (here₀ : List Declaration) (env : Env) (outside : List Env) (before : List Declaration) (e : Expanded Head) (r : List Declaration × ℕ)
+  fields-later : (i : Item) (fs : Fields) → FieldsGo rows ends fs → (allowed kind b k : ℕ) (here₀ : List Declaration) (env : Env) (outside : Outside) (before : List Declaration) (e : Expanded Head) (r : List Entry × ℕ)
       (entered names : List Slot) (scopes : List (List ℕ)) (out : List ℕ) (s : State) (depth turns : ℕ) (y : List Head × (Item × ℕ)) (w : Wrote₃)
       (F : FieldGone (begunT s depth) names out (s .at + length (itemRows i)) (s .next + length (e .inserted) + length (headOf i .decls)) (y .1 .1) (headsRows (y .0) ++ itemRows (y .1 .0)) w) → y .1 .1 ≤ k + inner i
-      → heights fs ≤ allowed → At rows (s .at + length (itemRows i)) (fieldsRows fs ++ (Close ∷ [])) → Ends fs ends (s .at + length (itemRows i)) → GoodFields today fs kind → LowDecls (headOf i .decls) → LowFields fs
-      → expandHead here₀ outside b (headOf i) ≡ ok e → expandFields here₀ outside (e .k) fs ≡ ok r → env .decls ≡ before ++ (headsDecls (e .inserted) ++ (headOf i .decls ++ r .0)) → Under (fresh b) before
-      → Left names (getD (innermostT scopes depth) 2 0) (s .next) (headSlots here₀ outside before b (s .at) (headOf i) ++ (declSlots (before ++ headsDecls (e .inserted)) (s .at + 1) (headOf i .decls) ++ fieldsSlots here₀ outside ((before ++ headsDecls (e .inserted)) ++ headOf i .decls) (e .k) (s .at + length (itemRows i)) fs))
-      → Ready entered names scopes (begunT s depth) (env ∷ outside) (heights (i ▸ fs)) (deep (i ▸ fs)) k → length (fieldsRows fs) < turns
-      → Says (laterSays fs here₀ env outside (e .k) y) (λ v w. Gone s names out (s .at + length (fieldsRows (i ▸ fs)) + 1) (v .1) (fieldsRows (v .0) ++ (Close ∷ [])) w × (v .1 ≤ k + deep (i ▸ fs)))
+      → outside .early ≡ false → outside .before .row ≡ s .at → heights fs ≤ allowed → At rows (s .at + length (itemRows i)) (fieldsRows fs ++ (Close ∷ [])) → Ends fs ends (s .at + length (itemRows i)) → GoodFields today fs kind → LowDecls (headOf i .decls) → LowFields fs
+      → expandHead here₀ outside b (headOf i) ≡ ok e → expandFields here₀ (onward i outside) (e .k) fs ≡ ok r → tableOf env ≡ before ++ (headsDecls (e .inserted) ++ (headOf i .decls ++ declsIn (r .0))) → Under (fresh b) before
+      → Left names (getD (innermostT scopes depth) 2 0) (s .next) (headSlots here₀ outside before b (s .at) (headOf i) ++ (declSlots (before ++ headsDecls (e .inserted)) (s .at + 1) (headOf i .decls) ++ fieldsSlots here₀ (onward i outside) ((before ++ headsDecls (e .inserted)) ++ headOf i .decls) (e .k) (s .at + length (itemRows i)) fs))
+      → Ready entered names scopes (begunT s depth) (opened env outside) (heights (i ▸ fs)) (deep (i ▸ fs)) k → length (fieldsRows fs) < turns
+      → Says (laterSays fs here₀ env (onward i outside) (e .k) y) (λ v w. Gone s names out (s .at + length (fieldsRows (i ▸ fs)) + 1) (v .1) (fieldsRows (v .0) ++ (Close ∷ [])) w × (v .1 ≤ k + deep (i ▸ fs)))
       (fieldsT rows ends (scopeT rows ends allowed) (F .gone .entered′) (F .gone .names′) scopes (F .gone .after) (F .gone .state) depth turns)
   unfolding heights deep laterSays
-  fields-later i fs later allowed kind b k here₀ env outside before e r entered names scopes out s depth turns y w F grows h at en good low-decls low x x′ ds u l ready t =
+  fields-later i fs later allowed kind b k here₀ env outside before e r entered names scopes out s depth turns y w F grows any-time at-row h at en good low-decls low x x′ ds u l ready t =
       let g = F .gone in
       let v = g .state in
       let h₀ = headOf i in
@@ -172,19 +179,19 @@ module _ (rows ends : List ℕ) (short : length rows / 16 ≤ 1023) where
       let used = F .used in
       let fsize = fields-size i fs in
       let size = g .size in
-      let near = below-innermost names (s .used) scopes depth env outside (ready .envs) (ready .below) in
-      let slots₁ = fieldsSlots here₀ outside (ds₁ ++ h₀ .decls) (e .k) p fs in
+      let near = below-innermost names (s .used) scopes depth _ (outside .scopes) (ready .envs) (ready .below) in
+      let slots₁ = fieldsSlots here₀ (onward i outside) (ds₁ ++ h₀ .decls) (e .k) p fs in
       let l₁ : Left names to (s .next + length (e .inserted)) (declSlots ds₁ (s .at + 1) (h₀ .decls) ++ slots₁) = rw (heads-slots here₀ outside before b (s .at) h₀ e x) at (left-past names to (s .next) (headSlots here₀ outside before b (s .at) h₀) _ l) in
       let l₂ : Left names to (s .next + length (e .inserted) + length (h₀ .decls)) slots₁ = rw (decl-length ds₁ (s .at + 1) (h₀ .decls)) at (left-past names to (s .next + length (e .inserted)) (declSlots ds₁ (s .at + 1) (h₀ .decls)) slots₁ l₁) in
       let l₃ : Left (g .names′) to (s .next + length (e .inserted) + length (h₀ .decls)) slots₁ =
       record { are = between-kept (s .used) (g .names′) names (g .kept) (s .next + length (e .inserted) + length (h₀ .decls)) to near ∙ l₂ .are; room = omega arith } in
       let gr = holds-of _ _ e (head-grown here₀ outside b h₀) x in
       let u′ = under-append (fresh (e .k)) ds₁ (h₀ .decls) (grown-under b (e .k) before (e .inserted) (gr .0) (gr .1) u) (low-under (e .k) (h₀ .decls) low-decls) in
-      let envs′ = envs-kept (s .used) names (g .names′) (sym (g .kept)) scopes depth (env ∷ outside) (omega arith) (ready .below) (ready .envs) in
-      let ready′ : Ready (g .entered′) (g .names′) scopes (begunT v depth) (env ∷ outside) (heights fs) (deep fs) (y .1 .1) =
+      let envs′ = envs-onward (g .names′) scopes depth env outside i (envs-kept (s .used) names (g .names′) (sym (g .kept)) scopes depth (opened env outside) (omega arith) (ready .below) (ready .envs)) in
+      let ready′ : Ready (g .entered′) (g .names′) scopes (begunT v depth) (opened env (onward i outside)) (heights fs) (deep fs) (y .1 .1) =
       record { room = g .room; size = size; depths = ready .depths; envs = envs′; below = rw used (ready .below); deep = omega arith; slots = omega arith; numbers = omega arith; fresh = g .fresh } in
-      says-map (resolveFields fs here₀ env outside (e .k) (y .1 .1)) (λ rs. (Rules._before_ (y .0) (y .1 .0 ▸ rs .0), rs .1)) _ _ _
-      (later allowed kind (e .k) (y .1 .1) here₀ env outside (ds₁ ++ h₀ .decls) r (g .entered′) (g .names′) scopes (g .after) v depth turns h (rw (g .arrived) at) (rw (g .arrived) en) good low x′
+      says-map (resolveFields fs here₀ env (onward i outside) (e .k) (y .1 .1)) (λ rs. (Rules._before_ (y .0) (y .1 .0 ▸ rs .0), rs .1)) _ _ _
+      (later allowed kind (e .k) (y .1 .1) here₀ env (onward i outside) (ds₁ ++ h₀ .decls) r (g .entered′) (g .names′) scopes (g .after) v depth turns any-time (omega (arith, g .arrived)) h (rw (g .arrived) at) (rw (g .arrived) en) good low x′
       (ds ∙ simp append-assoc) u′ (rw (F .passes, g .arrived) l₃) ready′ t)
       (λ rs G.
       let arrived = G .0 .arrived in
@@ -209,8 +216,8 @@ module _ (rows ends : List ℕ) (short : length rows / 16 ≤ 1023) where
 
   pub fields-from : (i : Item) (fs : Fields) → ItemGoes rows ends i → FieldsGo rows ends fs → FieldsGo rows ends (i ▸ fs)
   unfolding fieldsT pick heights deep Ends fieldsSlots ifOk wroteThen₃ laterSays
-  fields-from i fs item later allowed kind b k here₀ env outside before X entered names scopes out s depth zero h at en good low x ds u l ready t = absurd (omega arith)
-  fields-from i fs item later allowed kind b k here₀ env outside before X entered names scopes out s depth (suc turns) h at en good low x ds u l ready t =
+  fields-from i fs item later allowed kind b k here₀ env outside before X entered names scopes out s depth zero any-time at-row h at en good low x ds u l ready t = absurd (omega arith)
+  fields-from i fs item later allowed kind b k here₀ env outside before X entered names scopes out s depth (suc turns) any-time at-row h at en good low x ds u l ready t =
       let c = fields-made here₀ outside b i fs X x in
       let e = c .0 in
       let h₀ = headOf i in
@@ -225,14 +232,14 @@ module _ (rows ends : List ℕ) (short : length rows / 16 ≤ 1023) where
       let numbers-left = ready .numbers in
       let spaces = good-spaces (i ▸ fs) kind good in
       let ds₁ = before ++ headsDecls (e .inserted) in
-      let slots₁ = fieldsSlots here₀ outside (ds₁ ++ h₀ .decls) (e .k) (s .at + length (itemRows i)) fs in
+      let slots₁ = fieldsSlots here₀ (onward i outside) (ds₁ ++ h₀ .decls) (e .k) (s .at + length (itemRows i)) fs in
       let l′ : Left names (getD (innermostT scopes depth) 2 0) (s .next) (headSlots here₀ outside before b (s .at) h₀ ++ (declSlots ds₁ (s .at + 1) (h₀ .decls) ++ slots₁)) = rw (c .2) at l in
-      let ds′ : env .decls ≡ before ++ (headsDecls (e .inserted) ++ (h₀ .decls ++ c .1 .0)) = ds ∙ ap (λ (y : List Declaration). before ++ y) (c .4) in
-      let ready₁ : Ready entered names scopes (begunT s depth) (env ∷ outside) (heightItem i) (inner i) k =
+      let ds′ : tableOf env ≡ before ++ (headsDecls (e .inserted) ++ (h₀ .decls ++ declsIn (c .1 .0))) = ds ∙ ap (λ (y : List Declaration). before ++ y) (c .4) in
+      let ready₁ : Ready entered names scopes (begunT s depth) (opened env outside) (heightItem i) (inner i) k =
       record { room = ready .room; size = ready .size; depths = ready .depths; envs = ready .envs; below = ready .below; deep = omega arith; slots = omega arith; numbers = omega arith; fresh = ready .fresh } in
       rw (code, fields-says i fs here₀ env outside b k e (c .2))
-      (says-then₃ (itemSays i env outside k e) (laterSays fs here₀ env outside (e .k)) _ _ (fieldT rows ends (scopeT rows ends allowed) entered names scopes out (begunT s depth)) _
-      (item allowed kind b k here₀ env outside before (c .1 .0) e slots₁ entered names scopes out (begunT s depth) (omega arith) (at-left rows (s .at) (itemRows i) (fieldsRows fs ++ (Close ∷ [])) at′) (next-code fs (s .at + length (itemRows i)) behind)
-      (en .0) (en .1) (good .0) (spaces .0) (low .1) (c .2) l′ (λ r g g′. fields-apart here₀ outside r (ds₁ ++ h₀ .decls) (e .k) (s .at + length (itemRows i)) fs (omega arith)) ds′ u refl refl ready₁)
+      (says-then₃ (itemSays i env outside k e) (laterSays fs here₀ env (onward i outside) (e .k)) _ _ (fieldT rows ends (scopeT rows ends allowed) entered names scopes out (begunT s depth)) _
+      (item allowed kind b k here₀ env outside before (declsIn (c .1 .0)) e slots₁ entered names scopes out (begunT s depth) any-time at-row (omega arith) (at-left rows (s .at) (itemRows i) (fieldsRows fs ++ (Close ∷ [])) at′) (next-code fs (s .at + length (itemRows i)) behind)
+      (en .0) (en .1) (good .0) (spaces .0) (low .1) (c .2) l′ (λ r g g′. fields-apart here₀ (onward i outside) r (ds₁ ++ h₀ .decls) (e .k) (s .at + length (itemRows i)) fs (omega arith)) ds′ u refl refl ready₁)
       (λ y q F. rw (F .0 .gone .is)
-      (fields-later i fs later allowed kind b k here₀ env outside before e (c .1) entered names scopes out s depth turns y _ (F .0) (F .1) (omega arith) behind (en .2) (good .1) (low .0 .decls) (low .2) (c .2) (c .3) ds′ u l′ ready (omega arith))))
+      (fields-later i fs later allowed kind b k here₀ env outside before e (c .1) entered names scopes out s depth turns y _ (F .0) (F .1) any-time at-row (omega arith) behind (en .2) (good .1) (low .0 .decls) (low .2) (c .2) (c .3) ds′ u l′ ready (omega arith))))

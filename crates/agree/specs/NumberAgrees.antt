@@ -13,11 +13,11 @@ use Rattle.kit.proofs.Laws.{yes!, no!, tests}
 use Rattle.rules.specs.Rows.{Index, Num, Id}
 use Rattle.rules.specs.Tree.{Declaration, Operand, ref, outer, case, operandRow, operandRows, pathRows}
 use Rattle.rules.specs.Shapes.{declared}
-use Rattle.rules.specs.Rules.{ok, Env, find, fresh, Expanded, as-it-is, through, expandOperand, expandOperands, headsDecls, outerAlias, exportAlias, pathAliases}
+use Rattle.rules.specs.Rules.{tableOf, Outside, ok, Env, find, fresh, Expanded, as-it-is, through, expandOperand, expandOperands, headsDecls, outerAlias, exportAlias, pathAliases}
 use Rattle.rules.specs.Laws.Results.{ok-same, holds-of}
 use Rattle.rules.specs.Laws.Meaning.Runs.{operand-grown}
 use Rattle.rows.specs.Taken.{asIndex}
-use Rattle.names.specs.Table.{Slot, between, slotsIn}
+use Rattle.names.specs.Table.{Slot, slotsIn}
 use Rattle.names.specs.Stands.{foundOf, Opens}
 use Rattle.names.proofs.Storey.{find-stands}
 use Rattle.write.specs.declared.own.Numbered.{Numbered}
@@ -79,7 +79,7 @@ follows-is names k by h =
     sym (yes! _ (omega tests) (sym e))
 
 module _ (env : Env) (names : List Slot) (here : List ℕ) (opens : Opens names here env) (space z row : ℕ) where
-  number-refers : (n : ℕ) (rest : List Slot) → Refers (env .decls) names here space (Num n) [] z row (ref space (Num n) [] z) rest rest
+  number-refers : (n : ℕ) (rest : List Slot) → Refers (tableOf env) names here space (Num n) [] z row (ref space (Num n) [] z) rest rest
   unfolding refNumberT atNumberT asIndex pick
   number-refers n rest = record { index = Num n; is = refl; after = 0; numbers = λ alias l. (rw (add-zero alias) l, rw (add-zero alias)) }
 
@@ -89,18 +89,18 @@ module _ (env : Env) (names : List Slot) (here : List ℕ) (opens : Opens names 
   found-is (some n) alias = refl
 
   -- a name that is looked up in the scope
-  name-refers : (name : ℕ) (rest : List Slot) → Apart row rest → Refers (env .decls) names here space (Id name) [] z row (ref space (Id name) [] z) rest rest
+  name-refers : (name : ℕ) (rest : List Slot) → Apart row rest → Refers (tableOf env) names here space (Id name) [] z row (ref space (Id name) [] z) rest rest
   unfolding refNumberT atNumberT nameNumberT asIndex pick slotsIn
   name-refers name rest a =
       record {
         index = Id name;
         is = refl;
         after = 0;
-        numbers = λ alias l. (rw (add-zero alias) l, rw (add-zero alias, not-inserted names here alias row rest l a, find-stands space name _ (env .decls) (opens .stands)) (found-is (find (env .decls) space name) alias));
+        numbers = λ alias l. (rw (add-zero alias) l, rw (add-zero alias, not-inserted names here alias row rest l a, find-stands space name _ (tableOf env) (opens .stands)) (found-is (find (tableOf env) space name) alias));
       }
 
-  outer-refers : (name k d n : ℕ) (before after : List Declaration) (rest : List Slot) → env .decls ≡ before ++ (newDecl space k z ∷ after) → Under (fresh k) before
-      → Refers (env .decls) names here space (Id name) [] z row (ref space (Id (fresh k)) [] z) (insertedSlots before row (outerAlias space (fresh k) d n z ∷ []) ++ rest) rest
+  outer-refers : (name k d n : ℕ) (before after : List Declaration) (rest : List Slot) → tableOf env ≡ before ++ (newDecl space k z ∷ after) → Under (fresh k) before
+      → Refers (tableOf env) names here space (Id name) [] z row (ref space (Id (fresh k)) [] z) (insertedSlots before row (outerAlias space (fresh k) d n z ∷ []) ++ rest) rest
   unfolding refNumberT atNumberT nameNumberT asIndex pick insertedSlots insertedSlot outerAlias declared
   outer-refers name k d n before after rest e u =
       record {
@@ -113,8 +113,8 @@ module _ (env : Env) (names : List Slot) (here : List ℕ) (opens : Opens names 
       }
 
   path-refers : (at : Index) (p : ℕ) (ps : List ℕ) (k : ℕ) (before after : List Declaration) (rest : List Slot) → (0 < length ps → 7 ≤ space)
-      → env .decls ≡ before ++ (headsDecls (pathAliases space at p ps z k) ++ after) → Under (fresh k) before
-      → Refers (env .decls) names here space at (p ∷ ps) z row (ref space (Id (fresh (k + length ps))) [] z) (insertedSlots before row (pathAliases space at p ps z k) ++ rest) rest
+      → tableOf env ≡ before ++ (headsDecls (pathAliases space at p ps z k) ++ after) → Under (fresh k) before
+      → Refers (tableOf env) names here space at (p ∷ ps) z row (ref space (Id (fresh (k + length ps))) [] z) (insertedSlots before row (pathAliases space at p ps z k) ++ rest) rest
   unfolding refNumberT pick
   path-refers at p ps k before after rest far e u =
       record {
@@ -122,7 +122,7 @@ module _ (env : Env) (names : List Slot) (here : List ℕ) (opens : Opens names 
         is = refl;
         after = suc (length ps);
         numbers = λ alias l.
-            let c = path-number (env .decls) names (getD here 2 0) row space z ps p at k alias before after rest far l e u in
+            let c = path-number (tableOf env) names (getD here 2 0) row space z ps p at k alias before after rest far l e u in
             let inside = c .1 in
             let room = l .room in
             let m : suc (length ps) - 1 ≡ length ps = omega arith in (
@@ -132,15 +132,15 @@ module _ (env : Env) (names : List Slot) (here : List ℕ) (opens : Opens names 
       }
 
   -- what step B makes of a reference has the number that the code finds
-  pub ref-refers : (here₀ : List Declaration) (outside : List Env) (at : Index) (paths : List ℕ) (k : ℕ) (before after : List Declaration) (rest : List Slot) (e : Expanded Operand)
-      → (1 < length paths → 7 ≤ space) → expandOperand here₀ outside k (ref space at paths z) ≡ ok e → Apart row rest → env .decls ≡ before ++ (headsDecls (e .inserted) ++ after) → Under (fresh k) before
-      → Refers (env .decls) names here space at paths z row (e .now) (insertedSlots before row (e .inserted) ++ rest) rest
+  pub ref-refers : (here₀ : List Declaration) (outside : Outside) (at : Index) (paths : List ℕ) (k : ℕ) (before after : List Declaration) (rest : List Slot) (e : Expanded Operand)
+      → (1 < length paths → 7 ≤ space) → expandOperand here₀ outside k (ref space at paths z) ≡ ok e → Apart row rest → tableOf env ≡ before ++ (headsDecls (e .inserted) ++ after) → Under (fresh k) before
+      → Refers (tableOf env) names here space at paths z row (e .now) (insertedSlots before row (e .inserted) ++ rest) rest
   unfolding as-it-is through insertedSlots
   ref-refers here₀ outside (Num n) [] k before after rest e far q a ds u = rw (← number-made here₀ outside space z k e n q) (number-refers n rest)
   ref-refers here₀ outside (Id name) [] k before after rest e far q a ds u = go (name-made here₀ outside space z k e name q)
     where
       go : ((as-it-is (ref space (Id name) [] z) k ≡ e) ⊎ ((at : ℕ × ℕ) × (through space z k (outerAlias space (fresh k) (at .0) (at .1) z ∷ []) ≡ e)))
-          → Refers (env .decls) names here space (Id name) [] z row (e .now) (insertedSlots before row (e .inserted) ++ rest) rest
+          → Refers (tableOf env) names here space (Id name) [] z row (e .now) (insertedSlots before row (e .inserted) ++ rest) rest
       go (inl m) = unfold as-it-is insertedSlots in rw (← m) (name-refers name rest a)
       go (inr m) = unfold through headsDecls outerAlias in rw (← m .1) (outer-refers name k (m .0 .0) (m .0 .1) before after rest (rw (← m .1) at ds) u)
   ref-refers here₀ outside at (p ∷ ps) k before after rest e far q a ds u =
@@ -174,38 +174,38 @@ row-some (case name z) os = (omega arith, omega arith)
 
 module _ (env : Env) (names : List Slot) (here : List ℕ) (opens : Opens names here env) where
   -- a reference that is looked up in its own scope only
-  here-refers : (space : ℕ) (at : Index) (z row : ℕ) (rest : List Slot) → Apart row rest → Refers (env .decls) names here space at [] z row (ref space at [] z) rest rest
+  here-refers : (space : ℕ) (at : Index) (z row : ℕ) (rest : List Slot) → Apart row rest → Refers (tableOf env) names here space at [] z row (ref space at [] z) rest rest
   here-refers space (Num n) z row rest a = number-refers env names here opens space z row n rest
   here-refers space (Id name) z row rest a = name-refers env names here opens space z row name rest a
 
-  pub here-go : (os : List Operand) (row : ℕ) (rest : List Slot) → NoPaths os → ((r : ℕ) → row ≤ r → r < row + length (operandRows os) → Apart r rest) → AllGo (env .decls) names here row os os rest
+  pub here-go : (os : List Operand) (row : ℕ) (rest : List Slot) → NoPaths os → ((r : ℕ) → row ≤ r → r < row + length (operandRows os) → Apart r rest) → AllGo (tableOf env) names here row os os rest
   here-go [] row rest n a = done
   here-go (ref space at paths z ∷ os) row rest n a =
       let c = row-some (ref space at paths z) os in
-      let g : Goes (env .decls) names here row (ref space at paths z) (ref space at paths z) rest rest = rw (n .0) (here-refers space at z row rest (a row (omega arith) (omega (arith, c .0, c .1)))) in
+      let g : Goes (tableOf env) names here row (ref space at paths z) (ref space at paths z) rest rest = rw (n .0) (here-refers space at z row rest (a row (omega arith) (omega (arith, c .0, c .1)))) in
       goes g
       (here-go os (row + length (operandRow (ref space at paths z))) rest (n .1) (λ r l g. a r (omega arith) (omega (arith, c .1))))
   here-go (outer space up at z ∷ os) row rest n a =
       let c = row-some (outer space up at z) os in
-      let g : Goes (env .decls) names here row (outer space up at z) (outer space up at z) rest rest = (refl, refl) in
+      let g : Goes (tableOf env) names here row (outer space up at z) (outer space up at z) rest rest = (refl, refl) in
       goes g (here-go os (row + length (operandRow (outer space up at z))) rest n (λ r l g. a r (omega arith) (omega (arith, c .1))))
   here-go (case name z ∷ os) row rest n a =
       let c = row-some (case name z) os in
-      let g : Goes (env .decls) names here row (case name z) (case name z) rest rest = (refl, refl) in
+      let g : Goes (tableOf env) names here row (case name z) (case name z) rest rest = (refl, refl) in
       goes g (here-go os (row + length (operandRow (case name z))) rest n (λ r l g. a r (omega arith) (omega (arith, c .1))))
 
-  operand-goes : (here₀ : List Declaration) (outside : List Env) (o : Operand) (k row : ℕ) (before after : List Declaration) (rest : List Slot) (e : Expanded Operand)
-      → FitOperand o → expandOperand here₀ outside k o ≡ ok e → Apart row rest → env .decls ≡ before ++ (headsDecls (e .inserted) ++ after) → Under (fresh k) before
-      → Goes (env .decls) names here row o (e .now) (insertedSlots before row (e .inserted) ++ rest) rest
+  operand-goes : (here₀ : List Declaration) (outside : Outside) (o : Operand) (k row : ℕ) (before after : List Declaration) (rest : List Slot) (e : Expanded Operand)
+      → FitOperand o → expandOperand here₀ outside k o ≡ ok e → Apart row rest → tableOf env ≡ before ++ (headsDecls (e .inserted) ++ after) → Under (fresh k) before
+      → Goes (tableOf env) names here row o (e .now) (insertedSlots before row (e .inserted) ++ rest) rest
   unfolding expandOperand as-it-is insertedSlots
   operand-goes here₀ outside (ref space at paths z) k row before after rest e f q a ds u = ref-refers env names here opens space z row here₀ outside at paths k before after rest e (f .1) q a ds u
   operand-goes here₀ outside (outer space up at z) k row before after rest e f q a ds u = rw (← ok-same _ e q) (refl, refl)
   operand-goes here₀ outside (case name z) k row before after rest e f q a ds u = rw (← ok-same _ e q) (refl, refl)
 
-  pub expand-go : (here₀ : List Declaration) (outside : List Env) (os : List Operand) (k row : ℕ) (before after : List Declaration) (rest : List Slot) (E : Expanded (List Operand))
+  pub expand-go : (here₀ : List Declaration) (outside : Outside) (os : List Operand) (k row : ℕ) (before after : List Declaration) (rest : List Slot) (E : Expanded (List Operand))
       → FitOperands os → expandOperands here₀ outside k os ≡ ok E → ((r : ℕ) → row ≤ r → r < row + length (operandRows os) → Apart r rest)
-      → env .decls ≡ before ++ (headsDecls (E .inserted) ++ after) → Under (fresh k) before
-      → AllGo (env .decls) names here row os (E .now) (operandsSlots here₀ outside before k row os ++ rest)
+      → tableOf env ≡ before ++ (headsDecls (E .inserted) ++ after) → Under (fresh k) before
+      → AllGo (tableOf env) names here row os (E .now) (operandsSlots here₀ outside before k row os ++ rest)
   unfolding expandOperands operandsSlots as-it-is ifOk
   expand-go here₀ outside [] k row before after rest E f q a ds u = rw (← ok-same _ E q) done
   expand-go here₀ outside (o ∷ os) k row before after rest E f q a ds u =
@@ -216,7 +216,7 @@ module _ (env : Env) (names : List Slot) (here : List ℕ) (opens : Opens names 
       let some-row = l .0 in
       let g = holds-of _ _ e (operand-grown here₀ outside k o) (c .2) in
       let later = operandsSlots here₀ outside (before ++ headsDecls (e .inserted)) (e .k) (row + length (operandRow o)) os in
-      let ds′ : env .decls ≡ before ++ (headsDecls (e .inserted) ++ (headsDecls (es .inserted) ++ after)) = rw (← c .4, heads-append (e .inserted) (es .inserted), append-assoc) at ds in
+      let ds′ : tableOf env ≡ before ++ (headsDecls (e .inserted) ++ (headsDecls (es .inserted) ++ after)) = rw (← c .4, heads-append (e .inserted) (es .inserted), append-assoc) at ds in
       rw (← c .4, c .2, append-assoc (insertedSlots before row (e .inserted)) later rest)
       (goes
       (operand-goes here₀ outside o k row before (headsDecls (es .inserted) ++ after) (later ++ rest) e (f .0) (c .2)

@@ -30,9 +30,9 @@ meaning (UnknownScope place) = numbers 10 place
 meaning (CountTooLarge place) = numbers 11 place
 meaning (DuplicateCase place) = numbers 12 place
 
--- of the rules
+-- of the rules, whose refusals carry more than the code answers
 abbrev pub ruled : Ruled → Numbers
-ruled (rules.refused number place) = numbers number place
+ruled (rules.refused number place carried) = numbers number place
 ruled (accepted rows) = numbers 0 (length rows)
 
 -- the number times 2^32 plus the place
