@@ -1,5 +1,8 @@
 // What a file is that the resolver refuses, and the words for it.
 use crate::text::is_text;
+use refusal::DEEP;
+use refusal::NOT_A_FORM;
+use refusal::Refusal;
 use view::accepted::is_resolved;
 use view::accepted::say_resolved;
 use view::refusal::say_refusal;
@@ -20,9 +23,9 @@ pub(crate) enum Known {
 pub(crate) fn what_is(number: u32, resolved: bool) -> Known
     ensures { λ r. ⌜ r ≡ knownOf number resolved ⌝ }
 {
-    if number == 1 {
+    if number == NOT_A_FORM {
         Known::NoForm
-    } else if 5 < number {
+    } else if DEEP < number {
         Known::Whole
     } else if resolved {
         Known::Resolved
@@ -32,32 +35,32 @@ pub(crate) fn what_is(number: u32, resolved: bool) -> Known
 }
 
 // Of what is no form: whether it is empty or looks like text.
-fn say_no_form(talk: i32, bytes: &[u8], number: u32, place: u32) {
+fn say_no_form(talk: i32, bytes: &[u8], refusal: Refusal) {
     if bytes.len() == 0 {
-        say_where(talk, number, place);
+        say_where(talk, refusal.number, refusal.place);
         say(talk, b"this is no form: the file is empty\n");
     } else if is_text(bytes) {
-        say_where(talk, number, place);
+        say_where(talk, refusal.number, refusal.place);
         say(
             talk,
             b"this is no form: this looks like text: wnt takes rows\n",
         );
     } else {
-        say_refusal(talk, bytes, number, place);
+        say_refusal(talk, bytes, refusal.number, refusal.place);
     }
 }
 
-fn say_resolved_before(talk: i32, form: &[u8], number: u32, place: u32) {
-    say_where(talk, number, place);
+fn say_resolved_before(talk: i32, form: &[u8], refusal: Refusal) {
+    say_where(talk, refusal.number, refusal.place);
     say_resolved(talk, form);
 }
 
 // A refusal in words, which begin with what the file is.
-pub(crate) fn say_refused(talk: i32, form: &[u8], number: u32, place: u32) {
-    match what_is(number, is_resolved(form)) {
-        Known::NoForm => say_no_form(talk, form, number, place),
-        Known::Resolved => say_resolved_before(talk, form, number, place),
-        Known::Whole => say_refusal(talk, form, number, place),
-        Known::Broken => say_refusal(talk, form, number, place),
+pub(crate) fn say_refused(talk: i32, form: &[u8], refusal: Refusal) {
+    match what_is(refusal.number, is_resolved(form)) {
+        Known::NoForm => say_no_form(talk, form, refusal),
+        Known::Resolved => say_resolved_before(talk, form, refusal),
+        Known::Whole => say_refusal(talk, form, refusal.number, refusal.place),
+        Known::Broken => say_refusal(talk, form, refusal.number, refusal.place),
     }
 }

@@ -1,0 +1,2 @@
+-- `Packed` is the number that a C function answers.
+pub mod Packed

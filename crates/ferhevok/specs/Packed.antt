@@ -1,0 +1,6 @@
+-- The number that a C function answers: a refusal's number times 2^32 plus its place; on acceptance the number of rows.
+use Prim.Native.Nat.{ℕ, _+_, _*_}
+use Rattle.resolver.specs.Meaning.{Numbers}
+
+abbrev pub packed : Numbers → ℕ
+packed n = n .number * 4294967296 + n .place

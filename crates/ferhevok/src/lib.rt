@@ -1,0 +1,27 @@
+// What other languages link: the library's C functions, each a thin one over a function of the crates below.
+use resolver::run::Answer;
+use resolver::run::resolve;
+ghost use mathlib.Core.Path.{_≡_};
+ghost use lib.ListN.{length};
+ghost use Rattle.rules.specs.Answer.{answer, output};
+ghost use Rattle.rules.specs.Versions.{base};
+ghost use Rattle.resolver.specs.Meaning.{meaning, ruled};
+ghost use Rattle.ferhevok.specs.Packed.{packed};
+
+// The refusal's number times 2^32 plus its place; on acceptance the number of rows written.
+fn packed_in(answer: Answer) -> u64
+    ensures { λ r. ⌜ r ≡ packed (meaning answer) ⌝ }
+{
+    match answer {
+        Answer::Accepted(rows) => rows as u64,
+        Answer::Refused(refusal) => (refusal.number as u64) * 4294967296 + (refusal.place as u64),
+    }
+}
+
+// Resolves the form into `out`.
+#[no_mangle]
+pub extern "C" fn wnt_resolve(form: &[u8], out: &mut [u8]) -> u64
+    ensures { λ r. ⌜ (r ≡ packed (ruled (answer base (now (form .entry)) (length (now (out .entry)))))) × (now (out .exit) ≡ output base (now (form .entry)) (now (out .entry))) ⌝ }
+{
+    packed_in(resolve(form, out))
+}

@@ -1,0 +1,20 @@
+// A refusal: document 01's number, and the place that it gives with it.
+pub struct Refusal {
+    pub number: u32,
+    pub place: u32,
+}
+
+// The numbers. The header is not that of a form,
+pub const NOT_A_FORM: u32 = 1;
+
+// the row count is out of range or not that of the length,
+pub const ROW_COUNT: u32 = 2;
+
+// the output has too little room,
+pub const ROOM: u32 = 3;
+
+// the rows make no form,
+pub const BROKEN: u32 = 4;
+
+// one scope too many is open.
+pub const DEEP: u32 = 5;
