@@ -1,4 +1,0 @@
-// Runs `wnt show` on the resolved driver.
-fn main() {
-    cli::run();
-}
