@@ -109,7 +109,7 @@ root : List Raw → List Raw
 root rs = raw 7 0 0 0 0 0 ∷ (rs ++ (raw 8 0 0 0 0 0 ∷ []))
 
 -- `n` components one in another, inside the root
-nested : ℕ → List Raw
+unfoldable pub nested : ℕ → List Raw
 nested zero = []
 nested (suc n) = raw 1 6 0 0 0 0 ∷ raw 2 11 0 0 0 0 ∷ raw 7 0 0 0 0 0 ∷ (nested n ++ (raw 8 0 0 0 0 0 ∷ []))
 

@@ -1,0 +1,1 @@
+// Two resolved forms compared: rules and laws. It has no code.

@@ -1,0 +1,3 @@
+-- How long what is written is.
+pub mod OutputLength
+pub mod ReadFormLaws
