@@ -1,0 +1,1 @@
+// Mending a spoilt form: rules and laws. It has no code.
