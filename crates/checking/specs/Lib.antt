@@ -1,0 +1,6 @@
+-- What must be believed.
+pub mod Check
+-- Runs that antt computes.
+pub mod CheckRuns
+-- What is proved of it.
+pub mod Laws

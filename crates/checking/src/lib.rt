@@ -1,0 +1,1 @@
+// Another assembler's output checked: rules and laws. It has no code.
