@@ -1,0 +1,1 @@
+// The binding sheet, which says what each reference must mean: rules and laws. It has no code.

@@ -1,0 +1,1 @@
+// The written numbers that inserted aliases have moved: rules and laws. It has no code.
