@@ -1,0 +1,1 @@
+// References that share one inserted alias: rules and laws. It has no code.
