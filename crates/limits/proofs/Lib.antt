@@ -1,0 +1,2 @@
+-- That limits stand for the settings, for the crates above.
+pub mod Laws
