@@ -1,0 +1,209 @@
+// What a reference on the rows of a form means: outward where it is a walked name, by counting where it is a number, or looked up in one
+// scope. It takes any bytes.
+use codes::here_only;
+use row_parts::OUTER;
+use row_parts::b_at;
+use row_parts::code_at;
+use row_parts::e_at;
+use row_parts::field_of;
+use row_parts::is_inserted;
+use row_parts::next;
+use row_parts::x_at;
+use row_parts::y_at;
+use rows::row::REF;
+use scopes::Found;
+use scopes::Key;
+use scopes::Outer;
+use scopes::Wanted;
+use scopes::find;
+use scopes::scope_of;
+use scopes::scope_outward;
+ghost use mathlib.Core.Path.{_≡_};
+ghost use Rattle.readings.specs.Meaning.{spaceSought, isWalked, readingOf, isOutward, inScope, outwardFor, outerWanted, indexKey, throughOuter, keyOf, meaningOf, isInsertedOuter, finalMeaning};
+
+// The DECL row that is meant, its number in its scope, how many scopes out that is, and its name.
+pub enum Meaning {
+    At {
+        row: u16,
+        number: u32,
+        out: u32,
+        name: u32,
+    },
+    Nowhere,
+}
+
+// How the operand of a row is read.
+pub enum Reading {
+    // Outward, scope by scope.
+    Outward,
+    // A name that is looked up in one scope.
+    LookedUp,
+    // A number.
+    Counting,
+}
+
+// The space in which a REF's operand is looked up: with PATHs, that of the instance where they start.
+pub fn space_sought(form: &[u8], row: u16) -> u8
+    ensures { λ r. ⌜ r ≡ spaceSought (now (form .entry)) row ⌝ }
+{
+    let space = b_at(form, row);
+    if y_at(form, row) == 0 {
+        space
+    } else if space < 7 {
+        6
+    } else {
+        10
+    }
+}
+
+// Whether a name is walked: that of a REF without PATHs, in a field that is not here-only.
+fn is_walked(form: &[u8], row: u16) -> bool
+    ensures { λ r. ⌜ r ≡ isWalked (now (form .entry)) row ⌝ }
+{
+    (code_at(form, row) == REF)
+        & (y_at(form, row) == 0)
+        & !here_only(b_at(form, field_of(form, row)))
+}
+
+// How a REF or an OUTER is read.
+pub fn reading_of(form: &[u8], row: u16) -> Reading
+    ensures { λ r. ⌜ r ≡ readingOf (now (form .entry)) row ⌝ }
+{
+    if e_at(form, row) == 0 {
+        Reading::Counting
+    } else if is_walked(form, row) {
+        Reading::Outward
+    } else {
+        Reading::LookedUp
+    }
+}
+
+// Whether a reference is read outward.
+pub fn is_outward(form: &[u8], row: u16) -> bool
+    ensures { λ r. ⌜ r ≡ isOutward (readingOf (now (form .entry)) row) ⌝ }
+{
+    match reading_of(form, row) {
+        Reading::Outward => true,
+        Reading::LookedUp => false,
+        Reading::Counting => false,
+    }
+}
+
+// The declaration that one scope has, so many scopes out.
+fn in_scope(form: &[u8], scope: u16, out: u32, space: u8, key: Key) -> Meaning
+    ensures { λ r. ⌜ r ≡ inScope (now (form .entry)) scope out space key ⌝ }
+{
+    match find(form, scope, space, key) {
+        Found::At { row, number } => Meaning::At {
+            row,
+            number,
+            out,
+            name: x_at(form, row),
+        },
+        Found::Nothing => Meaning::Nowhere,
+    }
+}
+
+// A name by the outward reading: the innermost scope around a row that declares it.
+fn outward(form: &[u8], row: u16, space: u8, name: u32) -> Meaning
+    ensures { λ r. ⌜ r ≡ outwardFor (now (form .entry)) row space name ⌝ }
+{
+    match scope_outward(form, scope_of(form, row), Wanted::Declaring { space, name }) {
+        Outer::At { scope, out } => in_scope(form, scope, out, space, Key::Name(name)),
+        Outer::Nowhere => Meaning::Nowhere,
+    }
+}
+
+// The outer scope of an OUTER.
+fn outer_wanted(e: u32, x: u32) -> Wanted
+    ensures { λ r. ⌜ r ≡ outerWanted e x ⌝ }
+{
+    if (e == 1) | (e == 3) {
+        Wanted::Named(x)
+    } else {
+        Wanted::Out(x)
+    }
+}
+
+// Its index there.
+fn index_key(e: u32, y: u32) -> Key
+    ensures { λ r. ⌜ r ≡ indexKey e y ⌝ }
+{
+    if e < 2 { Key::Number(y) } else { Key::Name(y) }
+}
+
+// The declaration at an OUTER's index in its outer scope.
+pub fn through_outer(form: &[u8], row: u16) -> Meaning
+    ensures { λ r. ⌜ r ≡ throughOuter (now (form .entry)) row ⌝ }
+{
+    let e = e_at(form, row);
+    match scope_outward(form, scope_of(form, row), outer_wanted(e, x_at(form, row))) {
+        Outer::At { scope, out } => in_scope(
+            form,
+            scope,
+            out,
+            b_at(form, row),
+            index_key(e, y_at(form, row)),
+        ),
+        Outer::Nowhere => Meaning::Nowhere,
+    }
+}
+
+// A REF's operand.
+fn key_of(form: &[u8], row: u16) -> Key
+    ensures { λ r. ⌜ r ≡ keyOf (now (form .entry)) row ⌝ }
+{
+    let x = x_at(form, row);
+    if e_at(form, row) == 0 {
+        Key::Number(x)
+    } else {
+        Key::Name(x)
+    }
+}
+
+// The declaration that a REF or an OUTER means; a number counts in its own scope, and no alias is followed.
+pub fn meaning_of(form: &[u8], row: u16) -> Meaning
+    ensures { λ r. ⌜ r ≡ meaningOf (now (form .entry)) row ⌝ }
+{
+    if code_at(form, row) == OUTER {
+        return through_outer(form, row);
+    }
+    let space = space_sought(form, row);
+    if is_outward(form, row) {
+        return outward(form, row, space, x_at(form, row));
+    }
+    in_scope(form, scope_of(form, row), 0, space, key_of(form, row))
+}
+
+// Whether a DECL row is that of an inserted outer alias.
+pub fn is_inserted_outer(form: &[u8], decl: u16) -> bool
+    ensures { λ r. ⌜ r ≡ isInsertedOuter (now (form .entry)) decl ⌝ }
+{
+    is_inserted(form, decl) & (code_at(form, next(decl)) == OUTER)
+}
+
+// What a reference means in the end: behind an inserted outer alias, the declaration that the alias's OUTER counts to.
+pub fn final_meaning(form: &[u8], row: u16) -> Meaning
+    ensures { λ r. ⌜ r ≡ finalMeaning (now (form .entry)) row ⌝ }
+{
+    match meaning_of(form, row) {
+        Meaning::At {
+            row: decl,
+            number,
+            out,
+            name,
+        } => {
+            if is_inserted_outer(form, decl) {
+                through_outer(form, next(decl))
+            } else {
+                Meaning::At {
+                    row: decl,
+                    number,
+                    out,
+                    name,
+                }
+            }
+        }
+        Meaning::Nowhere => Meaning::Nowhere,
+    }
+}

@@ -1,0 +1,11 @@
+-- `row_parts::is_inserted` meets its contract.
+use borrow.Author.Needs.{needs}
+use Rattle.row_parts.proofs.PartLaws.{part-ways}
+use Rattle.row_parts.proofs.is_inserted.Statement.{statement}
+use Rattle.row_parts.proofs.is_inserted.Tie as tie
+
+pub is-inserted-spec : {M : Type 1} → statement M
+is-inserted-spec = tie.close (tie.spec
+    (λ c κs. search needs)  -- code-at-requires
+    (λ c κs. search needs)  -- x-at-requires
+    (λ c. search part-ways))  -- returns

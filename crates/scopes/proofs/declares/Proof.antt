@@ -1,0 +1,11 @@
+-- `scopes::declares` meets its contract.
+use borrow.Author.Needs.{needs}
+use Rattle.scopes.proofs.ScopeLaws.{scope-ways}
+use Rattle.scopes.proofs.declares.Statement.{statement}
+use Rattle.scopes.proofs.declares.Tie as tie
+
+pub declares-spec : {M : Type 1} → statement M
+declares-spec = tie.close (tie.spec
+    (λ c κs. search needs)  -- code-at-requires
+    (λ c κs. search needs)  -- b-at-requires
+    (λ c. search scope-ways))  -- returns

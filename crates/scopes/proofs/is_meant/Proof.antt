@@ -1,0 +1,12 @@
+-- `scopes::is_meant` meets its contract.
+use borrow.Author.Needs.{needs}
+use Rattle.scopes.proofs.ScopeLaws.{scope-ways}
+use Rattle.scopes.proofs.is_meant.Statement.{statement}
+use Rattle.scopes.proofs.is_meant.Tie as tie
+
+pub is-meant-spec : {M : Type 1} → statement M
+is-meant-spec = tie.close (tie.spec
+    (λ c. search needs)  -- enum-known-key
+    (λ c. search needs)  -- enum-known-key-2
+    (λ c. search scope-ways)  -- returns
+    (λ c. search scope-ways))  -- returns-2

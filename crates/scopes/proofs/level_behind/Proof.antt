@@ -1,0 +1,13 @@
+-- `scopes::level_behind` meets its contract.
+use borrow.Author.Needs.{needs}
+use Rattle.scopes.proofs.ScopeLaws.{scope-ways}
+use Rattle.scopes.proofs.level_behind.Statement.{statement}
+use Rattle.scopes.proofs.level_behind.Tie as tie
+
+pub level-behind-spec : {M : Type 1} → statement M
+level-behind-spec = tie.close (tie.spec
+    (λ c κs. search needs)  -- counted-requires
+    (λ c κs. search needs)  -- one-less-requires
+    (λ c. search scope-ways)  -- returns
+    (λ c. search scope-ways)  -- returns-2
+    (λ c. search scope-ways))  -- returns-3
