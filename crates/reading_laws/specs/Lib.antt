@@ -1,0 +1,20 @@
+-- Rows that stand in the bytes of a form, and the walks through them, up and down.
+pub mod Stand
+pub mod Even
+pub mod Find
+-- Scopes: those around a place are those around its row.
+pub mod Floors
+pub mod Everywhere
+-- Names outward, numbers, what an inserted field's rows hold, operands.
+pub mod Outward
+pub mod Number
+pub mod Spots
+pub mod Operands
+-- The readings on rows are those of the rules.
+pub mod Meant
+pub mod Counted
+-- Every REF is the row of a place; which rows are read outward.
+pub mod EveryRow
+pub mod Walked
+-- The sentence on bytes.
+pub mod Sentence
