@@ -1,0 +1,4 @@
+pub mod Names
+pub mod Rows
+pub mod Ways
+pub mod Agrees
