@@ -1,9 +1,11 @@
 -- Limits and the settings that they stand for.
-use mathlib.Core.Path.{_≡_, refl, _∙_}
+use mathlib.Core.Path.{_≡_, refl, ap, _∙_}
+use mathlib.Core.List.{_∷_}
 use native.Mathlib.Omega.{arith}
 use Prim.Native.Nat.{ℕ, zero, suc, _*_, _≤_}
 use mir.Syntax.{w64}
 use mir.Val.{Fits}
+use lib.ListN.{take, replicate}
 use Rattle.kit.specs.Pick.{pick}
 use Rattle.rules.specs.Versions.{version1, version2, today, asClaimed}
 use Rattle.limits.specs.declared.Limits.{Limits}
@@ -58,3 +60,11 @@ stand-claimed zero = refl
 stand-claimed (suc zero) = refl
 stand-claimed (suc (suc zero)) = refl
 stand-claimed (suc (suc (suc i))) = refl
+
+-- ---- as many places as scopes
+
+-- a part of an array that is all zero
+pub take-replicate : (n m : ℕ) → n ≤ m → take n (replicate {A = ℕ} m 0) ≡ replicate n 0
+take-replicate zero m h = refl
+take-replicate (suc n) zero h = absurd (omega arith)
+take-replicate (suc n) (suc m) h = ap (λ l. 0 ∷ l) (take-replicate n m (omega arith))

@@ -1,5 +1,6 @@
 // What a form is held to, by value: the numbers of its version and its rule set. A version more is an entry here.
 ghost use mathlib.Core.Path.{_≡_};
+ghost use Prim.Native.Nat.{_≤_};
 ghost use Rattle.rules.specs.Versions.{version2, asClaimed};
 ghost use Rattle.limits.specs.Held.{rulesOf, limitsOf, setting};
 
@@ -75,4 +76,11 @@ pub fn of_claim(i: usize) -> Limits
         scopes: l.scopes,
         rules: l.rules,
     }
+}
+
+// The most scopes that may be open at once.
+pub fn most_scopes(limits: Limits) -> usize
+    ensures { λ r. ⌜ (r ≡ limits .scopes) × (r ≤ 255) ⌝ }
+{
+    limits.scopes as usize
 }

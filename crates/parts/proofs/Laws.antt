@@ -1,62 +1,10 @@
--- What `parts_in` finds and `is_sound` tests.
+-- What `parts_in` finds.
 use mathlib.Core.Path.{_≡_}
-use mathlib.Core.Bool.{Bool, false}
 use mathlib.Core.List.{List}
 use Prim.Native.Nat.{ℕ, _+_, _*_}
 use lib.ListN.{getD}
-use borrow.Author.Needs.{needs}
-use borrow.Author.Tests.{ne-eqb}
-use Rattle.kit.specs.Pick.{pick}
-use Rattle.parts.specs.Apart.{two, four, parts, partsIn, isField, isDecl, isRef, isLone, isOuter, isCase, isOpen, isClose, isSound}
-use Rattle.parts.specs.declared.Parts.{Parts}
+use Rattle.parts.specs.Apart.{two, four, parts, partsIn}
 
 pub parts-found : (l : List ℕ) (i e x y z : ℕ) → e ≡ two l (16 * i + 2) → x ≡ four l (16 * i + 4) → y ≡ four l (16 * i + 8) → z ≡ four l (16 * i + 12) → parts (getD l (16 * i) 0) (getD l (16 * i + 1) 0) e x y z ≡ partsIn l i
 unfolding partsIn
 parts-found l i e x y z he hx hy hz = rw (he, hx, hy, hz)
-
--- what is tested of parts, by their code
-module _ (top : ℕ) (p : Parts) (t : Bool) where
-  pub tests-field : p .code ≡ 1 → t ≡ isField p → t ≡ isSound top p
-  unfolding isSound pick
-  tests-field h e = rw h e
-
-  pub tests-decl : p .code ≡ 2 → t ≡ isDecl top p → t ≡ isSound top p
-  unfolding isSound pick
-  tests-decl h e = rw h e
-
-  pub tests-ref : p .code ≡ 3 → t ≡ isRef top p → t ≡ isSound top p
-  unfolding isSound pick
-  tests-ref h e = rw h e
-
-  pub tests-path : p .code ≡ 4 → t ≡ isLone p → t ≡ isSound top p
-  unfolding isSound pick
-  tests-path h e = rw h e
-
-  pub tests-outer : p .code ≡ 5 → t ≡ isOuter top p → t ≡ isSound top p
-  unfolding isSound pick
-  tests-outer h e = rw h e
-
-  pub tests-case : p .code ≡ 6 → t ≡ isCase top p → t ≡ isSound top p
-  unfolding isSound pick
-  tests-case h e = rw h e
-
-  pub tests-open : p .code ≡ 7 → t ≡ isOpen top p → t ≡ isSound top p
-  unfolding isSound pick
-  tests-open h e = rw h e
-
-  pub tests-close : p .code ≡ 8 → t ≡ isClose p → t ≡ isSound top p
-  unfolding isSound pick
-  tests-close h e = rw h e
-
-  pub tests-export : p .code ≡ 9 → t ≡ isLone p → t ≡ isSound top p
-  unfolding isSound pick
-  tests-export h e = rw h e
-
-pub tests-none : (top : ℕ) (p : Parts) → (p .code ≡ 1 → ⊥) → (p .code ≡ 2 → ⊥) → (p .code ≡ 3 → ⊥) → (p .code ≡ 4 → ⊥) → (p .code ≡ 5 → ⊥) → (p .code ≡ 6 → ⊥) → (p .code ≡ 7 → ⊥) → (p .code ≡ 8 → ⊥) → (p .code ≡ 9 → ⊥) → false ≡ isSound top p
-unfolding isSound pick
-tests-none top p a b c d e f g h i =
-    let k = p .code in
-    rw (ne-eqb k 1 a, ne-eqb k 2 b, ne-eqb k 3 c, ne-eqb k 4 d, ne-eqb k 5 e, ne-eqb k 6 f, ne-eqb k 7 g, ne-eqb k 8 h, ne-eqb k 9 i)
-
--- every way through `is_sound`
-pub ruleset sound-ways = (tests-field, tests-decl, tests-ref, tests-path, tests-outer, tests-case, tests-open, tests-close, tests-export, tests-none, needs)

@@ -1,6 +1,6 @@
 -- `shapes::after_outer` meets its contract.
 use Rattle.kit.proofs.Laws.{picks}
-use Rattle.shapes.specs.States.{outerEntry}
+use Rattle.wants.specs.States.{outerEntry}
 use borrow.Author.Needs.{needs}
 use Rattle.shapes.proofs.after_outer.Statement.{statement}
 use Rattle.shapes.proofs.after_outer.Tie as tie

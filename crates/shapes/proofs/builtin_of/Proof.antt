@@ -7,7 +7,7 @@ use Rattle.rules.specs.Tools.{if_then_else_}
 use Rattle.rules.specs.Versions.{today}
 use Rattle.rules.specs.Shapes.{builtinParts}
 use Rattle.codes.proofs.Laws.{at-range}
-use Rattle.shapes.specs.States.{states, leftOf}
+use Rattle.wants.specs.States.{states, leftOf}
 use Rattle.shapes.proofs.Laws.{builtin-none}
 use Rattle.shapes.proofs.builtin_of.Statement.{statement}
 use Rattle.shapes.proofs.builtin_of.Tie as tie

@@ -4,7 +4,7 @@ use mathlib.Core.Path.{refl}
 use mathlib.Core.Logic.{inl, inr}
 use Rattle.kit.specs.Pick.{pick}
 use Rattle.rules.specs.Tools.{if_then_else_}
-use Rattle.shapes.specs.States.{states, leftOf}
+use Rattle.wants.specs.States.{states, leftOf}
 use Rattle.shapes.specs.Starts.{partsBy}
 use Rattle.shapes.proofs.Laws.{by-start, outer-start, signature-start, none-start}
 use borrow.Author.Needs.{needs}

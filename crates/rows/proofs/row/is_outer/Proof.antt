@@ -1,6 +1,6 @@
 use borrow.Author.Needs.{needs}
-use Rattle.parts.proofs.is_outer.Statement.{statement}
-use Rattle.parts.proofs.is_outer.Tie as tie
+use Rattle.rows.proofs.row.is_outer.Statement.{statement}
+use Rattle.rows.proofs.row.is_outer.Tie as tie
 
 pub is-outer-spec : {M : Type 1} → statement M
 is-outer-spec = tie.close (tie.spec

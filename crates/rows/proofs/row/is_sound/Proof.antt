@@ -1,8 +1,8 @@
--- `parts::is_sound` meets its contract.
-use Rattle.parts.proofs.Laws.{sound-ways}
+-- `rows::row::is_sound` meets its contract.
+use Rattle.rows.proofs.Laws.{sound-ways}
 use borrow.Author.Needs.{needs}
-use Rattle.parts.proofs.is_sound.Statement.{statement}
-use Rattle.parts.proofs.is_sound.Tie as tie
+use Rattle.rows.proofs.row.is_sound.Statement.{statement}
+use Rattle.rows.proofs.row.is_sound.Tie as tie
 
 pub is-sound-spec : {M : Type 1} → statement M
 is-sound-spec =

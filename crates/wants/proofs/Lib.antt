@@ -1,0 +1,2 @@
+-- What numbers stand for, for the crates above.
+pub mod Laws
