@@ -1,6 +1,6 @@
 -- `write::own::write_other` meets its contract.
 use Rattle.write.proofs.LawsOwn.{ways}
-use Rattle.write.proofs.LawsWithin.{serves}
+use Rattle.write.proofs.LawsWithin.{serves, sees}
 use borrow.Author.Needs.{needs}
 use Rattle.write.proofs.own.write_other.Statement.{statement}
 use Rattle.write.proofs.own.write_other.Tie as tie
@@ -18,10 +18,11 @@ write-other-spec =
     (λ c. search needs)  -- enum-told
     (λ c κs. search needs)  -- write-copy-requires
     (λ c. search needs)  -- same-length
-    (λ c. search ways)  -- returns
+    (λ c. search (ways, sees))  -- returns
     (λ c. search needs)  -- same-length-2
     (λ c. search needs)  -- same-length-3
-    (λ c. search ways)  -- returns-2
-    (λ c. search ways)  -- returns-3
     (λ c. search needs)  -- same-length-4
-    (λ c. search ways))  -- returns-4
+    (λ c. search (ways, sees))  -- returns-2
+    (λ c. search (ways, sees))  -- returns-3
+    (λ c. search needs)  -- same-length-5
+    (λ c. search (ways, sees)))  -- returns-4
