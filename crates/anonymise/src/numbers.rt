@@ -153,8 +153,8 @@ pub(crate) fn renamed_row(table: &[Slot], index: &[u16], used: usize, row: Row) 
             Row::Case { name, z }
         }
         Row::Open { kind, name } => {
-            let name = number(table, index, used, name);
-            Row::Open { kind, name }
+            let scope = number(table, index, used, name);
+            Row::Open { kind, name: scope }
         }
         _ => row,
     }

@@ -1,4 +1,5 @@
 // The commands of wnt on the program's arguments, from the one at `first` on, which is the command's name.
+use crate::anonymous::anonymise_paths;
 use crate::commands::Asked;
 use crate::commands::check_path;
 use crate::commands::resolve_paths;
@@ -36,6 +37,18 @@ pub(crate) fn resolve_arguments(first: u8) -> u8 {
     let mut to = io::buffer();
     let to_length = os::arg(behind(first, 2), &mut to);
     resolve_paths(&from[..from_length], &to[..to_length])
+}
+
+pub(crate) fn anonymise_arguments(first: u8) -> u8 {
+    if !has_words(first, 3) {
+        wrong_count(b"wnt anonymise FORM OUT");
+        return FAILED;
+    }
+    let mut from = io::buffer();
+    let from_length = os::arg(behind(first, 1), &mut from);
+    let mut to = io::buffer();
+    let to_length = os::arg(behind(first, 2), &mut to);
+    anonymise_paths(&from[..from_length], &to[..to_length])
 }
 
 fn say_of_argument(i: usize, asked: Asked) -> u8 {

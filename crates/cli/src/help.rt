@@ -20,6 +20,10 @@ fn say_commands(talk: i32) {
         talk,
         b"  wnt explain FORM PLACE  say which declaration the references with that place mean\n",
     );
+    say(
+        talk,
+        b"  wnt anonymise FORM OUT  write the form to OUT with 1, 2, 3, .. for its names; print the key\n",
+    );
     say(talk, b"  wnt help                print this\n");
     say(talk, b"  wnt --version           print the version\n\n");
 }
