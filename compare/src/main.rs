@@ -11,6 +11,7 @@ mod library;
 mod oracle;
 mod recognise;
 mod reduce;
+mod renaming;
 mod rows;
 mod run;
 mod samples;
@@ -40,6 +41,7 @@ compare --sensitivity [--seed S]               plant changes on both sides and s
                                                (built with --features planted)
 compare --vectors N [--seed S] [--onto FILE] > OTHER
                                                write fixed vectors, at most N of each refusal, behind those of FILE
+compare --renaming N [--seed S]                resolve N random forms again with other names, and compare the two
 compare --bench FILE [--repetitions N]         time both sides; the picture goes to FILE as SVG
 compare --shapes FOLDER                        write the benchmark's forms of about 1,000 rows, for a profiler
 compare --samples FOLDER [--forms N]           write accepted random forms and their outputs, for readings.py";
@@ -127,6 +129,8 @@ fn main() -> ExitCode {
         write_samples(&arguments, folder)
     } else if let Some(count) = number(&arguments, "--vectors") {
         write_vectors(&arguments, count)
+    } else if let Some(forms) = number(&arguments, "--renaming") {
+        renaming::run(&comparison(), number(&arguments, "--seed").unwrap_or(1), forms)
     } else if has("--sensitivity") {
         sensitivity(number(&arguments, "--seed").unwrap_or(1))
     } else if arguments.is_empty() || has("--seconds") || has("--forms") || has("--seed") {
