@@ -16,14 +16,14 @@ ghost use mathlib.Core.Path.{_≡_};
 ghost use Prim.Native.Nat.{_+_};
 
 // The number of an argument that is `i` behind the first.
-fn behind(first: u8, i: u8) -> usize
+pub(crate) fn behind(first: u8, i: u8) -> usize
     ensures { λ r. ⌜ r ≡ first + i ⌝ }
 {
     (first as usize) + (i as usize)
 }
 
 // Whether there are so many arguments from the command's name on.
-fn has_words(first: u8, count: u8) -> bool {
+pub(crate) fn has_words(first: u8, count: u8) -> bool {
     os::arg_count() == behind(first, count)
 }
 

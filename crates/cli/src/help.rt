@@ -24,7 +24,19 @@ fn say_commands(talk: i32) {
         talk,
         b"  wnt anonymise FORM OUT  write the form to OUT with 1, 2, 3, .. for its names; print the key\n",
     );
+    say(
+        talk,
+        b"  wnt rows FORM           print the rows of a form as a text that can be edited\n",
+    );
+    say(
+        talk,
+        b"  wnt form TEXT OUT       turn such a text into the form, and write OUT whole or not at all\n",
+    );
     say(talk, b"  wnt help                print this\n");
+    say(
+        talk,
+        b"  wnt help COMMAND        say what a command does, with an example\n",
+    );
     say(talk, b"  wnt --version           print the version\n\n");
 }
 
