@@ -1,0 +1,14 @@
+# Completes the words of wnt in bash: the commands first, then files; behind help the commands again.
+_wnt() {
+    local commands='resolve check show explain rows form help --help --version'
+    local word=${COMP_WORDS[COMP_CWORD]}
+    if [ "$COMP_CWORD" -eq 1 ]; then
+        mapfile -t COMPREPLY < <(compgen -W "$commands" -- "$word")
+    elif [ "${COMP_WORDS[1]}" = help ]; then
+        COMPREPLY=()
+        if [ "$COMP_CWORD" -eq 2 ]; then mapfile -t COMPREPLY < <(compgen -W "${commands%% --*}" -- "$word"); fi
+    else
+        mapfile -t COMPREPLY < <(compgen -f -- "$word")
+    fi
+}
+complete -o filenames -F _wnt wnt
