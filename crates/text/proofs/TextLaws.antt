@@ -13,7 +13,7 @@ use Rattle.kit.specs.Pick.{pick}
 use Rattle.kit.specs.Out.{Out, _&_}
 use Rattle.kit.proofs.Laws.{yes!, no!, tests, drop-next, left-suc, sets-append}
 use Rattle.rules.specs.Rows.{bytes, raw, rawBytes}
-use Rattle.rows.specs.declared.row.Parts.{Parts}
+use Rattle.parts.specs.declared.Parts.{Parts}
 use Rattle.text.specs.Lines.{onFirst, linesOf, lineLength, lineOf}
 use Rattle.text.specs.declared.lines.Why.{Why}
 use Rattle.text.specs.declared.lines.Why.the-variants.{Many, Empty}

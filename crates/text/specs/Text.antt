@@ -7,7 +7,7 @@ use lib.Seq.{sets}
 use Rattle.kit.specs.Pick.{pick}
 use Rattle.kit.specs.Out.{Out, _&_}
 use Rattle.rules.specs.Rows.{bytes, raw, rawBytes}
-use Rattle.rows.specs.declared.row.Parts.{Parts}
+use Rattle.parts.specs.declared.Parts.{Parts}
 use Rattle.text.specs.Lines.{linesOf, lineOf}
 use Rattle.text.specs.declared.lines.Why.the-variants.{Many, Empty}
 use Rattle.text.specs.declared.lines.Line as line

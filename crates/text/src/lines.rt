@@ -1,6 +1,6 @@
 // What a line of text is.
 use crate::numbers::number_behind;
-use rows::row::Parts;
+use parts::Parts;
 ghost use mathlib.Core.Path.{_≡_};
 ghost use lib.ListN.{drop};
 ghost use Rattle.text.specs.Lines.{isBlankByte, isBlank, isComment, isApart, isClosed, hasBracket, sized, rowIn, lineOf};

@@ -1,5 +1,5 @@
 // A form's bytes: its rows and its header.
-use rows::row::Parts;
+use parts::Parts;
 ghost use mathlib.Core.Path.{_≡_};
 ghost use Prim.Native.Nat.{_+_, _≤_};
 ghost use lib.ListN.{length};

@@ -1,11 +1,11 @@
 // The rows of a form as a text: six numbers a line, and behind them what they say.
 use crate::whole::rows_in;
+use parts::Parts;
+use parts::parts_at;
+use row_parts::FIRST_FRESH;
 use rows::row::DECL;
-use rows::row::Parts;
-use rows::row::parts_at;
 use words::kinds::say_scope;
 use words::kinds::say_space;
-use words::names::FIRST_FRESH;
 use words::names::say_export;
 use words::names::say_name_if_any;
 use words::names::say_operand;
