@@ -1,3 +1,4 @@
 pub mod Loaded
 pub mod Made
+pub mod Printed
 pub mod Whole

@@ -13,6 +13,8 @@ use words::rows::say_field_row;
 use words::rows::say_outer;
 use words::say;
 use words::say_number;
+ghost use mathlib.Core.Path.{_≡_};
+ghost use Rattle.texts.specs.Printed.{isInserted};
 
 fn say_next(fd: i32, part: u32) {
     say(fd, b" ");
@@ -84,7 +86,9 @@ fn say_content(fd: i32, row: Parts) {
 }
 
 // Whether a declaration was inserted, and with it the field in which it stands.
-fn is_inserted(row: Parts) -> bool {
+fn is_inserted(row: Parts) -> bool
+    ensures { λ r. ⌜ r ≡ isInserted row ⌝ }
+{
     (row.code == DECL) & (FIRST_FRESH <= row.x)
 }
 

@@ -5,7 +5,7 @@ use lib.ListN.{length, drop}
 use Rattle.text.specs.Lines.{linesOf}
 use Rattle.text.specs.Text.{mostRows, linesThen, parsed}
 use borrow.Author.Needs.{needs}
-use Rattle.text.proofs.TextLaws.{text-ways}
+use Rattle.text.proofs.TextLaws.{text-start, text-end, text-wrong, text-many, row-room, rows-room, text-ways}
 use Rattle.text.proofs.parse.parse.Statement.{statement}
 use Rattle.text.proofs.parse.parse.Tie as tie
 
@@ -22,7 +22,7 @@ parse-spec =
     Inv-loop
     μ-loop
     (λ c κs. search needs)  -- most-rows-requires
-    (λ c. search text-ways)  -- loop-holds
+    (λ c. (search (text-start, needs), search needs, search needs, search needs, search needs, search needs))  -- loop-holds
     (λ c κs. search needs)  -- behind-line-requires
     (λ c. search needs)  -- add-line
     (λ c. search needs)  -- sub-line-of
@@ -32,17 +32,17 @@ parse-spec =
     (λ c. search needs)  -- enum-told
     (λ c. search needs)  -- enum-known-why
     (λ c. search needs)  -- same-length
-    (λ c. search text-ways)  -- returns
+    (λ c. search (text-wrong, needs))  -- returns
     (λ c. search needs)  -- enum-known-parts
     (λ c. search needs)  -- same-length-2
-    (λ c. search text-ways)  -- returns-2
+    (λ c. search (text-many, needs))  -- returns-2
     (λ c κs. search needs)  -- start-of-requires
-    (λ c κs. search text-ways)  -- put-parts-requires
+    (λ c κs. search (row-room, needs))  -- put-parts-requires
     (λ c. search needs)  -- add-rows
     (λ c. search needs)  -- loop-less
-    (λ c. search text-ways)  -- loop-again
+    (λ c. (search text-ways, search needs, search needs, search needs, search needs, search needs))  -- loop-again
     (λ c. search needs)  -- loop-less-2
     (λ c. (search text-ways, search needs, search needs, search needs, search needs, search needs))  -- loop-again-2
-    (λ c κs. search text-ways)  -- end-text-requires
+    (λ c κs. search (rows-room, needs))  -- end-text-requires
     (λ c. search needs)  -- same-length-3
-    (λ c. search text-ways))  -- returns-3
+    (λ c. search (text-end, needs)))  -- returns-3
