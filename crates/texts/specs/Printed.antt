@@ -1,7 +1,7 @@
 -- What is told of a row beside its own words.
 use mathlib.Core.Bool.{Bool, _&&_}
 use lib.Dec.{eqb, leb}
-use Rattle.rows.specs.declared.row.Parts.{Parts}
+use Rattle.parts.specs.declared.Parts.{Parts}
 
 -- a DECL with a name that only the resolver gives
 abbrev pub isInserted : Parts → Bool
