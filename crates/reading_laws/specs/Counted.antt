@@ -1,298 +1,243 @@
--- The counting reading of a number, through an inserted outer alias where one stands there: on rows as in the tree.
+-- The counting reading on rows is that of the rules, for every number at every place: the rows give a place's declaration exactly where the
+-- rules give that place. Where the rules give none, the rows give an inserted field's declaration, which has no place, or nothing.
 use mathlib.Core.Path.{_≡_, refl, ap, sym, _∙_, subst}
 use mathlib.Core.Bool.{Bool, true, false}
 use mathlib.Core.Option.{Option, none, some, Option·map}
 use mathlib.Core.List.{List, [], _∷_, _++_}
-use native.Mathlib.Omega.{arith}
-use Prim.Native.Nat.{ℕ, zero, suc, _+_, _-_, _/_, _≤_, _<_}
-use borrow.Author.Tests.{ltb-true}
-use lib.Dec.{eqb, ltb}
+use Prim.Native.Nat.{ℕ, zero, suc, _+_}
+use lib.Dec.{eqb}
 use lib.ListN.{length, getElem?}
 use Rattle.kit.specs.Pick.{pick}
-use Rattle.kit.proofs.Laws.{yes!, no!, tests}
 use Rattle.rules.specs.Tools.{if_then_else_, _then_}
 use Rattle.rules.specs.Versions.{RuleSet}
-use Rattle.rules.specs.Rows.{Field, Ref, Outer, Num, Id, encode, flag, number}
-use Rattle.rules.specs.Tree.{Declaration, Operand, ref, outer, case, Head, Scope, flatten, fieldsRows, headRows, declRows, operandRow, operandRows, exportRows, headOf}
-use Rattle.rules.specs.Good.{GoodScope}
+use Rattle.rules.specs.Rows.{Index, Num, Id}
+use Rattle.rules.specs.Tree.{Declaration, Operand, ref, outer, case, Head, Scope, scope, Fields, end, _▸_, Item, plain, holds, headOf, itemRows}
+use Rattle.rules.specs.Good.{GoodScope, GoodFields}
 use Rattle.rules.specs.Readings
-use Rattle.rules.specs.Readings.{isFresh, anyFresh, isInserted, Place, Level, Spot, original, inserted, place, counted, countedOut, counting, countingReading, Use, useAt}
-use Rattle.rules.specs.Laws.ToolLaws.{then-some, eqb-true, or-false}
+use Rattle.rules.specs.Readings.{isInserted, Place, Level, held, Spot, original, inserted, inOriginal, inInserted, place, counted, countedOut, counting, countingReading}
+use Rattle.rules.specs.Laws.ToolLaws.{All, done, _&_, all-append, all-map, eqb-true}
 use Rattle.rules.specs.Laws.Results.{some-same, no-option}
-use Rattle.places.specs.PlaceRows.{Floor, rowOfDecl, rowOfOperand, Located, countedRow}
+use Rattle.rules.specs.Laws.Meaning.Names.{LowScope}
+use Rattle.rules.specs.Laws.Output.Numbers.{Numbered, AllNumbered, NumberedScope, NumberedFields, NumberedItem}
+use Rattle.places.specs.PlaceRows.{Floor, floorsAt, operandAt, rowOfOperand, Located, inRows, located, countedRow}
 use Rattle.places.specs.Counting.{levels, spotOf, elem-map, counted-row, of-space-all}
-use Rattle.places.specs.RowAt.{operandRowOf, declRowOf, all-at, counted-row-is}
-use Rattle.places.specs.RowsApart.{elem-lt}
-use Rattle.places.specs.LocatedAt.{all-at-own-way, located-place}
-use Rattle.row_parts.specs.Parts.{codeAt, bAt, eAt, xAt, yAt, rowsIn, nextOf}
-use Rattle.row_parts.specs.Parts as parts
-use Rattle.scopes.specs.Scopes.{scopeAbove, scopeOf}
-use Rattle.readings.specs.Meaning.{spaceSought, readingOf, inScope, keyOf, meaningOf, throughOuter, isInsertedOuter, behind, finalMeaning}
-use Rattle.scopes.specs.declared.Key.the-variants.{Number}
+use Rattle.places.specs.RowAt.{all-at}
+use Rattle.places.specs.LocatedAt.{AtItsWay, all-at-own-way}
+use Rattle.readings.specs.Meaning.{finalMeaning}
 use Rattle.readings.specs.declared.Meaning.{Meaning}
-use Rattle.readings.specs.declared.Meaning.the-variants.{At as MeantAt, Nowhere}
-use Rattle.reading_laws.specs.Stand.{Is, At, codePart, bPart, ePart, xPart, yPart, at-left, at-elem}
-use Rattle.reading_laws.specs.Even.{Even, nothing, flat, up-even}
-use Rattle.reading_laws.specs.Floors.{firstRow, scope-behind}
-use Rattle.reading_laws.specs.Outward.{rowMeant}
-use Rattle.reading_laws.specs.Number.{meant-in, nothing-in, outer-meant}
-use Rattle.reading_laws.specs.Spots.{floors-good, Inserted, SpotIs, spots}
-use Rattle.reading_laws.specs.Operands.{Used, used}
-use Rattle.reading_laws.specs.Meant.{Rows}
+use Rattle.readings.specs.declared.Meaning.the-variants.{Nowhere}
+use Rattle.reading_laws.specs.Everywhere.{of-original, of-floors}
+use Rattle.reading_laws.specs.Outward.{IsOriginal}
+use Rattle.reading_laws.specs.Outers.{JustOuter, alias-outer}
+use Rattle.reading_laws.specs.Spots.{good-head, floors-good}
+use Rattle.reading_laws.specs.Operands.{Used, used, operand-is-at, operand-used}
+use Rattle.reading_laws.specs.Said.{said, saidIn, saidOut, saidBehind, saidEnd, saidFrom, sought}
+use Rattle.reading_laws.specs.Declared.{Declared, OfInserted, declared-at, inserted-at}
+use Rattle.reading_laws.specs.Meant.{first-of, Rows, none-inserted-around}
+use Rattle.reading_laws.specs.Whole.{named, ref-row}
 
--- ---- what the rules' counting says of a place that it gives
+-- What the rules' reading gives, and what the rows mean.
+pub data Agree (s : Scope) (fs : List Floor) : Option Place → Meaning → Type 0 where
+  -- a place: its declaration
+  a-place : {d : Place} {m : Meaning} → Declared s fs d m → Agree s fs (some d) m
+  -- none: the declaration of an inserted field, as of an export alias
+  an-inserted : {m : Meaning} → OfInserted fs m → Agree s fs none m
+  -- none: nothing, where there is no such number or no such scope
+  nothing : Agree s fs none Nowhere
 
-pub map-some : {A B : Type 0} (g : A → B) (o : Option A) (b : B) → Option·map g o ≡ some b → (a : A) × (o ≡ some a) × (g a ≡ b)
-map-some g none b e = no-option b e
-map-some g (some a) b e = (a, refl, some-same (g a) b e)
+-- a place is its declaration
+the-place : (s : Scope) (fs : List Floor) (d : Place) (m : Meaning) (o : Option Place) → o ≡ some d → Agree s fs o m → Declared s fs d m
+the-place s fs d m (some c) e (a-place D) = subst (λ (c : Place). Declared s fs c m) (some-same c d e) D
+the-place s fs d m none e (an-inserted I) = no-option d e
+the-place s fs d m none e nothing = no-option d e
 
-map-none : {A B : Type 0} (g : A → B) (o : Option A) → Option·map g o ≡ none → o ≡ none
-map-none g none e = refl
-map-none g (some a) e = no-option (g a) (sym e)
+-- ---- inserted outer aliases count
 
-record ByNumber (l : Level) (ls : List Level) (o : Operand) (d : Place) : Type 0 where
-  space : ℕ
-  n : ℕ
-  paths : List ℕ
-  z : ℕ
-  is : o ≡ ref space (Num n) paths z
-  spot : Spot
-  counts : counted l space n ≡ some spot
-  means : Readings.meant (l ∷ ls) l spot ≡ some d
+-- an OUTER of two numbers
+pub record OfNumbers (os : List Operand) : Type 0 where
+  pub space : ℕ
+  pub up : ℕ
+  pub n : ℕ
+  pub z : ℕ
+  pub are : os ≡ outer space (Num up) (Num n) z ∷ []
 
-by-number : (l : Level) (ls : List Level) (o : Operand) (d : Place) → counting (l ∷ ls) o ≡ some d → ByNumber l ls o d
+abbrev pub Counts : Spot → Type 0
+Counts (original field at) = Unit {0}
+Counts (inserted h) = h .code ≡ 11 → OfNumbers (h .operands)
+
+-- in a scope
+abbrev pub AliasesCount : Floor → Type 0
+AliasesCount f = All (λ (x : Located). Counts (spotOf x)) (located (f .row) 0 (f .level .fields))
+
+of-numbers : (os : List Operand) → AllNumbered os → JustOuter os → OfNumbers os
+of-numbers os a J = go (J .up) (J .at) (J .are) (subst AllNumbered (J .are) a .0)
+  where
+    go : (up at : Index) → os ≡ outer (J .space) up at (J .z) ∷ [] → Numbered (outer (J .space) up at (J .z)) → OfNumbers os
+    go (Num d) (Num n) e m = record { space = J .space; up = d; n = n; z = J .z; are = e }
+    go (Num d) (Id name) e m = absurd m
+    go (Id name) at e m = absurd m
+
+numbered-own : (i : Item) → NumberedItem i → AllNumbered (headOf i .operands)
+unfolding headOf
+numbered-own (plain h) n = n
+numbered-own (holds h s) n = n .0
+
+numbered-at : (os : List Operand) (n : ℕ) (o : Operand) → AllNumbered os → getElem? os n ≡ some o → Numbered o
+numbered-at [] n o a e = no-option o e
+numbered-at (x ∷ os) zero o a e = subst Numbered (some-same x o e) (a .0)
+numbered-at (x ∷ os) (suc n) o a e = numbered-at os n o (a .1) e
+
+bare : (ls : List Level) (o : Operand) (d : Place) → Numbered o → counting ls o ≡ some d → (space : ℕ) × (n : ℕ) × (z : ℕ) × (o ≡ ref space (Num n) [] z)
 unfolding counting
-by-number l ls (ref space (Num n) paths z) d e =
-    let s₁ = then-some (counted l space n) _ d e in
-    record { space = space; n = n; paths = paths; z = z; is = refl; spot = s₁ .0; counts = s₁ .1; means = s₁ .2 }
-by-number l ls (ref space (Id name) paths z) d e = no-option d e
-by-number l ls (outer space up at z) d e = no-option d e
-by-number l ls (case name z) d e = no-option d e
+bare [] o d m e = no-option d e
+bare (l ∷ ls) (ref space (Num n) [] z) d m e = (space, n, z, refl)
+bare (l ∷ ls) (ref space (Num n) (q ∷ qs) z) d m e = absurd m
+bare (l ∷ ls) (ref space (Id name) paths z) d m e = absurd m
+bare (l ∷ ls) (outer space up at z) d m e = no-option d e
+bare (l ∷ ls) (case name z) d m e = no-option d e
 
-record ByOuter (ls : List Level) (os : List Operand) (d : Place) : Type 0 where
-  space : ℕ
-  up : ℕ
-  n : ℕ
-  z : ℕ
-  more : List Operand
-  are : os ≡ outer space (Num up) (Num n) z ∷ more
-  l : Level
-  there : getElem? ls up ≡ some l
-  spot : Spot
-  counts : counted l space n ≡ some spot
-  placed : place l spot ≡ some d
+numbered-held : (i : Item) (gs : Fields) → NumberedItem i → held i ≡ some gs → NumberedFields gs
+unfolding held
+numbered-held (plain h) gs n e = no-option gs e
+numbered-held (holds h (scope kind name fs)) gs n e = subst NumberedFields (some-same fs gs e) (n .1)
 
-by-outer : (ls : List Level) (os : List Operand) (d : Place) → countedOut ls os ≡ some d → ByOuter ls os d
-unfolding countedOut
-by-outer ls [] d e = no-option d e
-by-outer ls (ref space at paths z ∷ os) d e = no-option d e
-by-outer ls (outer space (Num up) (Num n) z ∷ os) d e =
-    let s₁ = then-some (getElem? ls up) _ d e in
-    let s₂ = then-some (counted (s₁ .0) space n) _ d (s₁ .2) in
-    record { space = space; up = up; n = n; z = z; more = os; are = refl; l = s₁ .0; there = s₁ .1; spot = s₂ .0; counts = s₂ .1; placed = s₂ .2 }
-by-outer ls (outer space (Num up) (Id name) z ∷ os) d e = no-option d e
-by-outer ls (outer space (Id name) at z ∷ os) d e = no-option d e
-by-outer ls (case name z ∷ os) d e = no-option d e
+numbered-floors : (s : Scope) → NumberedScope s → (way : List ℕ) (fs : List Floor) → floorsAt s way ≡ some fs → All (λ (f : Floor). NumberedFields (f .level .fields)) fs
+numbered-floors (scope kind name gs) n way fs e = of-floors NumberedFields NumberedItem (λ i fs p. p .0) (λ i fs p. p .1) numbered-held (scope kind name gs) way fs n e
 
-through-alias : (ls : List Level) (l : Level) (h : Head) (d : Place) → Readings.meant ls l (inserted h) ≡ some d → (h .code ≡ 11) × (countedOut ls (h .operands) ≡ some d)
-unfolding Readings.meant if_then_else_
-through-alias ls l h d e = go (eqb (h .code) 11) refl e
+old-count : (row n at : ℕ) (ds : List Declaration) → All (λ (x : Located). Counts (spotOf x)) (inRows row (inOriginal n at ds))
+unfolding inRows inOriginal
+old-count row n at [] = done
+old-count row n at (d ∷ ds) = tt & old-count (suc row) n (suc at) ds
+
+new-count : (h : Head) (row : ℕ) (ds : List Declaration) → (h .code ≡ 11 → OfNumbers (h .operands)) → All (λ (x : Located). Counts (spotOf x)) (inRows row (inInserted h ds))
+unfolding inRows inInserted
+new-count h row [] c = done
+new-count h row (d ∷ ds) c = c & new-count h (suc row) ds c
+
+module _ (rules : RuleSet) where
+  numbered-count : (fs : Fields) (kind n row : ℕ) → GoodFields rules fs kind → NumberedFields fs → All (λ (x : Located). Counts (spotOf x)) (located row n fs)
+  unfolding located if_then_else_
+  numbered-count end kind n row g m = done
+  numbered-count (i ▸ fs) kind n row g m =
+      go (isInserted (headOf i)) (λ c. of-numbers (headOf i .operands) (numbered-own i (m .0)) (alias-outer rules (headOf i) kind (good-head rules i kind (g .0)) c))
+      (λ k. numbered-count fs kind k (row + length (itemRows i)) (g .1) (m .1))
+    where
+      go : (b : Bool) → (headOf i .code ≡ 11 → OfNumbers (headOf i .operands)) → ((k : ℕ) → All (λ (x : Located). Counts (spotOf x)) (located (row + length (itemRows i)) k fs))
+          → All (λ (x : Located). Counts (spotOf x))
+          (inRows (suc row) (if b then inInserted (headOf i) (headOf i .decls) else inOriginal n 0 (headOf i .decls)) ++ located (row + length (itemRows i)) (if b then n else suc n) fs)
+      go true c below = all-append _ _ (new-count (headOf i) (suc row) (headOf i .decls) c) (below n)
+      go false c below = all-append _ _ (old-count (suc row) n 0 (headOf i .decls)) (below (suc n))
+
+  -- in a resolved form they do
+  pub numbered-aliases : (s : Scope) → GoodScope rules s → NumberedScope s → (way : List ℕ) (f : Floor) (rest : List Floor) → floorsAt s way ≡ some (f ∷ rest) → AliasesCount f
+  numbered-aliases s good m way f rest e =
+      let G = first-of (floors-good rules s way (f ∷ rest) good e) in
+      numbered-count (f .level .fields) (G .0) 0 (f .row) (G .1) (first-of (numbered-floors s m way (f ∷ rest) e))
+
+-- an input has none
+pub low-aliases : (s : Scope) → LowScope s → (way : List ℕ) (f : Floor) (rest : List Floor) → floorsAt s way ≡ some (f ∷ rest) → AliasesCount f
+low-aliases s low way f rest e = all-map _ (λ x. original-counts (spotOf x)) (first-of (none-inserted-around s low way (f ∷ rest) e))
   where
-    go : (b : Bool) → eqb (h .code) 11 ≡ b → (if b then countedOut ls (h .operands) else none) ≡ some d → (h .code ≡ 11) × (countedOut ls (h .operands) ≡ some d)
-    go true q e = (eqb-true (h .code) 11 q, e)
-    go false q e = no-option d e
+    original-counts : (spot : Spot) → IsOriginal spot → Counts spot
+    original-counts (original field at) o = tt
+    original-counts (inserted h) o = absurd o
 
-itself : (ls : List Level) (l : Level) (field at : ℕ) (d : Place) → Readings.meant ls l (original field at) ≡ some d → place l (original field at) ≡ some d
-unfolding Readings.meant
-itself ls l field at d e = e
+-- ---- the tree's answer and the rules' reading
 
--- the level of a floor
-level-at : (fs : List Floor) (n : ℕ) (l : Level) → getElem? (levels fs) n ≡ some l → (f : Floor) × (getElem? fs n ≡ some f) × (f .level ≡ l)
-level-at fs n l e = map-some (λ (f : Floor). f .level) (getElem? fs n) l (sym (elem-map (λ (f : Floor). f .level) fs n) ∙ e)
+module _ (s : Scope) (fs : List Floor) (own : All (AtItsWay s) fs) where
+  agree-spot : (f : Floor) (out space n : ℕ) (x : Located) → getElem? fs out ≡ some f → countedRow f space n ≡ some x → (spot : Spot) → spotOf x ≡ spot
+      → Agree s fs (place (f .level) spot) (said (some x) n out)
+  unfolding place said
+  agree-spot f out space n x e q (original field at) t = a-place (declared-at s fs f out space n x e q (all-at _ out f own e) _ (ap (place (f .level)) t))
+  agree-spot f out space n x e q (inserted h) t = an-inserted (inserted-at s fs f out space n x e q h t)
 
--- and what is counted in it, with its row
-counted-at : (f : Floor) (l : Level) (space n : ℕ) (spot : Spot) → f .level ≡ l → counted l space n ≡ some spot → (x : Located) × (countedRow f space n ≡ some x) × (spotOf x ≡ spot)
-counted-at f l space n spot q e = map-some spotOf (countedRow f space n) spot (counted-row f space n ∙ (ap (λ (k : Level). counted k space n) q ∙ e))
+  -- what is counted in a scope around
+  agree-in : (o : Option Floor) (out space n : ℕ) → getElem? fs out ≡ o → Agree s fs (Option·map (λ (f : Floor). f .level) o then λ l. counted l space n then place l) (saidIn o out space n)
+  unfolding saidIn said _then_
+  agree-in none out space n e = nothing
+  agree-in (some f) out space n e = subst (λ (o : Option Spot). Agree s fs (o then place (f .level)) (said (countedRow f space n) n out)) (counted-row f space n) (go (countedRow f space n) refl)
+    where
+      go : (o : Option Located) → countedRow f space n ≡ o → Agree s fs (Option·map spotOf o then place (f .level)) (said o n out)
+      go none q = nothing
+      go (some x) q = agree-spot f out space n x e q (spotOf x) refl
 
--- ---- rows
+  agree-out : (os : List Operand) (m : Meaning) → OfNumbers os → Agree s fs (countedOut (levels fs) os) (saidOut fs os m)
+  unfolding countedOut saidOut _then_
+  agree-out os m O =
+      subst (λ (os : List Operand). Agree s fs (countedOut (levels fs) os) (saidOut fs os m)) (sym (O .are))
+      (subst (λ (o : Option Level). Agree s fs (o then λ l. counted l (O .space) (O .n) then place l) (saidIn (getElem? fs (O .up)) (O .up) (O .space) (O .n))) (sym (elem-map (λ (f : Floor). f .level) fs (O .up)))
+      (agree-in (getElem? fs (O .up)) (O .up) (O .space) (O .n) refl))
 
-least : (n : ℕ) → pick (ltb n 65535) n 65535 ≤ 65535
-unfolding pick
-least n = go (ltb n 65535) refl
+  agree-behind : (f : Floor) (space n : ℕ) (x : Located) (m : Meaning) → getElem? fs 0 ≡ some f → countedRow f space n ≡ some x → (spot : Spot) → spotOf x ≡ spot → Counts spot
+      → Agree s fs (Readings.meant (levels fs) (f .level) spot) (saidBehind fs spot (said (some x) n 0) m)
+  unfolding Readings.meant saidBehind if_then_else_
+  agree-behind f space n x m e q (original field at) t c = agree-spot f 0 space n x e q (original field at) t
+  agree-behind f space n x m e q (inserted h) t c = go (eqb (h .code) 11) refl
+    where
+      itself : Agree s fs none (said (some x) n 0)
+      itself = unfold place in agree-spot f 0 space n x e q (inserted h) t
+
+      go : (b : Bool) → eqb (h .code) 11 ≡ b
+          → Agree s fs (if b then countedOut (levels fs) (h .operands) else none) (if b then saidOut fs (h .operands) m else said (some x) n 0)
+      go true b = agree-out (h .operands) m (c (eqb-true (h .code) 11 b))
+      go false b = itself
+
+-- a number in the innermost of these scopes
+agree-number : (s : Scope) (f : Floor) (rest : List Floor) → All (AtItsWay s) (f ∷ rest) → AliasesCount f → (named : Located → Meaning) (space n z : ℕ)
+    → Agree s (f ∷ rest) (counting (levels (f ∷ rest)) (ref space (Num n) [] z)) (saidFrom (f ∷ rest) named 0 space n 0)
+unfolding counting saidFrom saidEnd _then_ countedRow
+agree-number s f rest own counts named space n z =
+    subst (λ (o : Option Spot). Agree s (f ∷ rest) (o then Readings.meant (levels (f ∷ rest)) (f .level)) (saidEnd (f ∷ rest) named (countedRow f space n) n 0)) (counted-row f space n) (go (countedRow f space n) refl)
   where
-    go : (b : Bool) → ltb n 65535 ≡ b → pick b n 65535 ≤ 65535
-    go true e = let l = ltb-true n 65535 e in omega (arith, l)
-    go false e = omega arith
-
-rows-below : (form : List ℕ) → rowsIn form ≤ 65535
-unfolding rowsIn
-rows-below form = least ((length form - 8) / 16)
-
-one-only : (ds : List Declaration) → length ds ≡ 1 → (d : Declaration) × (ds ≡ d ∷ [])
-one-only [] e = absurd (omega arith)
-one-only (d ∷ []) e = (d, refl)
-one-only (d ∷ c ∷ ds) e = absurd (omega arith)
-
-only-elem : (ds : List Declaration) (d c : Declaration) (m : ℕ) → ds ≡ d ∷ [] → getElem? ds m ≡ some c → (m ≡ 0) × (c ≡ d)
-only-elem ds d c m e q = go m (sym (ap (λ (l : List Declaration). getElem? l m) e) ∙ q)
-  where
-    go : (m : ℕ) → getElem? (d ∷ []) m ≡ some c → (m ≡ 0) × (c ≡ d)
-    go zero q = (refl, sym (some-same d c q))
-    go (suc m) q = no-option c q
-
-alias-even : (h : Head) (d : Declaration) → Even (Field (h .code) (h .builtin) (h .z) ∷ declRowOf d ∷ [])
-unfolding encode
-alias-even h d = flat (record { not-open = refl; not-close = refl }) (flat (record { not-open = refl; not-close = refl }) nothing)
-
-module _ (form : List ℕ) where
-  -- a number is counted in its own scope
-  number-meaning : (r space n z : ℕ) → Is form r (Ref space (Num n) 0 z) → meaningOf form r ≡ inScope form (scopeOf form r) 0 space (Number n)
-  unfolding meaningOf readingOf spaceSought keyOf encode flag number pick
-  number-meaning r space n z is =
-      let c : codeAt form r ≡ 3 = ap codePart is in
-      let b : bAt form r ≡ space = ap bPart is in
-      let e : eAt form r ≡ 0 = ap ePart is in
-      let x : xAt form r ≡ n = ap xPart is in
-      let y : yAt form r ≡ 0 = ap yPart is in
-      rw (c, b, e, x, y)
-
-  final-itself : (r row n out name : ℕ) → meaningOf form r ≡ MeantAt row n out name → isInsertedOuter form row ≡ false → finalMeaning form r ≡ MeantAt row n out name
-  unfolding finalMeaning behind
-  final-itself r row n out name e i = ap (behind form) e ∙ sym (no! _ i refl)
-
-  final-behind : (r row n out name : ℕ) (m : Meaning) → meaningOf form r ≡ MeantAt row n out name → isInsertedOuter form row ≡ true → throughOuter form (nextOf row) ≡ m → finalMeaning form r ≡ m
-  unfolding finalMeaning behind
-  final-behind r row n out name m e i t = ap (behind form) e ∙ sym (yes! _ i (sym t))
-
-  not-alias : (row : ℕ) (d : Declaration) → Is form row (declRowOf d) → isFresh (d .name) ≡ false → isInsertedOuter form row ≡ false
-  unfolding isInsertedOuter parts.isInserted encode
-  not-alias row d is old =
-      let c : codeAt form row ≡ 2 = ap codePart is in
-      let x : xAt form row ≡ d .name = ap xPart is in
-      rw (c, x, old)
-
-  is-alias : (row : ℕ) (d : Declaration) → Is form row (declRowOf d) → isFresh (d .name) ≡ true → codeAt form (nextOf row) ≡ 5 → isInsertedOuter form row ≡ true
-  unfolding isInsertedOuter parts.isInserted encode
-  is-alias row d is new after =
-      let c : codeAt form row ≡ 2 = ap codePart is in
-      let x : xAt form row ≡ d .name = ap xPart is in
-      rw (c, x, new, after)
-
-  -- the rows of an outer alias: FIELD, DECL, OUTER
-  alias-rows : (h : Head) (row : ℕ) (d : Declaration) (space up n z : ℕ) (more : List Operand) → At form row (headRows h) → h .decls ≡ d ∷ [] → h .operands ≡ outer space (Num up) (Num n) z ∷ more
-      → At form row (Field (h .code) (h .builtin) (h .z) ∷ declRowOf d ∷ []) × Is form (row + 1 + 1) (Outer space (Num up) (Num n) z)
-  unfolding headRows declRows operandRows operandRow
-  alias-rows h row d space up n z more a e₁ e₂ =
-      let b : At form row (Field (h .code) (h .builtin) (h .z) ∷ declRowOf d ∷ Outer space (Num up) (Num n) z ∷ (operandRows more ++ exportRows (h .export))) = rw (e₁, e₂) at a in
-      ((b .0, (b .1 .0, tt)), b .1 .1 .0)
+    go : (o : Option Located) → countedRow f space n ≡ o → Agree s (f ∷ rest) (Option·map spotOf o then Readings.meant (levels (f ∷ rest)) (f .level)) (saidEnd (f ∷ rest) named o n 0)
+    go none q = nothing
+    go (some x) q = agree-behind s (f ∷ rest) own f space n x (named x) refl q (spotOf x) refl (all-at _ n x (of-space-all _ space counts) q)
 
 -- ---- the theorem
 
 module _ (form : List ℕ) (s : Scope) (rules : RuleSet) (good : GoodScope rules s) (R : Rows form s) (p : Place) (r : ℕ) (at : rowOfOperand s p ≡ some r) where
-  use-there : Used form s p r
+  -- the operand there
+  pub use-there : Used form s p r
   use-there = used form s p r (R .stand) (R .fit) at
 
-  counting-use : (d : Place) → countingReading s p ≡ some d → counting (levels (use-there .f ∷ use-there .rest)) (use-there .operand) ≡ some d
+  -- the scopes around the place
+  abbrev pub around : List Floor
+  around = use-there .f ∷ use-there .rest
+
+  pub around-are : floorsAt s (p .way) ≡ some around
+  around-are = use-there .are
+
+  counting-is : countingReading s p ≡ counting (levels around) (use-there .operand)
   unfolding Readings.countingInside _then_
-  counting-use d e = rw (use-there .used-as) at e
+  counting-is = rw (use-there .used-as)
 
-  -- the DECL of what is counted in a scope around the place
-  decl-is : (k : ℕ) (f : Floor) (space n : ℕ) (x : Located) → getElem? (use-there .f ∷ use-there .rest) k ≡ some f → countedRow f space n ≡ some x
-      → Is form (x .row) (declRowOf (x .standing .decl)) × (x .row < 65535)
-  decl-is k f space n x e q =
-      let there = counted-row-is s (p .way) (use-there .f ∷ use-there .rest) k f space n x (use-there .are) e q in
-      let zeroth : 0 + x .row ≡ x .row = omega arith in
-      let low = elem-lt (flatten s) (x .row) (declRowOf (x .standing .decl)) there in
-      let fit = R .fit in
-      let most = rows-below form in
-      (subst (λ (m : ℕ). Is form m (declRowOf (x .standing .decl))) zeroth (at-elem form 0 (flatten s) (x .row) (declRowOf (x .standing .decl)) (R .stand) there), omega (arith, low, fit, most))
+  -- Every number without PATHs, where inserted outer aliases count: in an input, which has none, and in a resolved form.
+  pub counting-whole : AliasesCount (use-there .f) → (space n z : ℕ) → operandAt s p ≡ some (ref space (Num n) [] z) → Agree s around (countingReading s p) (finalMeaning form r)
+  unfolding sought pick
+  counting-whole counts space n z e =
+      let own = all-at-own-way s (p .way) around around-are in
+      let same : use-there .operand ≡ ref space (Num n) [] z = operand-used form s p r use-there (ref space (Num n) [] z) e in
+      let m = named form s rules good R p r at around around-are in
+      let rows : finalMeaning form r ≡ saidFrom around m 0 space n 0 = ref-row form s rules good R p r at around around-are space n [] z e .1 in
+      let reads : countingReading s p ≡ counting (levels around) (ref space (Num n) [] z) = counting-is ∙ ap (counting (levels around)) same in
+      subst (λ (k : Meaning). Agree s around (countingReading s p) k) (sym rows)
+      (subst (λ (o : Option Place). Agree s around o (saidFrom around m 0 space n 0)) (sym reads) (agree-number s (use-there .f) (use-there .rest) own counts m space n z))
 
-  place-row : (k : ℕ) (f : Floor) (space n : ℕ) (x : Located) (d : Place) → getElem? (use-there .f ∷ use-there .rest) k ≡ some f → countedRow f space n ≡ some x → place (f .level) (spotOf x) ≡ some d
-      → rowOfDecl s d ≡ some (x .row)
-  place-row k f space n x d e q t = located-place s f space n x d (all-at _ k f (all-at-own-way s (p .way) (use-there .f ∷ use-there .rest) (use-there .are)) e) q t .1
+  pub counting-input : LowScope s → (space n z : ℕ) → operandAt s p ≡ some (ref space (Num n) [] z) → Agree s around (countingReading s p) (finalMeaning form r)
+  counting-input low = counting-whole (low-aliases s low (p .way) (use-there .f) (use-there .rest) around-are)
 
-  -- what a spot's rows hold, in the innermost scope
-  spot-is : (space n : ℕ) (x : Located) → countedRow (use-there .f) space n ≡ some x → SpotIs form (use-there .f .row) (spotOf x) (x .standing .decl) (x .row)
-  unfolding countedRow
-  spot-is space n x q =
-      let f = use-there .f in
-      let S = use-there .chain .0 in
-      let G = all-at _ 0 f (floors-good rules s (p .way) (f ∷ use-there .rest) good (use-there .are)) refl in
-      let own = at-left form (f .row) (fieldsRows (f .level .fields)) _ (S .fields) in
-      let around = scope-behind form f (firstRow (use-there .rest)) S [] nothing tt in
-      all-at _ n x (of-space-all _ space (spots form (f .row) rules (f .level .fields) (G .0) 0 (f .row) (G .1) own around)) q
+  pub counting-resolved : NumberedScope s → (space n z : ℕ) → operandAt s p ≡ some (ref space (Num n) [] z) → Agree s around (countingReading s p) (finalMeaning form r)
+  counting-resolved m = counting-whole (numbered-aliases rules s good m (p .way) (use-there .f) (use-there .rest) around-are)
 
-  -- through an inserted outer alias
-  through : (space n : ℕ) (x : Located) (h : Head) (d : Place) → countedRow (use-there .f) space n ≡ some x → Inserted form (use-there .f .row) h (x .standing .decl) (x .row)
-      → Readings.meant (levels (use-there .f ∷ use-there .rest)) (use-there .f .level) (inserted h) ≡ some d → meaningOf form r ≡ MeantAt (x .row) n 0 (xAt form (x .row))
-      → (row : ℕ) × (rowOfDecl s d ≡ some row) × (rowMeant (finalMeaning form r) ≡ some row)
-  unfolding rowMeant scopeOf isInserted anyFresh encode nextOf
-  through space n x h d q I e m =
-      let fs = use-there .f ∷ use-there .rest in
-      let T = through-alias (levels fs) (use-there .f .level) h d e in
-      let O = by-outer (levels fs) (h .operands) d (T .1) in
-      let D = one-only (h .decls) (I .single (T .0)) in
-      let M = only-elem (h .decls) (D .0) (x .standing .decl) (I .m) (D .1) (I .decl) in
-      let A = alias-rows form h (I .row) (D .0) (O .space) (O .up) (O .n) (O .z) (O .more) (I .own) (D .1) (O .are) in
-      let L = level-at fs (O .up) (O .l) (O .there) in
-      let C = counted-at (L .0) (O .l) (O .space) (O .n) (O .spot) (L .2) (O .counts) in
-      let here = decl-is 0 (use-there .f) space n x refl q in
-      let is-at = I .is-at in
-      let first = M .0 in
-      let in-range : ltb (x .row) 65535 ≡ true = omega (tests, here .1) in
-      let next : nextOf (x .row) ≡ I .row + 1 + 1 = sym (yes! _ in-range refl) ∙ omega (arith, is-at, first) in
-      let around : scopeAbove form (I .row + 1 + 1) 0 ≡ use-there .f .row =
-      up-even form (alias-even h (D .0)) (I .row) 0 (A .0) ∙ I .around in
-      let fresh : isFresh (x .standing .decl .name) ≡ true =
-      ap (λ (c : Declaration). isFresh (c .name)) (M .1) ∙ or-false (isFresh (D .0 .name)) (sym (ap anyFresh (D .1)) ∙ I .new) in
-      let alias = is-alias form (x .row) (x .standing .decl) (here .0) fresh (ap (codeAt form) next ∙ ap codePart (A .1)) in
-      let meant-there = outer-meant form fs (I .row + 1 + 1) (O .space) (O .up) (O .n) (O .z) (L .0) (C .0) (use-there .chain) around (A .1) (L .1) (C .1) in
-      let found : place (L .0 .level) (spotOf (C .0)) ≡ some d = ap (place (L .0 .level)) (C .2) ∙ (ap (λ (k : Level). place k (O .spot)) (L .2) ∙ O .placed) in (
-        C .0 .row,
-        place-row (O .up) (L .0) (O .space) (O .n) (C .0) d (L .1) (C .1) found,
-        ap rowMeant (final-behind form r (x .row) n 0 (xAt form (x .row)) _ m alias (ap (throughOuter form) next ∙ meant-there)),
-      )
+  -- the operand is a number without PATHs, if the reading gives a place
+  operand-numbered : NumberedScope s → Numbered (use-there .operand)
+  operand-numbered m =
+      let fields : NumberedFields (use-there .f .level .fields) = first-of (numbered-floors s m (p .way) around around-are) in
+      let item = of-original NumberedFields NumberedItem (λ i fs p. p .0) (λ i fs p. p .1) numbered-held (use-there .f .row) (use-there .f .level .fields) (p .field) (use-there .x) fields (use-there .field-there) in
+      numbered-at (headOf (use-there .x .item) .operands) (p .at) (use-there .operand) (numbered-own (use-there .x .item) item) (use-there .operand-there)
 
-  -- The counting reading of a number without PATHs: where the rules give a place, the rows give its row.
-  pub counting-row : yAt form r ≡ 0 → (d : Place) → countingReading s p ≡ some d → (row : ℕ) × (rowOfDecl s d ≡ some row) × (rowMeant (finalMeaning form r) ≡ some row)
-  unfolding rowMeant encode
-  counting-row no-paths d e =
-      let f = use-there .f in
-      let B = by-number (f .level) (levels (use-there .rest)) (use-there .operand) d (counting-use d e) in
-      let C = counted-at f (f .level) (B .space) (B .n) (B .spot) refl (B .counts) in
-      let x = C .0 in
-      let is : Is form r (Ref (B .space) (Num (B .n)) (length (B .paths)) (B .z)) = subst (λ (o : Operand). Is form r (operandRowOf o)) (B .is) (use-there .is) in
-      let paths : length (B .paths) ≡ 0 = sym (ap yPart is) ∙ no-paths in
-      let bare : Is form r (Ref (B .space) (Num (B .n)) 0 (B .z)) = subst (λ (k : ℕ). Is form r (Ref (B .space) (Num (B .n)) k (B .z))) paths is in
-      let means : meaningOf form r ≡ MeantAt (x .row) (B .n) 0 (xAt form (x .row)) =
-      number-meaning form r (B .space) (B .n) (B .z) bare
-      ∙ (ap (λ (k : ℕ). inScope form k 0 (B .space) (Number (B .n))) (use-there .around) ∙ meant-in form f (firstRow (use-there .rest)) 0 (B .space) (B .n) x (use-there .chain .0) (C .1)) in
-      go (B .spot) (B .space) (B .n) x (C .1) (C .2) (B .means) means
-    where
-      go : (spot : Spot) (space n : ℕ) (x : Located) → countedRow (use-there .f) space n ≡ some x → spotOf x ≡ spot
-          → Readings.meant (levels (use-there .f ∷ use-there .rest)) (use-there .f .level) spot ≡ some d → meaningOf form r ≡ MeantAt (x .row) n 0 (xAt form (x .row))
-          → (row : ℕ) × (rowOfDecl s d ≡ some row) × (rowMeant (finalMeaning form r) ≡ some row)
-      go (original field k) space n x q t e m =
-          let S : SpotIs form (use-there .f .row) (original field k) (x .standing .decl) (x .row) = subst (λ (y : Spot). SpotIs form (use-there .f .row) y (x .standing .decl) (x .row)) t (spot-is space n x q) in
-          let old = not-alias form (x .row) (x .standing .decl) (decl-is 0 (use-there .f) space n x refl q .0) S in (
-            x .row,
-            place-row 0 (use-there .f) space n x d refl q (ap (place (use-there .f .level)) t ∙ itself (levels (use-there .f ∷ use-there .rest)) (use-there .f .level) field k d e),
-            ap rowMeant (final-itself form r (x .row) n 0 (xAt form (x .row)) m old),
-          )
-      go (inserted h) space n x q t e m =
-          through space n x h d q (subst (λ (y : Spot). SpotIs form (use-there .f .row) y (x .standing .decl) (x .row)) t (spot-is space n x q)) e m
-
-  -- A number that no declaration of its scope has means nothing.
-  pub counts-to-nothing : (l : Level) (ls : List Level) (h : Head) (space n z : ℕ) → useAt s p ≡ some (record { levels = l ∷ ls; head = h; operand = ref space (Num n) [] z }) → counted l space n ≡ none
-      → finalMeaning form r ≡ Nowhere
-  unfolding finalMeaning behind
-  counts-to-nothing l ls h space n z u e =
-      let f = use-there .f in
-      let same : _≡_ {A = Use} (record { levels = levels (f ∷ use-there .rest); head = headOf (use-there .x .item); operand = use-there .operand }) (record { levels = l ∷ ls; head = h; operand = ref space (Num n) [] z }) =
-      some-same _ _ (sym (use-there .used-as) ∙ u) in
-      let all : levels (f ∷ use-there .rest) ≡ l ∷ ls = ap (λ (v : Use). v .levels) same in
-      let first : f .level ≡ l = cc in
-      let is : Is form r (Ref space (Num n) 0 z) = subst (λ (o : Operand). Is form r (operandRowOf o)) (ap (λ (v : Use). v .operand) same) (use-there .is) in
-      let nothing-there : countedRow f space n ≡ none = map-none spotOf (countedRow f space n) (counted-row f space n ∙ (ap (λ (k : Level). counted k space n) first ∙ e)) in
-      ap (behind form)
-      (number-meaning form r space n z is ∙ (ap (λ (k : ℕ). inScope form k 0 space (Number n)) (use-there .around) ∙ nothing-in form f (firstRow (use-there .rest)) 0 space n (use-there .chain .0) nothing-there))
+  -- In a resolved form: where the rules give a place, its declaration is what is meant in the end.
+  pub counting-row : NumberedScope s → (d : Place) → countingReading s p ≡ some d → Declared s around d (finalMeaning form r)
+  counting-row m d e =
+      let B = bare (levels around) (use-there .operand) d (operand-numbered m) (sym counting-is ∙ e) in
+      the-place s around d (finalMeaning form r) (countingReading s p) e (counting-resolved m (B .0) (B .1) (B .2) (operand-is-at form s p r use-there ∙ ap {B = Option Operand} some (B .3)))

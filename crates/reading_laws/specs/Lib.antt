@@ -8,10 +8,15 @@ pub mod Everywhere
 -- Names outward, numbers, what an inserted field's rows hold, operands.
 pub mod Outward
 pub mod Number
+pub mod Outers
 pub mod Spots
 pub mod Operands
+-- What the tree says of a number; a declaration with all that is said of it.
+pub mod Said
+pub mod Declared
 -- The readings on rows are those of the rules.
 pub mod Meant
+pub mod Whole
 pub mod Counted
 -- Every REF is the row of a place; which rows are read outward.
 pub mod EveryRow

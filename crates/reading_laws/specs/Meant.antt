@@ -60,6 +60,10 @@ none-inserted row n (i ▸ fs) l =
 low-floors : (s : Scope) → LowScope s → (way : List ℕ) (fs : List Floor) → floorsAt s way ≡ some fs → All (λ (f : Floor). LowFields (f .level .fields)) fs
 low-floors (scope kind name gs) l way fs e = of-floors LowFields (λ (i : Item). LowHead (headOf i) × LowItem i) low-first low-rest low-held (scope kind name gs) way fs (l .1) e
 
+-- the scopes around a place of an input
+pub none-inserted-around : (s : Scope) → LowScope s → (way : List ℕ) (fs : List Floor) → floorsAt s way ≡ some fs → All NoneInserted fs
+none-inserted-around s low way fs e = all-map fs (λ f h. none-inserted (f .row) 0 (f .level .fields) h) (low-floors s low way fs e)
+
 pub first-of : {A : Type 0} {P : A → Type 0} {x : A} {xs : List A} → All P (x ∷ xs) → P x
 first-of (h & a) = h
 
@@ -112,7 +116,7 @@ module _ (form : List ℕ) (s : Scope) (R : Rows form s) (p : Place) (r : ℕ) (
       let is-name : eqb (w .1) 0 ≡ false = omega (tests, operand .0) in
       let is : Is form r (Ref (w .0) (Id (w .1)) 0 (W .0)) = subst (λ (o : Operand). Is form r (operandRowOf o)) (W .1) (U .is) in
       let own = all-at-own-way s (p .way) (U .f ∷ U .rest) (U .are) in
-      let originals = none (U .f ∷ U .rest) (floors-low U) in
+      let originals = none-inserted-around s low (p .way) (U .f ∷ U .rest) (U .are) in
       let out = outward-use w x in (
         ap rowMeant (walked-meaning form r (headOf (U .x .item) .code) (w .0) (w .1) (W .0) is (U .of-field) (W .2))
             ∙ (outward-at form r (w .0) (w .1) (U .f ∷ U .rest) (U .chain) (U .around) s is-name own originals ∙ ap (λ (o : Option Place). o then rowOfDecl s) (sym out)),
@@ -124,9 +128,6 @@ module _ (form : List ℕ) (s : Scope) (R : Rows form s) (p : Place) (r : ℕ) (
 
       low-here : (U : Used form s p r) → LowFields (U .f .level .fields)
       low-here U = first-of (floors-low U)
-
-      none : (fs : List Floor) → All (λ (f : Floor). LowFields (f .level .fields)) fs → All NoneInserted fs
-      none fs l = all-map fs (λ f h. none-inserted (f .row) 0 (f .level .fields) h) l
 
   -- The outward reading of a walked name: on rows as in the tree, found or not.
   pub outward-row : LowScope s → (w : ℕ × ℕ) → walkedAt s p ≡ some w → rowMeant (meaningOf form r) ≡ (outwardReading s p then rowOfDecl s)

@@ -20,12 +20,12 @@ use Rattle.readings.specs.Meaning.{meant, inScope, inOuter, outerWanted, indexK
 use Rattle.scopes.specs.declared.Key.the-variants.{Number}
 use Rattle.scopes.specs.declared.Found.the-variants.{At as FoundAt, Nothing}
 use Rattle.scopes.specs.declared.Wanted.the-variants.{Out}
-use Rattle.scopes.specs.declared.Outer.the-variants.{At as OuterAt}
+use Rattle.scopes.specs.declared.Outer.the-variants.{At as OuterAt, Nowhere as NoScope}
 use Rattle.readings.specs.declared.Meaning.the-variants.{At as MeantAt, Nowhere}
 use Rattle.reading_laws.specs.Stand.{Is, bPart, ePart, xPart, yPart}
 use Rattle.reading_laws.specs.Find.{search, find-in}
 use Rattle.reading_laws.specs.Floors.{Stands, Chain, firstRow}
-use Rattle.reading_laws.specs.Outward.{firstWanted, scope-outward, count-out}
+use Rattle.reading_laws.specs.Outward.{firstWanted, scope-outward, count-out, count-past}
 
 -- ---- the n-th of a space
 
@@ -96,10 +96,10 @@ module _ (form : List ℕ) where
   stands-at (g ∷ fs) (suc d) f C e = stands-at fs d f (C .1) e
 
   -- an OUTER of two numbers
-  pub outer-meant : (fs : List Floor) (row space d n z : ℕ) (f : Floor) (x : Located) → Chain form fs → scopeOf form row ≡ firstRow fs → Is form row (Outer space (Num d) (Num n) z)
-      → getElem? fs d ≡ some f → countedRow f space n ≡ some x → throughOuter form row ≡ MeantAt (x .row) n d (xAt form (x .row))
+  outer-in : (fs : List Floor) (row space d n z : ℕ) (f : Floor) → Chain form fs → scopeOf form row ≡ firstRow fs → Is form row (Outer space (Num d) (Num n) z) → getElem? fs d ≡ some f
+      → throughOuter form row ≡ inScope form (f .row) d space (Number n)
   unfolding throughOuter outerWanted indexKey inOuter encode flag number pick
-  outer-meant fs row space d n z f x C around is e q =
+  outer-in fs row space d n z f C around is e =
       let flags : eAt form row ≡ 0 = ap ePart is in
       let up : xAt form row ≡ d = ap xPart is in
       let index : yAt form row ≡ n = ap yPart is in
@@ -107,5 +107,22 @@ module _ (form : List ℕ) where
       let same : d ≡ 0 + d = omega arith in
       let there : scopeOutward form (firstRow fs) (Out d) ≡ OuterAt (f .row) d =
       scope-outward form (Out d) fs C ∙ (ap (λ (k : ℕ). firstWanted form (Out k) 0 fs) same ∙ (count-out form fs d 0 f e ∙ ap (λ (k : ℕ). OuterAt (f .row) k) (sym same))) in
-      let S = stands-at fs d f C e in
-      rw (flags, up, index, sort, around, there) (meant-in f (S .0) d space n x (S .1) q)
+      rw (flags, up, index, sort, around, there)
+
+  pub outer-meant : (fs : List Floor) (row space d n z : ℕ) (f : Floor) (x : Located) → Chain form fs → scopeOf form row ≡ firstRow fs → Is form row (Outer space (Num d) (Num n) z)
+      → getElem? fs d ≡ some f → countedRow f space n ≡ some x → throughOuter form row ≡ MeantAt (x .row) n d (xAt form (x .row))
+  outer-meant fs row space d n z f x C around is e q = let S = stands-at fs d f C e in outer-in fs row space d n z f C around is e ∙ meant-in f (S .0) d space n x (S .1) q
+
+  pub outer-nothing : (fs : List Floor) (row space d n z : ℕ) (f : Floor) → Chain form fs → scopeOf form row ≡ firstRow fs → Is form row (Outer space (Num d) (Num n) z)
+      → getElem? fs d ≡ some f → countedRow f space n ≡ none → throughOuter form row ≡ Nowhere
+  outer-nothing fs row space d n z f C around is e q = let S = stands-at fs d f C e in outer-in fs row space d n z f C around is e ∙ nothing-in f (S .0) d space n (S .1) q
+
+  -- or past the last scope
+  pub outer-past : (fs : List Floor) (row space d n z : ℕ) → Chain form fs → scopeOf form row ≡ firstRow fs → Is form row (Outer space (Num d) (Num n) z) → getElem? fs d ≡ none → throughOuter form row ≡ Nowhere
+  unfolding throughOuter outerWanted inOuter encode flag number pick
+  outer-past fs row space d n z C around is e =
+      let flags : eAt form row ≡ 0 = ap ePart is in
+      let up : xAt form row ≡ d = ap xPart is in
+      let same : d ≡ 0 + d = omega arith in
+      let there : scopeOutward form (firstRow fs) (Out d) ≡ NoScope = scope-outward form (Out d) fs C ∙ (ap (λ (k : ℕ). firstWanted form (Out k) 0 fs) same ∙ count-past form fs d 0 e) in
+      rw (flags, up, around, there)

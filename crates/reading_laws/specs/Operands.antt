@@ -16,7 +16,8 @@ use Rattle.rules.specs.Readings
 use Rattle.rules.specs.Readings.{originals, Place, useIn, useInside, useAt}
 use Rattle.rules.specs.Laws.ToolLaws.{then-some, All, done, _&_, all-append}
 use Rattle.rules.specs.Laws.Results.{some-same, no-option}
-use Rattle.places.specs.PlaceRows.{Placed, originalsFrom, Floor, floorsAt, fieldIn, fieldAt, rowOfOperand, operandRowAt}
+use Rattle.places.specs.PlaceRows.{Placed, originalsFrom, Floor, floorsAt, fieldIn, fieldAt, operandAt, rowOfOperand, operandRowAt}
+use Rattle.places.specs.LocatedAt.{field-is}
 use Rattle.places.specs.Counting.{levels, originals-from, elem-map, floors-at}
 use Rattle.places.specs.RowAt.{decls-length, operandRowOf}
 use Rattle.row_parts.specs.Parts.{codeAt, bAt, rowsIn, fieldOf}
@@ -197,3 +198,11 @@ module _ (form : List ℕ) (s : Scope) (p : Place) where
           → suc (x .row + (length (headOf (x .item) .decls) + length (operandRows (take (p .at) (headOf (x .item) .operands))))) ≡ r → Used form s p r
       go [] q {x} e₂ {o} e₃ e₄ = no-option x e₂
       go (f ∷ rest) q {x} e₂ {o} e₃ e₄ = used-in f rest x o r q (floors-chain form s (p .way) (f ∷ rest) a fits q) e₂ e₃ e₄
+
+  pub operand-is-at : (r : ℕ) (U : Used form s p r) → operandAt s p ≡ some (U .operand)
+  unfolding operandAt _then_
+  operand-is-at r U = rw (field-is s p (U .f) (U .rest) (U .x) (U .are) (U .field-there)) (U .operand-there)
+
+  -- and no other
+  pub operand-used : (r : ℕ) (U : Used form s p r) (o : Operand) → operandAt s p ≡ some o → U .operand ≡ o
+  operand-used r U o e = some-same (U .operand) o (sym (operand-is-at r U) ∙ e)

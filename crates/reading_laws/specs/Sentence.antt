@@ -2,7 +2,7 @@
 -- both say which row that is.
 use mathlib.Core.Path.{_≡_, refl, ap, sym, _∙_, subst}
 use mathlib.Core.Bool.{Bool, true, false, _||_, not}
-use mathlib.Core.Option.{Option, none, some}
+use mathlib.Core.Option.{Option, none, some, Option·map}
 use mathlib.Core.List.{List, [], _∷_, _++_, map, append-nil}
 use native.Mathlib.Omega.{arith}
 use Prim.Native.Nat.{ℕ, zero, suc, _+_, _-_, _*_, _/_, _≤_, _^_, _<_}
@@ -38,10 +38,14 @@ use Rattle.reading_laws.specs.Everywhere.{of-original, of-floors}
 use Rattle.reading_laws.specs.Outward.{rowMeant}
 use Rattle.reading_laws.specs.Operands.{Used, used}
 use Rattle.reading_laws.specs.Meant.{first-of, Rows, outward-found}
-use Rattle.reading_laws.specs.Counted.{map-some, counting-row}
+use Rattle.reading_laws.specs.Counted.{around, around-are, counting-row}
 use Rattle.reading_laws.specs.Walked.{walked-row}
 
 -- ---- the operand at a place has a row
+
+map-some : {A B : Type 0} (g : A → B) (o : Option A) (b : B) → Option·map g o ≡ some b → (a : A) × (o ≡ some a) × (g a ≡ b)
+map-some g none b e = no-option b e
+map-some g (some a) b e = (a, refl, some-same (g a) b e)
 
 row-of : (s : Scope) (p : Place) (f : Floor) (fs : List Floor) (x : Placed) (o : Operand) → floorsAt s (p .way) ≡ some (f ∷ fs) → getElem? (originalsFrom (f .row) (f .level .fields)) (p .field) ≡ some x
     → getElem? (headOf (x .item) .operands) (p .at) ≡ some o → rowOfOperand s p ≡ some (operandRowAt x (p .at))
@@ -64,50 +68,6 @@ operand-has-row s p u e =
         let X = map-some (λ (y : Placed). y .item) (getElem? (originalsFrom (f .row) (f .level .fields)) (p .field)) (s₂ .0)
         (sym (elem-map (λ (y : Placed). y .item) (originalsFrom (f .row) (f .level .fields)) (p .field)) ∙ (sym items ∙ s₂ .1)) in
         (_, row-of s p f fs (X .0) (s₃ .0) q (X .1) (ap (λ (i : Item). getElem? (headOf i .operands) (p .at)) (X .2) ∙ s₃ .1))
-
--- ---- in an output every reference is a number without PATHs
-
-numbered-held : (i : Item) (gs : Fields) → NumberedItem i → held i ≡ some gs → NumberedFields gs
-unfolding held
-numbered-held (plain h) gs n e = no-option gs e
-numbered-held (holds h (scope kind name fs)) gs n e = subst NumberedFields (some-same fs gs e) (n .1)
-
-numbered-own : (i : Item) → NumberedItem i → AllNumbered (headOf i .operands)
-unfolding headOf
-numbered-own (plain h) n = n
-numbered-own (holds h s) n = n .0
-
-numbered-at : (os : List Operand) (n : ℕ) (o : Operand) → AllNumbered os → getElem? os n ≡ some o → Numbered o
-numbered-at [] n o a e = no-option o e
-numbered-at (x ∷ os) zero o a e = subst Numbered (some-same x o e) (a .0)
-numbered-at (x ∷ os) (suc n) o a e = numbered-at os n o (a .1) e
-
-no-paths : (form : List ℕ) (r : ℕ) (ls : List Level) (o : Operand) (d : Place) → counting ls o ≡ some d → Numbered o → Is form r (operandRowOf o) → yAt form r ≡ 0
-unfolding counting encode
-no-paths form r [] o d e n is = no-option d e
-no-paths form r (l ∷ ls) (ref space (Num k) [] z) d e n is = ap yPart is
-no-paths form r (l ∷ ls) (ref space (Num k) (m ∷ ms) z) d e n is = absurd n
-no-paths form r (l ∷ ls) (ref space (Id name) paths z) d e n is = no-option d e
-no-paths form r (l ∷ ls) (outer space up at z) d e n is = no-option d e
-no-paths form r (l ∷ ls) (case name z) d e n is = no-option d e
-
-module _ (form : List ℕ) (s : Scope) (numbered : NumberedScope s) (R : Rows form s) (p : Place) (r : ℕ) (at : rowOfOperand s p ≡ some r) where
-  here : Used form s p r
-  here = used form s p r (R .stand) (R .fit) at
-
-  counts-here : (d : Place) → countingReading s p ≡ some d → counting (levels (here .f ∷ here .rest)) (here .operand) ≡ some d
-  unfolding Readings.countingInside _then_
-  counts-here d e = rw (here .used-as) at e
-
-  numbered-floors : (s : Scope) → NumberedScope s → (way : List ℕ) (fs : List Floor) → floorsAt s way ≡ some fs → All (λ (f : Floor). NumberedFields (f .level .fields)) fs
-  numbered-floors (scope kind name gs) n way fs e = of-floors NumberedFields NumberedItem (λ i fs p. p .0) (λ i fs p. p .1) numbered-held (scope kind name gs) way fs n e
-
-  pub bare-row : (d : Place) → countingReading s p ≡ some d → yAt form r ≡ 0
-  bare-row d e =
-      let fields : NumberedFields (here .f .level .fields) = first-of (numbered-floors s numbered (p .way) (here .f ∷ here .rest) (here .are)) in
-      let item = of-original NumberedFields NumberedItem (λ i fs p. p .0) (λ i fs p. p .1) numbered-held (here .f .row) (here .f .level .fields) (p .field) (here .x) fields (here .field-there) in
-      let own = numbered-at (headOf (here .x .item) .operands) (p .at) (here .operand) (numbered-own (here .x .item) item) (here .operand-there) in
-      no-paths form r (levels (here .f ∷ here .rest)) (here .operand) d (counts-here d e) own (here .is)
 
 -- ---- bytes
 
@@ -256,7 +216,7 @@ module _ (input old : List ℕ) (bs : Bytes input) (out : List Row) (e : answer 
   -- in any bytes in which the output's rows stand
   module _ (written-bytes : List ℕ) (R : Rows written-bytes (trees .after)) where
     meaning-in : (p : Place) (w : ℕ × ℕ) → walkedAt (trees .before) p ≡ some w → SameMeaning input written-bytes (trees .before) (trees .after) p
-    unfolding Readings.walkedInside Readings.countingInside _then_
+    unfolding Readings.walkedInside Readings.countingInside _then_ rowMeant
     meaning-in p w walks =
         let A = trees .agree p w walks in
         let U = then-some (useAt (trees .before) p) _ w walks in
@@ -264,20 +224,19 @@ module _ (input old : List ℕ) (bs : Bytes input) (out : List Row) (e : answer 
         let r = operand-has-row (trees .before) p (U .0) (U .1) in
         let r′ = operand-has-row (trees .after) p (U′ .0) (U′ .1) in
         let O = outward-found input (trees .before) rows-before p (r .0) (r .1) (trees .low) w walks (A .0) (A .1) in
-        let bare = bare-row written-bytes (trees .after) (trees .numbered) R p (r′ .0) (r′ .1) (A .0) (A .2) in
-        let C = counting-row written-bytes (trees .after) (trees .setting .rules) good-after R p (r′ .0) (r′ .1) bare (A .0) (A .2) in
+        let C = counting-row written-bytes (trees .after) (trees .setting .rules) good-after R p (r′ .0) (r′ .1) (trees .numbered) (A .0) (A .2) in
         record {
           reference = r .0;
           reference-out = r′ .0;
           declaration = A .0;
           row = O .0;
-          row-out = C .0;
+          row-out = C .x .row;
           is-reference = r .1;
           is-reference-out = r′ .1;
           is-declaration = O .1;
-          is-declaration-out = C .1;
+          is-declaration-out = C .is-row;
           outward = O .2;
-          counts = C .2;
+          counts = ap rowMeant (C .is);
         }
 
     -- by rows: whatever row of the input is read outward, it is a walked name's
