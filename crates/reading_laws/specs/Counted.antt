@@ -30,26 +30,11 @@ use Rattle.reading_laws.specs.Everywhere.{of-original, of-floors}
 use Rattle.reading_laws.specs.Outward.{IsOriginal}
 use Rattle.reading_laws.specs.Outers.{JustOuter, alias-outer}
 use Rattle.reading_laws.specs.Spots.{good-head, floors-good}
-use Rattle.reading_laws.specs.Operands.{Used, used, operand-is-at, operand-used}
+use Rattle.reading_laws.specs.Operands.{Used, operand-is-at, operand-used}
 use Rattle.reading_laws.specs.Said.{said, saidIn, saidOut, saidBehind, saidEnd, saidFrom, sought}
-use Rattle.reading_laws.specs.Declared.{Declared, OfInserted, declared-at, inserted-at}
-use Rattle.reading_laws.specs.Meant.{first-of, Rows, none-inserted-around}
+use Rattle.reading_laws.specs.Declared.{Declared, declared-at, inserted-at, Agree, a-place, an-inserted, nothing, the-place}
+use Rattle.reading_laws.specs.Meant.{first-of, Rows, use-there, around, around-are, none-inserted-around}
 use Rattle.reading_laws.specs.Whole.{named, ref-row}
-
--- What the rules' reading gives, and what the rows mean.
-pub data Agree (s : Scope) (fs : List Floor) : Option Place → Meaning → Type 0 where
-  -- a place: its declaration
-  a-place : {d : Place} {m : Meaning} → Declared s fs d m → Agree s fs (some d) m
-  -- none: the declaration of an inserted field, as of an export alias
-  an-inserted : {m : Meaning} → OfInserted fs m → Agree s fs none m
-  -- none: nothing, where there is no such number or no such scope
-  nothing : Agree s fs none Nowhere
-
--- a place is its declaration
-the-place : (s : Scope) (fs : List Floor) (d : Place) (m : Meaning) (o : Option Place) → o ≡ some d → Agree s fs o m → Declared s fs d m
-the-place s fs d m (some c) e (a-place D) = subst (λ (c : Place). Declared s fs c m) (some-same c d e) D
-the-place s fs d m none e (an-inserted I) = no-option d e
-the-place s fs d m none e nothing = no-option d e
 
 -- ---- inserted outer aliases count
 
@@ -196,48 +181,46 @@ agree-number s f rest own counts named space n z =
 -- ---- the theorem
 
 module _ (form : List ℕ) (s : Scope) (rules : RuleSet) (good : GoodScope rules s) (R : Rows form s) (p : Place) (r : ℕ) (at : rowOfOperand s p ≡ some r) where
-  -- the operand there
-  pub use-there : Used form s p r
-  use-there = used form s p r (R .stand) (R .fit) at
+  abbrev U : Used form s p r
+  U = use-there form s R p r at
 
-  -- the scopes around the place
-  abbrev pub around : List Floor
-  around = use-there .f ∷ use-there .rest
+  abbrev fs : List Floor
+  fs = around form s R p r at
 
-  pub around-are : floorsAt s (p .way) ≡ some around
-  around-are = use-there .are
+  fs-are : floorsAt s (p .way) ≡ some fs
+  fs-are = around-are form s R p r at
 
-  counting-is : countingReading s p ≡ counting (levels around) (use-there .operand)
+  counting-is : countingReading s p ≡ counting (levels fs) (U .operand)
   unfolding Readings.countingInside _then_
-  counting-is = rw (use-there .used-as)
+  counting-is = rw (U .used-as)
 
   -- Every number without PATHs, where inserted outer aliases count: in an input, which has none, and in a resolved form.
-  pub counting-whole : AliasesCount (use-there .f) → (space n z : ℕ) → operandAt s p ≡ some (ref space (Num n) [] z) → Agree s around (countingReading s p) (finalMeaning form r)
+  pub counting-whole : AliasesCount (use-there form s R p r at .f) → (space n z : ℕ) → operandAt s p ≡ some (ref space (Num n) [] z) → Agree s (around form s R p r at) (countingReading s p) (finalMeaning form r)
   unfolding sought pick
   counting-whole counts space n z e =
-      let own = all-at-own-way s (p .way) around around-are in
-      let same : use-there .operand ≡ ref space (Num n) [] z = operand-used form s p r use-there (ref space (Num n) [] z) e in
-      let m = named form s rules good R p r at around around-are in
-      let rows : finalMeaning form r ≡ saidFrom around m 0 space n 0 = ref-row form s rules good R p r at around around-are space n [] z e .1 in
-      let reads : countingReading s p ≡ counting (levels around) (ref space (Num n) [] z) = counting-is ∙ ap (counting (levels around)) same in
-      subst (λ (k : Meaning). Agree s around (countingReading s p) k) (sym rows)
-      (subst (λ (o : Option Place). Agree s around o (saidFrom around m 0 space n 0)) (sym reads) (agree-number s (use-there .f) (use-there .rest) own counts m space n z))
+      let own = all-at-own-way s (p .way) fs fs-are in
+      let same : U .operand ≡ ref space (Num n) [] z = operand-used form s p r U (ref space (Num n) [] z) e in
+      let m = named form s rules good R p r at fs fs-are in
+      let rows : finalMeaning form r ≡ saidFrom fs m 0 space n 0 = ref-row form s rules good R p r at fs fs-are space n [] z e .1 in
+      let reads : countingReading s p ≡ counting (levels fs) (ref space (Num n) [] z) = counting-is ∙ ap (counting (levels fs)) same in
+      subst (λ (k : Meaning). Agree s (around form s R p r at) (countingReading s p) k) (sym rows)
+      (subst (λ (o : Option Place). Agree s (around form s R p r at) o (saidFrom fs m 0 space n 0)) (sym reads) (agree-number s (U .f) (U .rest) own counts m space n z))
 
-  pub counting-input : LowScope s → (space n z : ℕ) → operandAt s p ≡ some (ref space (Num n) [] z) → Agree s around (countingReading s p) (finalMeaning form r)
-  counting-input low = counting-whole (low-aliases s low (p .way) (use-there .f) (use-there .rest) around-are)
+  pub counting-input : LowScope s → (space n z : ℕ) → operandAt s p ≡ some (ref space (Num n) [] z) → Agree s (around form s R p r at) (countingReading s p) (finalMeaning form r)
+  counting-input low = counting-whole (low-aliases s low (p .way) (U .f) (U .rest) fs-are)
 
-  pub counting-resolved : NumberedScope s → (space n z : ℕ) → operandAt s p ≡ some (ref space (Num n) [] z) → Agree s around (countingReading s p) (finalMeaning form r)
-  counting-resolved m = counting-whole (numbered-aliases rules s good m (p .way) (use-there .f) (use-there .rest) around-are)
+  pub counting-resolved : NumberedScope s → (space n z : ℕ) → operandAt s p ≡ some (ref space (Num n) [] z) → Agree s (around form s R p r at) (countingReading s p) (finalMeaning form r)
+  counting-resolved m = counting-whole (numbered-aliases rules s good m (p .way) (U .f) (U .rest) fs-are)
 
   -- the operand is a number without PATHs, if the reading gives a place
-  operand-numbered : NumberedScope s → Numbered (use-there .operand)
+  operand-numbered : NumberedScope s → Numbered (U .operand)
   operand-numbered m =
-      let fields : NumberedFields (use-there .f .level .fields) = first-of (numbered-floors s m (p .way) around around-are) in
-      let item = of-original NumberedFields NumberedItem (λ i fs p. p .0) (λ i fs p. p .1) numbered-held (use-there .f .row) (use-there .f .level .fields) (p .field) (use-there .x) fields (use-there .field-there) in
-      numbered-at (headOf (use-there .x .item) .operands) (p .at) (use-there .operand) (numbered-own (use-there .x .item) item) (use-there .operand-there)
+      let fields : NumberedFields (U .f .level .fields) = first-of (numbered-floors s m (p .way) fs fs-are) in
+      let item = of-original NumberedFields NumberedItem (λ i fs p. p .0) (λ i fs p. p .1) numbered-held (U .f .row) (U .f .level .fields) (p .field) (U .x) fields (U .field-there) in
+      numbered-at (headOf (U .x .item) .operands) (p .at) (U .operand) (numbered-own (U .x .item) item) (U .operand-there)
 
   -- In a resolved form: where the rules give a place, its declaration is what is meant in the end.
-  pub counting-row : NumberedScope s → (d : Place) → countingReading s p ≡ some d → Declared s around d (finalMeaning form r)
+  pub counting-row : NumberedScope s → (d : Place) → countingReading s p ≡ some d → Declared s (around form s R p r at) d (finalMeaning form r)
   counting-row m d e =
-      let B = bare (levels around) (use-there .operand) d (operand-numbered m) (sym counting-is ∙ e) in
-      the-place s around d (finalMeaning form r) (countingReading s p) e (counting-resolved m (B .0) (B .1) (B .2) (operand-is-at form s p r use-there ∙ ap {B = Option Operand} some (B .3)))
+      let B = bare (levels fs) (U .operand) d (operand-numbered m) (sym counting-is ∙ e) in
+      the-place s fs d (finalMeaning form r) (countingReading s p) e (counting-resolved m (B .0) (B .1) (B .2) (operand-is-at form s p r U ∙ ap {B = Option Operand} some (B .3)))

@@ -3,20 +3,27 @@ use mathlib.Core.Path.{_≡_, refl, ap, sym, _∙_, subst}
 use mathlib.Core.Bool.{Bool, true, false}
 use mathlib.Core.Option.{Option, none, some}
 use mathlib.Core.List.{List, [], _∷_, _++_}
-use Prim.Native.Nat.{ℕ, suc, _+_}
-use lib.Dec.{eqb}
+use native.Mathlib.Omega.{arith}
+use Prim.Native.Nat.{ℕ, suc, _+_, _-_, _/_, _≤_, _<_}
+use borrow.Author.Tests.{ltb-true}
+use lib.Dec.{eqb, ltb}
 use lib.ListN.{length, getElem?}
+use Rattle.kit.specs.Pick.{pick}
 use Rattle.rules.specs.Tools.{if_then_else_}
-use Rattle.rules.specs.Tree.{Declaration, Head, Scope, Fields, end, _▸_, headOf, itemRows}
+use Rattle.rules.specs.Rows.{encode}
+use Rattle.rules.specs.Tree.{Declaration, Head, Scope, Fields, end, _▸_, headOf, itemRows, flatten}
 use Rattle.rules.specs.Readings.{isInserted, Place, Level, Spot, original, inserted, inOriginal, inInserted, place}
 use Rattle.rules.specs.Laws.ToolLaws.{All, done, _&_, all-append, eqb-true}
 use Rattle.rules.specs.Laws.Results.{some-same, no-option}
-use Rattle.places.specs.PlaceRows.{Floor, declAt, rowOfDecl, Located, inRows, located, locatedOf, countedRow}
+use Rattle.places.specs.PlaceRows.{Floor, floorsAt, declAt, rowOfDecl, Located, inRows, located, locatedOf, countedRow}
 use Rattle.places.specs.Counting.{spotOf, of-space-all}
-use Rattle.places.specs.RowAt.{all-at}
+use Rattle.places.specs.RowAt.{declRowOf, all-at, counted-row-is}
+use Rattle.places.specs.RowsApart.{elem-lt}
 use Rattle.places.specs.LocatedAt.{AtItsWay, located-place}
+use Rattle.row_parts.specs.Parts.{xAt, rowsIn}
 use Rattle.readings.specs.declared.Meaning.{Meaning}
-use Rattle.readings.specs.declared.Meaning.the-variants.{At as MeantAt}
+use Rattle.readings.specs.declared.Meaning.the-variants.{At as MeantAt, Nowhere}
+use Rattle.reading_laws.specs.Stand.{Is, At, xPart, at-elem}
 
 -- The meaning is the declaration at the place `d`: it stands in the scope that is `out` out, as the number-th of its space there, and its
 -- row and its name are those of the tree.
@@ -44,6 +51,21 @@ pub record OfInserted (fs : List Floor) (m : Meaning) : Type 0 where
   pub spot : spotOf x ≡ inserted h
   pub new : isInserted h ≡ true
   pub is : m ≡ MeantAt (x .row) number out (x .standing .decl .name)
+
+-- What the rules' reading gives, and what the rows mean.
+pub data Agree (s : Scope) (fs : List Floor) : Option Place → Meaning → Type 0 where
+  -- a place: its declaration
+  a-place : {d : Place} {m : Meaning} → Declared s fs d m → Agree s fs (some d) m
+  -- none: the declaration of an inserted field, as of an export alias
+  an-inserted : {m : Meaning} → OfInserted fs m → Agree s fs none m
+  -- none: nothing, where there is no such number or no such scope
+  nothing : Agree s fs none Nowhere
+
+-- a place is its declaration
+pub the-place : (s : Scope) (fs : List Floor) (d : Place) (m : Meaning) (o : Option Place) → o ≡ some d → Agree s fs o m → Declared s fs d m
+the-place s fs d m (some c) e (a-place D) = subst (λ (c : Place). Declared s fs c m) (some-same c d e) D
+the-place s fs d m none e (an-inserted I) = no-option d e
+the-place s fs d m none e nothing = no-option d e
 
 -- ---- what is counted
 
@@ -123,3 +145,33 @@ module _ (s : Scope) (fs : List Floor) (f : Floor) (out space n : ℕ) (x : Loca
         new = subst New e (all-at _ n x (of-space-all _ space (located-new (f .row) 0 (f .level .fields))) q);
         is = refl;
       }
+
+-- ---- its DECL
+
+-- the DECLs of what is counted in these scopes stand in the form
+abbrev pub DeclsAre : (form : List ℕ) → List Floor → Type 0
+DeclsAre form fs = (k : ℕ) (f : Floor) (space n : ℕ) (x : Located) → getElem? fs k ≡ some f → countedRow f space n ≡ some x → Is form (x .row) (declRowOf (x .standing .decl)) × (x .row < 65535)
+
+pub name-at : (form : List ℕ) (row : ℕ) (d : Declaration) → Is form row (declRowOf d) → xAt form row ≡ d .name
+unfolding encode
+name-at form row d is = ap xPart is
+
+least : (n : ℕ) → pick (ltb n 65535) n 65535 ≤ 65535
+unfolding pick
+least n = go (ltb n 65535) refl
+  where
+    go : (b : Bool) → ltb n 65535 ≡ b → pick b n 65535 ≤ 65535
+    go true e = let l = ltb-true n 65535 e in omega (arith, l)
+    go false e = omega arith
+
+rows-below : (form : List ℕ) → rowsIn form ≤ 65535
+unfolding rowsIn
+rows-below form = least ((length form - 8) / 16)
+
+pub decls-stand : (form : List ℕ) (s : Scope) → At form 0 (flatten s) → length (flatten s) ≤ rowsIn form → (way : List ℕ) (fs : List Floor) → floorsAt s way ≡ some fs → DeclsAre form fs
+decls-stand form s stand fit way fs are k f space n x e q =
+    let there = counted-row-is s way fs k f space n x are e q in
+    let zeroth : 0 + x .row ≡ x .row = omega arith in
+    let low = elem-lt (flatten s) (x .row) (declRowOf (x .standing .decl)) there in
+    let most = rows-below form in
+    (subst (λ (m : ℕ). Is form m (declRowOf (x .standing .decl))) zeroth (at-elem form 0 (flatten s) (x .row) (declRowOf (x .standing .decl)) stand there), omega (arith, low, fit, most))

@@ -5,15 +5,16 @@ pub mod Find
 -- Scopes: those around a place are those around its row.
 pub mod Floors
 pub mod Everywhere
+-- A declaration with all that is said of it.
+pub mod Declared
 -- Names outward, numbers, what an inserted field's rows hold, operands.
 pub mod Outward
 pub mod Number
 pub mod Outers
 pub mod Spots
 pub mod Operands
--- What the tree says of a number; a declaration with all that is said of it.
+-- What the tree says of a number.
 pub mod Said
-pub mod Declared
 -- The readings on rows are those of the rules.
 pub mod Meant
 pub mod Whole

@@ -1,11 +1,12 @@
 -- On the rows of a tree the outward reading and the counting reading give the rows of the places that the rules' readings give.
-use mathlib.Core.Path.{_≡_, ap, sym, _∙_, subst}
+use mathlib.Core.Path.{_≡_, refl, ap, sym, _∙_, subst}
 use mathlib.Core.Bool.{false, not}
 use mathlib.Core.Option.{Option, none, some}
 use mathlib.Core.List.{List, [], _∷_}
-use Prim.Native.Nat.{ℕ, suc, _≤_}
+use native.Mathlib.Omega.{arith}
+use Prim.Native.Nat.{ℕ, suc, _+_, _≤_}
 use lib.Dec.{eqb}
-use lib.ListN.{length}
+use lib.ListN.{length, getElem?}
 use Rattle.kit.specs.Pick.{pick}
 use Rattle.kit.proofs.Laws.{tests}
 use Rattle.rules.specs.Tools.{if_then_else_, _then_}
@@ -22,15 +23,18 @@ use Rattle.rules.specs.Laws.Meaning.StepB.{walked-ref, low-operand}
 use Rattle.places.specs.PlaceRows.{Floor, floorsAt, rowOfDecl, rowOfOperand, Located, inRows, located}
 use Rattle.places.specs.Counting.{levels}
 use Rattle.places.specs.RowAt.{operandRowOf}
-use Rattle.places.specs.LocatedAt.{AtItsWay, all-at-own-way}
+use Rattle.places.specs.LocatedAt.{all-at-own-way}
 use Rattle.row_parts.specs.Parts.{codeAt, bAt, eAt, xAt, yAt, rowsIn, fieldOf}
 use Rattle.scopes.specs.Scopes.{scopeOf}
 use Rattle.readings.specs.Meaning.{spaceSought, isWalked, readingOf, outwardFor, meaningOf}
 use Rattle.scopes.specs.declared.Wanted.the-variants.{Declaring}
+use Rattle.readings.specs.declared.Meaning.{Meaning}
+use Rattle.readings.specs.declared.Meaning.the-variants.{At as MeantAt, Nowhere}
 use Rattle.reading_laws.specs.Stand.{Is, At, codePart, bPart, ePart, xPart, yPart}
 use Rattle.reading_laws.specs.Floors.{Chain, firstRow}
 use Rattle.reading_laws.specs.Everywhere.{of-original, of-floors}
-use Rattle.reading_laws.specs.Outward.{rowMeant, scope-outward, IsOriginal, NoneInserted, outward-is, outward-placed}
+use Rattle.reading_laws.specs.Outward.{rowMeant, scope-outward, IsOriginal, NoneInserted, meantIn, outward-is, outward-declared}
+use Rattle.reading_laws.specs.Declared.{Declared, decls-stand, Agree, a-place, nothing}
 use Rattle.reading_laws.specs.Operands.{Used, used}
 
 -- ---- an input's names
@@ -81,11 +85,14 @@ module _ (form : List ℕ) where
       let y : yAt form r ≡ 0 = ap yPart is in
       rw (c, b, e, x, y, of-field, here)
 
-  outward-at : (r space name : ℕ) (fs : List Floor) → Chain form fs → scopeOf form r ≡ firstRow fs → (s : Scope) → eqb name 0 ≡ false → All (AtItsWay s) fs → All NoneInserted fs
-      → rowMeant (outwardFor form r space name) ≡ (Readings.outward (levels fs) space name then rowOfDecl s)
+  outward-at : (r space name : ℕ) (fs : List Floor) → Chain form fs → scopeOf form r ≡ firstRow fs → (s : Scope) (is-name : eqb name 0 ≡ false) → outwardFor form r space name ≡ meantIn form s space name is-name 0 fs
   unfolding outwardFor
-  outward-at r space name fs C around s is-name own low =
-      rw (around, scope-outward form (Declaring space name) fs C) (outward-is form s space name is-name fs 0 C own low)
+  outward-at r space name fs C around s is-name = rw (around, scope-outward form (Declaring space name) fs C)
+
+no-row : (m : Meaning) → rowMeant m ≡ none → m ≡ Nowhere
+unfolding rowMeant
+no-row (MeantAt row number out name) e = no-option row (sym e)
+no-row Nowhere e = refl
 
 -- the rows of a tree stand in a form
 pub record Rows (form : List ℕ) (s : Scope) : Type 0 where
@@ -93,8 +100,15 @@ pub record Rows (form : List ℕ) (s : Scope) : Type 0 where
   pub fit : length (flatten s) ≤ rowsIn form
 
 module _ (form : List ℕ) (s : Scope) (R : Rows form s) (p : Place) (r : ℕ) (at : rowOfOperand s p ≡ some r) where
-  use-there : Used form s p r
+  -- the operand there, and the scopes around it
+  pub use-there : Used form s p r
   use-there = used form s p r (R .stand) (R .fit) at
+
+  abbrev pub around : List Floor
+  around = use-there .f ∷ use-there .rest
+
+  pub around-are : floorsAt s (p .way) ≡ some around
+  around-are = use-there .are
 
   walked-use : (w : ℕ × ℕ) → walkedAt s p ≡ some w → walked (headOf (use-there .x .item)) (use-there .operand) ≡ some w
   unfolding Readings.walkedInside _then_
@@ -105,7 +119,7 @@ module _ (form : List ℕ) (s : Scope) (R : Rows form s) (p : Place) (r : ℕ) (
   outward-use w e = rw (use-there .used-as, e)
 
   both : LowScope s → (w : ℕ × ℕ) → walkedAt s p ≡ some w
-      → (rowMeant (meaningOf form r) ≡ (outwardReading s p then rowOfDecl s)) × ((d : Place) → outwardReading s p ≡ some d → (row : ℕ) × (rowOfDecl s d ≡ some row))
+      → (rowMeant (meaningOf form r) ≡ (outwardReading s p then rowOfDecl s)) × ((d : Place) → outwardReading s p ≡ some d → Declared s around d (meaningOf form r))
   both low w e =
       let U = use-there in
       let x = walked-use w e in
@@ -117,10 +131,12 @@ module _ (form : List ℕ) (s : Scope) (R : Rows form s) (p : Place) (r : ℕ) (
       let is : Is form r (Ref (w .0) (Id (w .1)) 0 (W .0)) = subst (λ (o : Operand). Is form r (operandRowOf o)) (W .1) (U .is) in
       let own = all-at-own-way s (p .way) (U .f ∷ U .rest) (U .are) in
       let originals = none-inserted-around s low (p .way) (U .f ∷ U .rest) (U .are) in
-      let out = outward-use w x in (
-        ap rowMeant (walked-meaning form r (headOf (U .x .item) .code) (w .0) (w .1) (W .0) is (U .of-field) (W .2))
-            ∙ (outward-at form r (w .0) (w .1) (U .f ∷ U .rest) (U .chain) (U .around) s is-name own originals ∙ ap (λ (o : Option Place). o then rowOfDecl s) (sym out)),
-        λ d q. outward-placed form s (w .0) (w .1) is-name (U .f ∷ U .rest) own originals d (sym out ∙ q),
+      let decls = decls-stand form s (R .stand) (R .fit) (p .way) (U .f ∷ U .rest) (U .are) in
+      let out = outward-use w x in
+      let means = walked-meaning form r (headOf (U .x .item) .code) (w .0) (w .1) (W .0) is (U .of-field) (W .2) ∙ outward-at form r (w .0) (w .1) (U .f ∷ U .rest) (U .chain) (U .around) s is-name in (
+        ap rowMeant means ∙ (outward-is form s (w .0) (w .1) is-name (U .f ∷ U .rest) 0 (U .chain) own originals ∙ ap (λ (o : Option Place). o then rowOfDecl s) (sym out)),
+        λ d q. subst (Declared s (U .f ∷ U .rest) d) (sym means)
+            (outward-declared form s (w .0) (w .1) is-name (U .f ∷ U .rest) (U .f ∷ U .rest) 0 (λ k. (let same : 0 + k ≡ k = omega arith in ap (getElem? (U .f ∷ U .rest)) same)) (U .chain) own originals decls d (sym out ∙ q)),
       )
     where
       floors-low : (U : Used form s p r) → All (λ (f : Floor). LowFields (f .level .fields)) (U .f ∷ U .rest)
@@ -133,9 +149,15 @@ module _ (form : List ℕ) (s : Scope) (R : Rows form s) (p : Place) (r : ℕ) (
   pub outward-row : LowScope s → (w : ℕ × ℕ) → walkedAt s p ≡ some w → rowMeant (meaningOf form r) ≡ (outwardReading s p then rowOfDecl s)
   outward-row low w e = both low w e .0
 
-  -- and where it is found: that declaration's row
-  pub outward-found : LowScope s → (w : ℕ × ℕ) → walkedAt s p ≡ some w → (d : Place) → outwardReading s p ≡ some d → (row : ℕ) × (rowOfDecl s d ≡ some row) × (rowMeant (meaningOf form r) ≡ some row)
+  -- Where it is found: that declaration, with all that is said of it.
+  pub outward-found : LowScope s → (w : ℕ × ℕ) → walkedAt s p ≡ some w → (d : Place) → outwardReading s p ≡ some d → Declared s around d (meaningOf form r)
+  outward-found low w e d q = both low w e .1 d q
+
+  -- So the rows give a place's declaration exactly where the rules give that place, and nothing where they give none.
+  pub outward-whole : LowScope s → (w : ℕ × ℕ) → walkedAt s p ≡ some w → Agree s around (outwardReading s p) (meaningOf form r)
   unfolding _then_
-  outward-found low w e d q =
-      let P = both low w e .1 d q in
-      (P .0, P .1, both low w e .0 ∙ (ap (λ (o : Option Place). o then rowOfDecl s) q ∙ P .1))
+  outward-whole low w e = go (outwardReading s p) refl
+    where
+      go : (o : Option Place) → outwardReading s p ≡ o → Agree s around o (meaningOf form r)
+      go none q = subst (Agree s around none) (sym (no-row (meaningOf form r) (outward-row low w e ∙ ap (λ (o : Option Place). o then rowOfDecl s) q))) nothing
+      go (some d) q = a-place (outward-found low w e d q)

@@ -15,11 +15,11 @@ use Rattle.rules.specs.Readings
 use Rattle.rules.specs.Readings.{Place, Level, Standing, Spot, original, inserted, standings, firstNamed, place, declared}
 use Rattle.rules.specs.Laws.ToolLaws.{All, _&_, eqb-true, eqb-false, eqb-same, false-not}
 use Rattle.rules.specs.Laws.Results.{some-same, no-option}
-use Rattle.places.specs.PlaceRows.{Floor, Located, located, rowOfDecl}
-use Rattle.places.specs.Counting.{levels, standing, located-standings}
+use Rattle.places.specs.PlaceRows.{Floor, Located, located, locatedOf, countedRow, rowOfDecl}
+use Rattle.places.specs.Counting.{levels, standing, spotOf, located-standings}
 use Rattle.places.specs.RowAt.{all-at}
 use Rattle.places.specs.LocatedAt.{AtItsWay, located-in, entry-place}
-use Rattle.row_parts.specs.Parts.{codeAt}
+use Rattle.row_parts.specs.Parts.{codeAt, xAt}
 use Rattle.scopes.specs.Scopes.{levelAbove, scopeAbove, scopeOf, isMeant, findIn, declaresName, isWanted, outwardFrom, scopeOutward}
 use Rattle.readings.specs.Meaning.{meant, inScope, inOuter}
 use Rattle.scopes.specs.declared.Key.the-variants.{Name}
@@ -33,6 +33,7 @@ use Rattle.readings.specs.declared.Meaning.{Meaning}
 use Rattle.readings.specs.declared.Meaning.the-variants.{At as MeantAt, Nowhere}
 use Rattle.reading_laws.specs.Find.{search, find-in}
 use Rattle.reading_laws.specs.Floors.{Stands, Chain, firstRow}
+use Rattle.reading_laws.specs.Declared.{Declared, declared-at, DeclsAre, name-at}
 
 -- ---- the row of a meaning
 
@@ -149,31 +150,61 @@ module _ (space name : ℕ) (is-name : eqb name 0 ≡ false) where
       go true q e below = no-option (x .standing .spot) (sym e)
       go false q e below = sym (no! _ (tested x number ∙ q) refl) ∙ below _ e
 
-  -- the entry that is found
-  pub record Hit (found : Found) (xs : List Located) (spot : Spot) : Type 0 where
+  -- the entry that is found, with `start` of that space before: it is the count-th of those of the space, which are `ys`
+  pub record Hit (start : ℕ) (found : Found) (xs ys : List Located) (spot : Spot) : Type 0 where
     pub x : Located
     pub k : ℕ
     pub at : getElem? xs k ≡ some x
     pub is : x .standing .spot ≡ spot
-    pub number : ℕ
-    pub finds : found ≡ FoundAt (x .row) number
+    pub count : ℕ
+    pub counts : getElem? ys count ≡ some x
+    pub finds : found ≡ FoundAt (x .row) (start + count)
 
-  pub named-some : (xs : List Located) (number : ℕ) (spot : Spot) → firstNamed (map standing xs) space name ≡ some spot → Hit (search space (Name name) number xs) xs spot
-  unfolding search firstNamed if_then_else_
-  named-some [] number spot e = no-option spot e
-  named-some (x ∷ xs) number spot e = go (eqb (x .standing .decl .space) space && eqb (x .standing .decl .name) name) refl e (λ n q. named-some xs n spot q)
+  pub named-some : (xs : List Located) (start : ℕ) (spot : Spot) → firstNamed (map standing xs) space name ≡ some spot → Hit start (search space (Name name) start xs) xs (locatedOf xs space) spot
+  unfolding search firstNamed locatedOf if_then_else_
+  named-some [] start spot e = no-option spot e
+  named-some (x ∷ xs) start spot e = go (eqb (x .standing .decl .space) space) (eqb (x .standing .decl .name) name) refl e (λ n q. named-some xs n spot q)
     where
-      rest : Found
-      rest = search space (Name name) (pick (eqb (x .standing .decl .space) space) (number + 1) number) xs
-
-      go : (b : Bool) → (eqb (x .standing .decl .space) space && eqb (x .standing .decl .name) name) ≡ b
-          → (if b then some (x .standing .spot) else firstNamed (map standing xs) space name) ≡ some spot
-          → ((n : ℕ) → firstNamed (map standing xs) space name ≡ some spot → Hit (search space (Name name) n xs) xs spot)
-          → Hit (pick (eqb (x .standing .decl .space) space && isMeant (Name name) (x .standing .decl .name) number) (FoundAt (x .row) number) rest) (x ∷ xs) spot
-      go true q e below = record { x = x; k = 0; at = refl; is = some-same _ spot e; number = number; finds = sym (yes! _ (tested x number ∙ q) refl) }
-      go false q e below =
-          let H = below (pick (eqb (x .standing .decl .space) space) (number + 1) number) e in
-          record { x = H .x; k = suc (H .k); at = H .at; is = H .is; number = H .number; finds = sym (no! _ (tested x number ∙ q) refl) ∙ H .finds }
+      go : (b c : Bool) → eqb (x .standing .decl .name) name ≡ c
+          → (if b && c then some (x .standing .spot) else firstNamed (map standing xs) space name) ≡ some spot
+          → ((n : ℕ) → firstNamed (map standing xs) space name ≡ some spot → Hit n (search space (Name name) n xs) xs (locatedOf xs space) spot)
+          → Hit start (pick (b && isMeant (Name name) (x .standing .decl .name) start) (FoundAt (x .row) start) (search space (Name name) (pick b (start + 1) start) xs)) (x ∷ xs)
+          (if b then x ∷ locatedOf xs space else locatedOf xs space) spot
+      go true true q e below =
+          let same : start ≡ start + 0 = omega arith in
+          record {
+            x = x;
+            k = 0;
+            at = refl;
+            is = some-same _ spot e;
+            count = 0;
+            counts = refl;
+            finds = sym (yes! _ (by-name (x .standing .decl .name) start ∙ q) refl) ∙ ap (λ (n : ℕ). FoundAt (x .row) n) same;
+          }
+      go true false q e below =
+          let H = below (start + 1) e in
+          let on : start + 1 + H .count ≡ start + suc (H .count) = omega arith in
+          record {
+            x = H .x;
+            k = suc (H .k);
+            at = H .at;
+            is = H .is;
+            count = suc (H .count);
+            counts = H .counts;
+            finds = sym (no! _ (by-name (x .standing .decl .name) start ∙ q) refl)
+                ∙ (ap (λ (n : ℕ). search space (Name name) n xs) (sym (yes! _ refl refl)) ∙ (H .finds ∙ ap (λ (n : ℕ). FoundAt (H .x .row) n) on));
+          }
+      go false c q e below =
+          let H = below start e in
+          record {
+            x = H .x;
+            k = suc (H .k);
+            at = H .at;
+            is = H .is;
+            count = H .count;
+            counts = H .counts;
+            finds = sym (no! _ refl refl) ∙ (ap (λ (n : ℕ). search space (Name name) n xs) (sym (no! _ refl refl)) ∙ H .finds);
+          }
 
 -- ---- a name outward
 
@@ -187,12 +218,16 @@ abbrev pub NoneInserted : Floor → Type 0
 NoneInserted f = All (λ (x : Located). IsOriginal (x .standing .spot)) (located (f .row) 0 (f .level .fields))
 
 module _ (form : List ℕ) (s : Scope) (space name : ℕ) (is-name : eqb name 0 ≡ false) where
-  abbrev meantIn : (out : ℕ) → List Floor → Meaning
+  -- the meaning in the first of these scopes that has the name
+  abbrev pub meantIn : (out : ℕ) → List Floor → Meaning
   meantIn out fs = inOuter form (firstWanted form (Declaring space name) out fs) space (Name name)
 
+  hit-finds : {found : Found} {xs ys : List Located} {spot : Spot} → (H : Hit space name is-name 0 found xs ys spot) → found ≡ FoundAt (H .x .row) (H .count)
+  hit-finds H = let same : 0 + H .count ≡ H .count = omega arith in H .finds ∙ ap (λ (n : ℕ). FoundAt (H .x .row) n) same
+
   -- what is found there is meant
-  found-here : (f : Floor) (fs : List Floor) (out row number : ℕ) → findIn form (f .row) space (Name name) ≡ FoundAt row number → rowMeant (meantIn out (f ∷ fs)) ≡ some row
-  unfolding firstWanted declaresName inOuter inScope meant rowMeant pick
+  found-here : (f : Floor) (fs : List Floor) (out row number : ℕ) → findIn form (f .row) space (Name name) ≡ FoundAt row number → meantIn out (f ∷ fs) ≡ MeantAt row number out (xAt form row)
+  unfolding firstWanted declaresName inOuter inScope meant pick
   found-here f fs out row number e = rw (e, e)
 
   not-here : (f : Floor) (fs : List Floor) (out : ℕ) → findIn form (f .row) space (Name name) ≡ Nothing → meantIn out (f ∷ fs) ≡ meantIn (out + 1) fs
@@ -240,21 +275,33 @@ module _ (form : List ℕ) (s : Scope) (space name : ℕ) (is-name : eqb name 0 
           let H = named-some space name is-name (located (f .row) 0 (f .level .fields)) 0 spot (names-are f ∙ q) in
           let orig : IsOriginal spot = subst IsOriginal (H .is) (all-at _ (H .k) (H .x) l (H .at)) in
           let P = placed f (H .x) (H .k) spot o (H .at) (H .is) orig in
-          found-here f fs out (H .x .row) (H .number) (search-is f (firstRow fs) (C .0) ∙ H .finds)
+          ap rowMeant (found-here f fs out (H .x .row) (H .count) (search-is f (firstRow fs) (C .0) ∙ hit-finds H))
           ∙ (sym (P .2) ∙ ap (λ (o : Option Place). o then rowOfDecl s) (sym (is-declared (f .level) (Readings.outward (levels fs) space name) spot (P .0) q (P .1))))
 
-  -- and that declaration has a row
-  pub outward-placed : (fs : List Floor) → All (AtItsWay s) fs → All NoneInserted fs → (d : Place) → Readings.outward (levels fs) space name ≡ some d → (row : ℕ) × (rowOfDecl s d ≡ some row)
-  unfolding Readings.outward
-  outward-placed [] own low d e = no-option d e
-  outward-placed (f ∷ fs) (o & own) (l & low) d e = go (firstNamed (standings 0 (f .level .fields)) space name) refl (λ q. outward-placed fs own low d q)
+  -- and where it is found it is meant with all that is said of it, in the scopes `all` of which `fs` are those from the one on that is `out` out
+  pub outward-declared : (all fs : List Floor) (out : ℕ) → ((k : ℕ) → getElem? all (out + k) ≡ getElem? fs k) → Chain form fs → All (AtItsWay s) fs → All NoneInserted fs → DeclsAre form fs
+      → (d : Place) → Readings.outward (levels fs) space name ≡ some d → Declared s all d (meantIn out fs)
+  unfolding Readings.outward countedRow
+  outward-declared all [] out on C own low D d e = no-option d e
+  outward-declared all (f ∷ fs) out on C (o & own) (l & low) D d e =
+      go (firstNamed (standings 0 (f .level .fields)) space name) refl (λ q. outward-declared all fs (out + 1) onward (C .1) own low (λ k. D (suc k)) d q)
     where
-      go : (spot : Option Spot) → firstNamed (standings 0 (f .level .fields)) space name ≡ spot → (Readings.outward (levels fs) space name ≡ some d → (row : ℕ) × (rowOfDecl s d ≡ some row))
-          → (row : ℕ) × (rowOfDecl s d ≡ some row)
-      go none q below = below (sym (not-declared (f .level) (Readings.outward (levels fs) space name) q) ∙ e)
+      onward : (k : ℕ) → getElem? all (out + 1 + k) ≡ getElem? fs k
+      onward k = let step : out + 1 + k ≡ out + suc k = omega arith in ap (getElem? all) step ∙ on (suc k)
+
+      go : (spot : Option Spot) → firstNamed (standings 0 (f .level .fields)) space name ≡ spot → (Readings.outward (levels fs) space name ≡ some d → Declared s all d (meantIn (out + 1) fs))
+          → Declared s all d (meantIn out (f ∷ fs))
+      go none q below =
+          let nothing = search-is f (firstRow fs) (C .0) ∙ named-none space name is-name _ 0 (names-are f ∙ q) in
+          subst (Declared s all d) (sym (not-here f fs out nothing)) (below (sym (not-declared (f .level) (Readings.outward (levels fs) space name) q) ∙ e))
       go (some spot) q below =
           let H = named-some space name is-name (located (f .row) 0 (f .level .fields)) 0 spot (names-are f ∙ q) in
           let orig : IsOriginal spot = subst IsOriginal (H .is) (all-at _ (H .k) (H .x) l (H .at)) in
           let P = placed f (H .x) (H .k) spot o (H .at) (H .is) orig in
           let same : P .0 ≡ d = some-same (P .0) d (sym (is-declared (f .level) (Readings.outward (levels fs) space name) spot (P .0) q (P .1)) ∙ e) in
-          (H .x .row, ap (rowOfDecl s) (sym same) ∙ P .2)
+          let there : getElem? all out ≡ some f = (let first : out ≡ out + 0 = omega arith in ap (getElem? all) first ∙ on 0) in
+          let at-place : place (f .level) (spotOf (H .x)) ≡ some d = ap (place (f .level)) (H .is) ∙ (P .1 ∙ ap {B = Option Place} some same) in
+          let named : xAt form (H .x .row) ≡ H .x .standing .decl .name = name-at form (H .x .row) (H .x .standing .decl) (D 0 f space (H .count) (H .x) refl (H .counts) .0) in
+          subst (Declared s all d)
+          (sym (found-here f fs out (H .x .row) (H .count) (search-is f (firstRow fs) (C .0) ∙ hit-finds H) ∙ ap (λ (n : ℕ). MeantAt (H .x .row) (H .count) out n) named))
+          (declared-at s all f out space (H .count) (H .x) there (H .counts) o d at-place)

@@ -37,8 +37,9 @@ use Rattle.reading_laws.specs.Stand.{Is, yPart, rows-stand}
 use Rattle.reading_laws.specs.Everywhere.{of-original, of-floors}
 use Rattle.reading_laws.specs.Outward.{rowMeant}
 use Rattle.reading_laws.specs.Operands.{Used, used}
-use Rattle.reading_laws.specs.Meant.{first-of, Rows, outward-found}
-use Rattle.reading_laws.specs.Counted.{around, around-are, counting-row}
+use Rattle.reading_laws.specs.Declared.{Declared}
+use Rattle.reading_laws.specs.Meant.{Rows, around, around-are, outward-found}
+use Rattle.reading_laws.specs.Counted.{counting-row}
 use Rattle.reading_laws.specs.Walked.{walked-row}
 
 -- ---- the operand at a place has a row
@@ -162,6 +163,13 @@ pub record SameMeaning (input out : List ℕ) (before after : Scope) (p : Place)
   pub is-declaration-out : rowOfDecl after declaration ≡ some row-out
   pub outward : rowMeant (meaningOf input reference) ≡ some row
   pub counts : rowMeant (finalMeaning out reference-out) ≡ some row-out
+  -- with the scopes around the reference: how far out the declaration is, its number and its name
+  pub scopes : List Floor
+  pub scopes-out : List Floor
+  pub are-scopes : floorsAt before (p .way) ≡ some scopes
+  pub are-scopes-out : floorsAt after (p .way) ≡ some scopes-out
+  pub declared : Declared before scopes declaration (meaningOf input reference)
+  pub declared-out : Declared after scopes-out declaration (finalMeaning out reference-out)
 
 module _ (input old : List ℕ) (bs : Bytes input) (out : List Row) (e : answer base input (length old) ≡ accepted out) where
   -- the input's tree and the output's
@@ -229,14 +237,20 @@ module _ (input old : List ℕ) (bs : Bytes input) (out : List Row) (e : answer 
           reference = r .0;
           reference-out = r′ .0;
           declaration = A .0;
-          row = O .0;
+          row = O .x .row;
           row-out = C .x .row;
           is-reference = r .1;
           is-reference-out = r′ .1;
-          is-declaration = O .1;
+          is-declaration = O .is-row;
           is-declaration-out = C .is-row;
-          outward = O .2;
+          outward = ap rowMeant (O .is);
           counts = ap rowMeant (C .is);
+          scopes = around input (trees .before) rows-before p (r .0) (r .1);
+          scopes-out = around written-bytes (trees .after) R p (r′ .0) (r′ .1);
+          are-scopes = around-are input (trees .before) rows-before p (r .0) (r .1);
+          are-scopes-out = around-are written-bytes (trees .after) R p (r′ .0) (r′ .1);
+          declared = O;
+          declared-out = C;
         }
 
     -- by rows: whatever row of the input is read outward, it is a walked name's

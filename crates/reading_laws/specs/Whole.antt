@@ -35,22 +35,11 @@ use Rattle.reading_laws.specs.Floors.{Stands, Chain, firstRow, scope-beh
 use Rattle.reading_laws.specs.Number.{meant-in, nothing-in, outer-meant, outer-nothing, outer-past}
 use Rattle.reading_laws.specs.Spots.{GoodOf, floors-good, Inserted, SpotIs, spots}
 use Rattle.reading_laws.specs.Operands.{Used, used, operand-used}
+use Rattle.reading_laws.specs.Declared.{DeclsAre, name-at, decls-stand}
 use Rattle.reading_laws.specs.Meant.{Rows}
 use Rattle.reading_laws.specs.Said.{said, saidIn, saidOut, saidBehind, saidEnd, saidFrom, sought}
 
 -- ---- rows
-
-least : (n : ℕ) → pick (ltb n 65535) n 65535 ≤ 65535
-unfolding pick
-least n = go (ltb n 65535) refl
-  where
-    go : (b : Bool) → ltb n 65535 ≡ b → pick b n 65535 ≤ 65535
-    go true e = let l = ltb-true n 65535 e in omega (arith, l)
-    go false e = omega arith
-
-rows-below : (form : List ℕ) → rowsIn form ≤ 65535
-unfolding rowsIn
-rows-below form = least ((length form - 8) / 16)
 
 one-only : (ds : List Declaration) → length ds ≡ 1 → (d : Declaration) × (ds ≡ d ∷ [])
 one-only [] e = absurd (omega arith)
@@ -68,15 +57,7 @@ alias-even : (h : Head) (d : Declaration) → Even (Field (h .code) (h .builtin)
 unfolding encode
 alias-even h d = flat (record { not-open = refl; not-close = refl }) (flat (record { not-open = refl; not-close = refl }) nothing)
 
--- the DECLs of what is counted in these scopes stand in the form
-abbrev DeclsAre : (form : List ℕ) → List Floor → Type 0
-DeclsAre form fs = (k : ℕ) (f : Floor) (space n : ℕ) (x : Located) → getElem? fs k ≡ some f → countedRow f space n ≡ some x → Is form (x .row) (declRowOf (x .standing .decl)) × (x .row < 65535)
-
 module _ (form : List ℕ) where
-  name-at : (row : ℕ) (d : Declaration) → Is form row (declRowOf d) → xAt form row ≡ d .name
-  unfolding encode
-  name-at row d is = ap xPart is
-
   -- a number is counted in its own scope
   number-meaning : (r space n paths z : ℕ) → Is form r (Ref space (Num n) paths z) → meaningOf form r ≡ inScope form (scopeOf form r) 0 (sought space paths) (Number n)
   unfolding meaningOf readingOf spaceSought sought keyOf encode flag number pick
@@ -101,7 +82,7 @@ module _ (form : List ℕ) where
     where
       go : (o : Option Located) → countedRow f space n ≡ o → inScope form (f .row) out space (Number n) ≡ said o n out
       go none q = nothing-in form f beyond out space n S q
-      go (some x) q = meant-in form f beyond out space n x S q ∙ ap (λ (name : ℕ). MeantAt (x .row) n out name) (name-at (x .row) (x .standing .decl) (decls x q))
+      go (some x) q = meant-in form f beyond out space n x S q ∙ ap (λ (name : ℕ). MeantAt (x .row) n out name) (name-at form (x .row) (x .standing .decl) (decls x q))
 
   -- an OUTER of two numbers
   outer-said : (fs : List Floor) (row space d n z : ℕ) → Chain form fs → DeclsAre form fs → scopeOf form row ≡ firstRow fs → Is form row (Outer space (Num d) (Num n) z)
@@ -111,7 +92,7 @@ module _ (form : List ℕ) where
     where
       counts : (f : Floor) → getElem? fs d ≡ some f → (o : Option Located) → countedRow f space n ≡ o → throughOuter form row ≡ said o n d
       counts f e none q = outer-nothing form fs row space d n z f C around is e q
-      counts f e (some x) q = outer-meant form fs row space d n z f x C around is e q ∙ ap (λ (name : ℕ). MeantAt (x .row) n d name) (name-at (x .row) (x .standing .decl) (D d f space n x e q .0))
+      counts f e (some x) q = outer-meant form fs row space d n z f x C around is e q ∙ ap (λ (name : ℕ). MeantAt (x .row) n d name) (name-at form (x .row) (x .standing .decl) (D d f space n x e q .0))
 
       go : (o : Option Floor) → getElem? fs d ≡ o → throughOuter form row ≡ saidIn o d space n
       go none e = outer-past form fs row space d n z C around is e
@@ -267,13 +248,7 @@ module _ (form : List ℕ) (s : Scope) (rules : RuleSet) (good : GoodScope rules
   around = use-there .around ∙ ap firstRow these
 
   decls-are : DeclsAre form fs
-  decls-are k f space n x e q =
-      let there = counted-row-is s (p .way) fs k f space n x are e q in
-      let zeroth : 0 + x .row ≡ x .row = omega arith in
-      let low = elem-lt (flatten s) (x .row) (declRowOf (x .standing .decl)) there in
-      let fit = R .fit in
-      let most = rows-below form in
-      (subst (λ (m : ℕ). Is form m (declRowOf (x .standing .decl))) zeroth (at-elem form 0 (flatten s) (x .row) (declRowOf (x .standing .decl)) (R .stand) there), omega (arith, low, fit, most))
+  decls-are = decls-stand form s (R .stand) (R .fit) (p .way) fs are
 
   operand-is : (o : Operand) → operandAt s p ≡ some o → Is form r (operandRowOf o)
   operand-is o e = subst (λ (o : Operand). Is form r (operandRowOf o)) (operand-used form s p r use-there o e) (use-there .is)
