@@ -25,7 +25,6 @@ use Rattle.places.specs.RowAt.{all-at}
 use Rattle.places.specs.LocatedAt.{AtItsWay, all-at-own-way}
 use Rattle.readings.specs.Meaning.{finalMeaning}
 use Rattle.readings.specs.declared.Meaning.{Meaning}
-use Rattle.readings.specs.declared.Meaning.the-variants.{Nowhere}
 use Rattle.reading_laws.specs.Everywhere.{of-original, of-floors}
 use Rattle.reading_laws.specs.Outward.{IsOriginal}
 use Rattle.reading_laws.specs.Outers.{JustOuter, alias-outer}

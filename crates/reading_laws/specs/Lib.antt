@@ -19,6 +19,8 @@ pub mod Said
 pub mod Meant
 pub mod Whole
 pub mod Counted
+-- Names in one scope.
+pub mod LookedUp
 -- Every REF is the row of a place; which rows are read outward.
 pub mod EveryRow
 pub mod Walked

@@ -1,6 +1,6 @@
 -- On the rows of a tree the outward reading and the counting reading give the rows of the places that the rules' readings give.
 use mathlib.Core.Path.{_≡_, refl, ap, sym, _∙_, subst}
-use mathlib.Core.Bool.{false, not}
+use mathlib.Core.Bool.{false}
 use mathlib.Core.Option.{Option, none, some}
 use mathlib.Core.List.{List, [], _∷_}
 use native.Mathlib.Omega.{arith}
@@ -14,7 +14,7 @@ use Rattle.rules.specs.Rows.{Ref, Id, encode, flag, number}
 use Rattle.rules.specs.Tree.{Declaration, Operand, ref, Scope, scope, Fields, end, _▸_, Item, plain, holds, headOf, flatten}
 use Rattle.rules.specs.Shapes.{hereOnly}
 use Rattle.rules.specs.Readings
-use Rattle.rules.specs.Readings.{Place, held, inOriginal, walked, walkedAt, outwardReading, counting}
+use Rattle.rules.specs.Readings.{Place, held, inOriginal, walked, walkedAt, outwardReading}
 use Rattle.rules.specs.Laws.ToolLaws.{All, done, _&_, all-append, all-map}
 use Rattle.rules.specs.Laws.Results.{some-same, no-option}
 use Rattle.rules.specs.Laws.Meaning.Names.{LowHead, LowOperand, LowScope, LowFields, LowItem}

@@ -90,7 +90,7 @@ module _ (form : List ℕ) where
       ∙ (ap (λ (k : ℕ). search space (Number k) 0 (located (f .row) 0 (f .level .fields))) (sym same) ∙ number-none space (located (f .row) 0 (f .level .fields)) n 0 e) in
       rw found
 
-  stands-at : (fs : List Floor) (d : ℕ) (f : Floor) → Chain form fs → getElem? fs d ≡ some f → (outer : ℕ) × Stands form f outer
+  pub stands-at : (fs : List Floor) (d : ℕ) (f : Floor) → Chain form fs → getElem? fs d ≡ some f → (outer : ℕ) × Stands form f outer
   stands-at [] d f C e = no-option f e
   stands-at (g ∷ fs) zero f C e = (firstRow fs, subst (λ (h : Floor). Stands form h (firstRow fs)) (some-same g f e) (C .0))
   stands-at (g ∷ fs) (suc d) f C e = stands-at fs d f (C .1) e

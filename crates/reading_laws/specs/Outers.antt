@@ -4,10 +4,9 @@ use mathlib.Core.Bool.{Bool, true, false, _&&_}
 use mathlib.Core.Option.{some}
 use mathlib.Core.List.{List, [], _∷_}
 use Prim.Native.Nat.{ℕ, zero, suc}
-use native.Mathlib.Omega.{arith}
 use lib.Dec.{eqb}
 use lib.ListN.{getD}
-use Rattle.rules.specs.Tools.{if_then_else_, only, _then_}
+use Rattle.rules.specs.Tools.{only, _then_}
 use Rattle.rules.specs.Versions.{RuleSet}
 use Rattle.rules.specs.Rows.{Index}
 use Rattle.rules.specs.Tree.{Declaration, Operand, ref, outer, case, Head}

@@ -129,7 +129,7 @@ eqb-turn m n = go (eqb n m) refl
     go false e = eqb-false m n (λ q. false-not (sym e ∙ (ap (λ (k : ℕ). eqb n k) q ∙ eqb-same n)))
 
 module _ (space name : ℕ) (is-name : eqb name 0 ≡ false) where
-  by-name : (other number : ℕ) → isMeant (Name name) other number ≡ eqb other name
+  pub by-name : (other number : ℕ) → isMeant (Name name) other number ≡ eqb other name
   by-name other number = ap (λ (b : Bool). not b && eqb name other) is-name ∙ eqb-turn name other
 
   tested : (x : Located) (number : ℕ) → (eqb (x .standing .decl .space) space && isMeant (Name name) (x .standing .decl .name) number) ≡ (eqb (x .standing .decl .space) space && eqb (x .standing .decl .name) name)

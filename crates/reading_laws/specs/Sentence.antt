@@ -5,38 +5,33 @@ use mathlib.Core.Bool.{Bool, true, false, _||_, not}
 use mathlib.Core.Option.{Option, none, some, Option·map}
 use mathlib.Core.List.{List, [], _∷_, _++_, map, append-nil}
 use native.Mathlib.Omega.{arith}
-use Prim.Native.Nat.{ℕ, zero, suc, _+_, _-_, _*_, _/_, _≤_, _^_, _<_}
+use Prim.Native.Nat.{ℕ, _+_, _-_, _*_, _/_, _≤_, _^_, _<_}
 use lib.Dec.{eqb, ltb}
 use lib.ListN.{length, drop, getElem?, length-append, length-map}
 use Rattle.kit.specs.Pick.{pick}
 use Rattle.kit.proofs.Laws.{pick-has}
 use Rattle.rules.specs.Tools.{if_then_else_, between, _then_, only, _orElse_}
 use Rattle.rules.specs.Versions.{Setting, base, version1, today, asClaimed}
-use Rattle.rules.specs.Rows.{Row, Num, Id, encode, Raw, raw, rawBytes, bytes, encodeRow}
-use Rattle.rules.specs.Tree.{Operand, ref, outer, case, Scope, scope, Fields, Item, plain, holds, headOf, flatten, form as tree}
+use Rattle.rules.specs.Rows.{Row, encode, Raw, raw, rawBytes, bytes, encodeRow}
+use Rattle.rules.specs.Tree.{Operand, Scope, Item, headOf, flatten, form as tree}
 use Rattle.rules.specs.Good.{GoodScope}
 use Rattle.rules.specs.Answer
 use Rattle.rules.specs.Answer.{AnswerOf, refused, accepted, mapAnswer, answer, answerIn, formIn, output, rowCount, rowsIn, rowsBytes, formBytes, written, settingOf}
 use Rattle.rules.specs.Readings
-use Rattle.rules.specs.Readings.{originals, Place, Level, held, Use, useIn, useInside, useAt, walkedAt, counting, countingReading}
-use Rattle.rules.specs.Laws.ToolLaws.{then-some, All, eqb-true}
+use Rattle.rules.specs.Readings.{originals, Place, Level, Use, useIn, useInside, useAt, walkedAt}
+use Rattle.rules.specs.Laws.ToolLaws.{then-some, eqb-true}
 use Rattle.rules.specs.Laws.RowLaws.{Bytes}
 use Rattle.rules.specs.Laws.Results.{some-same, no-option}
 use Rattle.rules.specs.Laws.Reading.BeginsWritten.{rows-length}
 use Rattle.rules.specs.Laws.Reading.ReadRight.{read-right}
-use Rattle.rules.specs.Laws.Output.Numbers.{Numbered, AllNumbered, NumberedScope, NumberedFields, NumberedItem}
 use Rattle.rules.specs.Laws.Output.OutBytes.{header-length, out-rows}
 use Rattle.rules.specs.Laws.Demand3.{base-usual, Accepted, readings}
 use Rattle.places.specs.PlaceRows.{Placed, originalsFrom, Floor, floorsAt, fieldIn, fieldAt, rowOfDecl, rowOfOperand, operandRowAt}
 use Rattle.places.specs.Counting.{levels, originals-from, elem-map, floors-at}
-use Rattle.places.specs.RowAt.{operandRowOf}
 use Rattle.row_parts.specs.Parts as parts
-use Rattle.row_parts.specs.Parts.{yAt}
 use Rattle.readings.specs.Meaning.{readingOf, isOutward, meaningOf, finalMeaning}
-use Rattle.reading_laws.specs.Stand.{Is, yPart, rows-stand}
-use Rattle.reading_laws.specs.Everywhere.{of-original, of-floors}
+use Rattle.reading_laws.specs.Stand.{rows-stand}
 use Rattle.reading_laws.specs.Outward.{rowMeant}
-use Rattle.reading_laws.specs.Operands.{Used, used}
 use Rattle.reading_laws.specs.Declared.{Declared}
 use Rattle.reading_laws.specs.Meant.{Rows, around, around-are, outward-found}
 use Rattle.reading_laws.specs.Counted.{counting-row}

@@ -13,10 +13,10 @@ use Rattle.rules.specs.Rows.{Row, Field, Open, Close, encode}
 use Rattle.rules.specs.Tree.{Declaration, Operand, ref, outer, case, Head, Scope, scope, Fields, end, _▸_, Item, plain, holds, headOf, flatten, fieldsRows, itemRows, headRows, declRows, pathRows, operandRow, operandRows, exportRows}
 use Rattle.rules.specs.Shapes.{declares, enough}
 use Rattle.rules.specs.Good.{GoodHead, GoodScope, GoodFields, GoodItem}
-use Rattle.rules.specs.Readings.{isFresh, anyFresh, isInserted, level, held, Spot, original, inserted, inOriginal, inInserted}
+use Rattle.rules.specs.Readings.{isFresh, anyFresh, isInserted, held, Spot, original, inserted, inOriginal, inInserted}
 use Rattle.rules.specs.Laws.ToolLaws.{All, done, _&_, all-append, eqb-true}
 use Rattle.rules.specs.Laws.Results.{some-same, no-option}
-use Rattle.places.specs.PlaceRows.{Floor, floor, floorsAt, Located, inRows, located}
+use Rattle.places.specs.PlaceRows.{Floor, floorsAt, Located, inRows, located}
 use Rattle.places.specs.RowAt.{decls-length}
 use Rattle.places.specs.RowsApart.{elem-lt}
 use Rattle.row_parts.specs.Parts.{codeAt}

@@ -1,11 +1,10 @@
 -- Numbers on rows: what a REF or an OUTER of numbers means, and what it means in the end, is what the tree says, for every place.
 use mathlib.Core.Path.{_≡_, refl, ap, sym, _∙_, subst}
-use mathlib.Core.Bool.{Bool, true, false, _&&_}
+use mathlib.Core.Bool.{Bool, true, false}
 use mathlib.Core.Option.{Option, none, some}
 use mathlib.Core.List.{List, [], _∷_, _++_}
 use native.Mathlib.Omega.{arith}
-use Prim.Native.Nat.{ℕ, zero, suc, _+_, _-_, _/_, _≤_, _<_}
-use borrow.Author.Tests.{ltb-true}
+use Prim.Native.Nat.{ℕ, zero, suc, _+_, _<_}
 use lib.Dec.{eqb, ltb}
 use lib.ListN.{length, getElem?}
 use Rattle.kit.specs.Pick.{pick}
@@ -13,23 +12,22 @@ use Rattle.kit.proofs.Laws.{yes!, no!, tests}
 use Rattle.rules.specs.Tools.{if_then_else_, _then_}
 use Rattle.rules.specs.Versions.{RuleSet}
 use Rattle.rules.specs.Rows.{Field, Ref, Outer, Index, Num, Id, encode, flag, number}
-use Rattle.rules.specs.Tree.{Declaration, Operand, ref, outer, Head, Scope, flatten, headRows, declRows, operandRow, operandRows, exportRows, headOf}
+use Rattle.rules.specs.Tree.{Declaration, Operand, ref, outer, Head, Scope, headRows, declRows, operandRow, operandRows, exportRows}
 use Rattle.rules.specs.Good.{GoodScope}
 use Rattle.rules.specs.Readings.{isFresh, anyFresh, isInserted, Place, Spot, original, inserted}
 use Rattle.rules.specs.Laws.ToolLaws.{All, _&_, and-false, or-false, eqb-true}
 use Rattle.rules.specs.Laws.Results.{some-same, no-option}
-use Rattle.places.specs.PlaceRows.{Floor, floorsAt, operandAt, rowOfOperand, Located, located, countedRow}
+use Rattle.places.specs.PlaceRows.{Floor, floorsAt, operandAt, rowOfOperand, Located, countedRow}
 use Rattle.places.specs.Counting.{spotOf, of-space-all}
-use Rattle.places.specs.RowAt.{operandRowOf, declRowOf, all-at, counted-row-is}
-use Rattle.places.specs.RowsApart.{elem-lt}
-use Rattle.row_parts.specs.Parts.{codeAt, bAt, eAt, xAt, yAt, rowsIn, nextOf}
+use Rattle.places.specs.RowAt.{operandRowOf, declRowOf, all-at}
+use Rattle.row_parts.specs.Parts.{codeAt, bAt, eAt, xAt, yAt, nextOf}
 use Rattle.row_parts.specs.Parts as parts
 use Rattle.scopes.specs.Scopes.{scopeAbove, scopeOf}
 use Rattle.readings.specs.Meaning.{spaceSought, readingOf, inScope, keyOf, meaningOf, throughOuter, isInsertedOuter, behind, finalMeaning}
 use Rattle.scopes.specs.declared.Key.the-variants.{Number}
 use Rattle.readings.specs.declared.Meaning.{Meaning}
-use Rattle.readings.specs.declared.Meaning.the-variants.{At as MeantAt, Nowhere}
-use Rattle.reading_laws.specs.Stand.{Is, At, codePart, bPart, ePart, xPart, yPart, at-elem}
+use Rattle.readings.specs.declared.Meaning.the-variants.{At as MeantAt}
+use Rattle.reading_laws.specs.Stand.{Is, At, codePart, bPart, ePart, xPart, yPart}
 use Rattle.reading_laws.specs.Even.{Even, nothing, flat, up-even}
 use Rattle.reading_laws.specs.Floors.{Stands, Chain, firstRow, scope-behind}
 use Rattle.reading_laws.specs.Number.{meant-in, nothing-in, outer-meant, outer-nothing, outer-past}
