@@ -19,14 +19,14 @@ use Rattle.rules.specs.Laws.ToolLaws.{All, done, _&_, all-append, all-map, eqb-
 use Rattle.rules.specs.Laws.Results.{some-same, no-option}
 use Rattle.rules.specs.Laws.Meaning.Names.{LowScope}
 use Rattle.rules.specs.Laws.Output.Numbers.{Numbered, AllNumbered, NumberedScope, NumberedFields, NumberedItem}
-use Rattle.places.specs.PlaceRows.{Floor, floorsAt, operandAt, rowOfOperand, Located, inRows, located, countedRow}
+use Rattle.places.specs.PlaceRows.{Floor, floorsAt, operandAt, rowOfDecl, rowOfOperand, Located, inRows, located, countedRow}
 use Rattle.places.specs.Counting.{levels, spotOf, elem-map, counted-row, of-space-all}
 use Rattle.places.specs.RowAt.{all-at}
 use Rattle.places.specs.LocatedAt.{AtItsWay, all-at-own-way}
 use Rattle.readings.specs.Meaning.{finalMeaning}
 use Rattle.readings.specs.declared.Meaning.{Meaning}
 use Rattle.reading_laws.specs.Everywhere.{of-original, of-floors}
-use Rattle.reading_laws.specs.Outward.{IsOriginal}
+use Rattle.reading_laws.specs.Outward.{rowMeant, IsOriginal}
 use Rattle.reading_laws.specs.Outers.{JustOuter, alias-outer}
 use Rattle.reading_laws.specs.Spots.{good-head, floors-good}
 use Rattle.reading_laws.specs.Operands.{Used, operand-is-at, operand-used}
@@ -34,6 +34,7 @@ use Rattle.reading_laws.specs.Said.{said, saidIn, saidOut, saidBehind, s
 use Rattle.reading_laws.specs.Declared.{Declared, declared-at, inserted-at, Agree, a-place, an-inserted, nothing, the-place}
 use Rattle.reading_laws.specs.Meant.{first-of, Rows, use-there, around, around-are, none-inserted-around}
 use Rattle.reading_laws.specs.Whole.{named, ref-row}
+use Rattle.reading_laws.specs.Apart.{exactly}
 
 -- ---- inserted outer aliases count
 
@@ -210,6 +211,11 @@ module _ (form : List ℕ) (s : Scope) (rules : RuleSet) (good : GoodScope rules
 
   pub counting-resolved : NumberedScope s → (space n z : ℕ) → operandAt s p ≡ some (ref space (Num n) [] z) → Agree s (around form s R p r at) (countingReading s p) (finalMeaning form r)
   counting-resolved m = counting-whole (numbered-aliases rules s good m (p .way) (U .f) (U .rest) fs-are)
+
+  -- So a number means the row of a place exactly if the rules' counting reading gives that place.
+  pub counting-exactly : AliasesCount (use-there form s R p r at .f) → (space n z : ℕ) → operandAt s p ≡ some (ref space (Num n) [] z) → (d : Place) (row : ℕ) → rowOfDecl s d ≡ some row
+      → (rowMeant (finalMeaning form r) ≡ some row → countingReading s p ≡ some d) × (countingReading s p ≡ some d → rowMeant (finalMeaning form r) ≡ some row)
+  counting-exactly counts space n z o = exactly form s rules good R (p .way) fs fs-are (countingReading s p) (finalMeaning form r) (counting-whole counts space n z o)
 
   -- the operand is a number without PATHs, if the reading gives a place
   operand-numbered : NumberedScope s → Numbered (U .operand)

@@ -4,14 +4,13 @@ use mathlib.Core.Bool.{Bool, true, false, _&&_}
 use mathlib.Core.Option.{none, some}
 use mathlib.Core.List.{List, [], _∷_}
 use native.Mathlib.Omega.{arith}
-use Prim.Native.Nat.{ℕ, zero, suc, _+_, _-_}
+use Prim.Native.Nat.{ℕ, zero, suc, _+_}
 use lib.Dec.{eqb}
 use lib.ListN.{getElem?}
 use Rattle.kit.specs.Pick.{pick}
 use Rattle.kit.proofs.Laws.{yes!, no!, tests}
 use Rattle.rules.specs.Tools.{if_then_else_, _then_}
 use Rattle.rules.specs.Rows.{Outer, Num, encode, flag, number}
-use Rattle.rules.specs.Laws.ToolLaws.{_&_}
 use Rattle.rules.specs.Laws.Results.{some-same, no-option}
 use Rattle.places.specs.PlaceRows.{Floor, Located, located, locatedOf, countedRow}
 use Rattle.row_parts.specs.Parts.{bAt, eAt, xAt, yAt}

@@ -106,7 +106,7 @@ module _ (form : List ℕ) where
   unfolding fieldOf
   field-above row e = sym (no! _ e refl)
 
-  field-step : (row : ℕ) → eqb (codeAt form (row + 1)) 1 ≡ false → fieldOf form (row + 1) ≡ fieldOf form row
+  pub field-step : (row : ℕ) → eqb (codeAt form (row + 1)) 1 ≡ false → fieldOf form (row + 1) ≡ fieldOf form row
   field-step row e = subst (λ (r : ℕ). eqb (codeAt form r) 1 ≡ false → fieldOf form r ≡ fieldOf form row) (sym (add-one row)) (field-above row) e
 
   field-up : (rs : List Row) → All NotField rs → (row : ℕ) → At form (row + 1) rs → fieldOf form (behind row rs) ≡ fieldOf form row
@@ -115,7 +115,7 @@ module _ (form : List ℕ) where
       let code : codeAt form (row + 1) ≡ codeOf r = ap codePart (a .0) in
       field-up rs ns (row + 1) (a .1) ∙ field-step row (ap (λ (c : ℕ). eqb c 1) code ∙ n)
 
-  field-self : (row : ℕ) → codeAt form row ≡ 1 → fieldOf form row ≡ row
+  pub field-self : (row : ℕ) → codeAt form row ≡ 1 → fieldOf form row ≡ row
   unfolding fieldOf
   field-self zero e = refl
   field-self (suc row) e = sym (yes! _ (ap (λ (c : ℕ). eqb c 1) e) refl)

@@ -124,17 +124,28 @@ head-not : (h : Head) → All NoOuter (h .operands) → All NotOuter (headRows h
 unfolding headRows encode
 head-not h n = refl & all-append _ _ (decls-not (h .decls)) (all-append _ _ (operands-not (h .operands) n) (export-not (h .export)))
 
--- the first row of what follows the fields before, and the row behind a field's own
-first-row : (fs : Fields) → (r : Row) × (more : List Row) × (fieldsRows fs ++ (Close ∷ []) ≡ r ∷ more) × NotOuter r
-unfolding flatten headRows encode
-first-row end = (Close, [], refl, refl)
-first-row (plain h ▸ fs) = (Field (h .code) (h .builtin) (h .z), _, refl, refl)
-first-row (holds h s ▸ fs) = (Field (h .code) (h .builtin) (h .z), _, refl, refl)
+-- neither an OUTER nor a DECL
+pub record Edge (r : Row) : Type 0 where
+  pub not-outer : eqb (codeOf r) 5 ≡ false
+  pub not-decl : eqb (codeOf r) 2 ≡ false
 
-followed : (i : Item) (fs : Fields) → (r : Row) × (more : List Row) × (itemRows i ++ (fieldsRows fs ++ (Close ∷ [])) ≡ headRows (headOf i) ++ (r ∷ more)) × NotOuter r
+-- the first row of what follows the fields before
+first-row : (fs : Fields) → (r : Row) × (more : List Row) × (fieldsRows fs ++ (Close ∷ []) ≡ r ∷ more) × Edge r
+unfolding flatten headRows encode
+first-row end = (Close, [], refl, record { not-outer = refl; not-decl = refl })
+first-row (plain h ▸ fs) = (Field (h .code) (h .builtin) (h .z), _, refl, record { not-outer = refl; not-decl = refl })
+first-row (holds h s ▸ fs) = (Field (h .code) (h .builtin) (h .z), _, refl, record { not-outer = refl; not-decl = refl })
+
+-- and the row behind a field's own
+pub followed : (i : Item) (fs : Fields) → (r : Row) × (more : List Row) × (itemRows i ++ (fieldsRows fs ++ (Close ∷ [])) ≡ headRows (headOf i) ++ (r ∷ more)) × Edge r
 unfolding flatten headOf encode
 followed (plain h) fs = let F = first-row fs in (F .0, F .1, ap (λ (l : List Row). headRows h ++ l) (F .2), F .3)
-followed (holds h (scope kind name gs)) fs = (Open kind name, _, append-assoc (headRows h) (Open kind name ∷ (fieldsRows gs ++ (Close ∷ []))) (fieldsRows fs ++ (Close ∷ [])), refl)
+followed (holds h (scope kind name gs)) fs = (
+  Open kind name,
+  _,
+  append-assoc (headRows h) (Open kind name ∷ (fieldsRows gs ++ (Close ∷ []))) (fieldsRows fs ++ (Close ∷ [])),
+  record { not-outer = refl; not-decl = refl },
+)
 
 not-outer-at : (form : List ℕ) (rs : List Row) → All NotOuter rs → (row k : ℕ) → At form row rs → k < length rs → eqb (codeAt form (row + k)) 5 ≡ false
 not-outer-at form [] n row k a low = absurd (omega (arith, low))
@@ -207,7 +218,7 @@ module _ (form : List ℕ) (base : ℕ) (rules : RuleSet) where
         before-other = λ o k low.
             (let step : row + suc (suc k) ≡ suc (suc (row + k)) = omega arith in
             subst (λ (r : ℕ). eqb (codeAt form r) 5 ≡ false) step
-            (not-outer-at form (headRows h ++ (A .0 ∷ [])) (all-append (headRows h) (A .0 ∷ []) (head-not h (others-none rules h kind good o)) (A .3 & done)) row (suc (suc k)) some-rows (omega (arith, low, n₁, n₂, n₃))));
+            (not-outer-at form (headRows h ++ (A .0 ∷ [])) (all-append (headRows h) (A .0 ∷ []) (head-not h (others-none rules h kind good o)) (A .3 .not-outer & done)) row (suc (suc k)) some-rows (omega (arith, low, n₁, n₂, n₃))));
         own = at-left form row (headRows h) (A .0 ∷ A .1) rows;
         around = around;
       }

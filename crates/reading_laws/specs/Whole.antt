@@ -185,19 +185,18 @@ module _ (form : List ℕ) where
 
   module _ (rules : RuleSet) where
     -- what a spot's rows hold
-    spot-is : (f : Floor) (rest : List Floor) → Chain form (f ∷ rest) → GoodOf rules (f .level .fields) → (space n : ℕ) (x : Located) → countedRow f space n ≡ some x
+    pub spot-is : (f : Floor) (beyond : ℕ) → Stands form f beyond → GoodOf rules (f .level .fields) → (space n : ℕ) (x : Located) → countedRow f space n ≡ some x
         → SpotIs form (f .row) (spotOf x) (x .standing .decl) (x .row)
     unfolding countedRow
-    spot-is f rest C G space n x q =
-        let S = C .0 in
-        all-at _ n x (of-space-all _ space (spots form (f .row) rules (f .level .fields) (G .0) 0 (f .row) (G .1) (S .fields) (scope-behind form f (firstRow rest) S [] nothing tt))) q
+    spot-is f beyond S G space n x q =
+        all-at _ n x (of-space-all _ space (spots form (f .row) rules (f .level .fields) (G .0) 0 (f .row) (G .1) (S .fields) (scope-behind form f beyond S [] nothing tt))) q
 
     behind-said : (f : Floor) (rest : List Floor) → Chain form (f ∷ rest) → DeclsAre form (f ∷ rest) → GoodOf rules (f .level .fields) → (space n out : ℕ) (x : Located) → countedRow f space n ≡ some x
         → behind form (said (some x) n out) ≡ saidBehind (f ∷ rest) (spotOf x) (said (some x) n out) (throughOuter form (nextOf (x .row)))
     unfolding said saidBehind if_then_else_
     behind-said f rest C D G space n out x q =
         let here = D 0 f space n x refl q in
-        go (spotOf x) (spot-is f rest C G space n x q) (here .0) (here .1)
+        go (spotOf x) (spot-is f (firstRow rest) (C .0) G space n x q) (here .0) (here .1)
       where
         m : Meaning
         m = said (some x) n out
