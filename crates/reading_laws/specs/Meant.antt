@@ -1,4 +1,4 @@
--- On the rows of a tree the outward reading and the counting reading give the rows of the places that the rules' readings give.
+-- On the rows of a tree with an input's names the outward reading gives the declaration at the place that the rules' outward reading gives.
 use mathlib.Core.Path.{_≡_, refl, ap, sym, _∙_, subst}
 use mathlib.Core.Bool.{false}
 use mathlib.Core.Option.{Option, none, some}

@@ -1,4 +1,4 @@
--- Counting in a scope's rows counts its declarations; what an OUTER of two numbers means; what a spot's rows hold.
+-- Counting in a scope's rows counts its declarations; what an OUTER of two numbers means.
 use mathlib.Core.Path.{_≡_, refl, ap, sym, _∙_, subst}
 use mathlib.Core.Bool.{Bool, true, false, _&&_}
 use mathlib.Core.Option.{none, some}
