@@ -200,8 +200,8 @@ module _ (form : List ℕ) (s : Scope) (rules : RuleSet) (good : GoodScope rules
   counting-whole counts space n z e =
       let own = all-at-own-way s (p .way) fs fs-are in
       let same : U .operand ≡ ref space (Num n) [] z = operand-used form s p r U (ref space (Num n) [] z) e in
-      let m = named form s rules good R p r at fs fs-are in
-      let rows : finalMeaning form r ≡ saidFrom fs m 0 space n 0 = ref-row form s rules good R p r at fs fs-are space n [] z e .1 in
+      let m = named form in
+      let rows : finalMeaning form r ≡ saidFrom fs m 0 space n 0 = ref-row form s rules good R p r at space n [] z e .1 in
       let reads : countingReading s p ≡ counting (levels fs) (ref space (Num n) [] z) = counting-is ∙ ap (counting (levels fs)) same in
       subst (λ (k : Meaning). Agree s (around form s R p r at) (countingReading s p) k) (sym rows)
       (subst (λ (o : Option Place). Agree s (around form s R p r at) o (saidFrom fs m 0 space n 0)) (sym reads) (agree-number s (U .f) (U .rest) own counts m space n z))

@@ -29,12 +29,12 @@ use Rattle.readings.specs.declared.Meaning.{Meaning}
 use Rattle.readings.specs.declared.Meaning.the-variants.{At as MeantAt}
 use Rattle.reading_laws.specs.Stand.{Is, At, codePart, bPart, ePart, xPart, yPart}
 use Rattle.reading_laws.specs.Even.{Even, nothing, flat, up-even}
-use Rattle.reading_laws.specs.Floors.{Stands, Chain, firstRow, scope-behind}
+use Rattle.reading_laws.specs.Floors.{Stands, Chain, firstRow, scope-behind, floors-chain}
 use Rattle.reading_laws.specs.Number.{meant-in, nothing-in, outer-meant, outer-nothing, outer-past}
 use Rattle.reading_laws.specs.Spots.{GoodOf, floors-good, Inserted, SpotIs, spots}
-use Rattle.reading_laws.specs.Operands.{Used, used, operand-used}
+use Rattle.reading_laws.specs.Operands.{Used, operand-used}
 use Rattle.reading_laws.specs.Declared.{DeclsAre, name-at, decls-stand}
-use Rattle.reading_laws.specs.Meant.{Rows}
+use Rattle.reading_laws.specs.Meant.{Rows, use-there, around}
 use Rattle.reading_laws.specs.Said.{said, saidIn, saidOut, saidBehind, saidEnd, saidFrom, sought}
 
 -- ---- rows
@@ -231,49 +231,51 @@ module _ (form : List ℕ) where
 
 -- ---- the theorem
 
-module _ (form : List ℕ) (s : Scope) (rules : RuleSet) (good : GoodScope rules s) (R : Rows form s) (p : Place) (r : ℕ) (at : rowOfOperand s p ≡ some r) (fs : List Floor) (are : floorsAt s (p .way) ≡ some fs) where
-  use-there : Used form s p r
-  use-there = used form s p r (R .stand) (R .fit) at
+-- what stands behind an inserted outer alias, where its OUTER has a name in it
+abbrev pub named : (form : List ℕ) → Located → Meaning
+named form x = throughOuter form (nextOf (x .row))
 
-  these : use-there .f ∷ use-there .rest ≡ fs
-  these = some-same _ fs (sym (use-there .are) ∙ are)
+-- for a row in a scope, whether its field is inserted or not
+module _ (form : List ℕ) (s : Scope) (rules : RuleSet) (good : GoodScope rules s) (R : Rows form s) (way : List ℕ) (f : Floor) (rest : List Floor) (are : floorsAt s way ≡ some (f ∷ rest)) (r : ℕ) (within : scopeOf form r ≡ f .row) where
+  chain : Chain form (f ∷ rest)
+  chain = floors-chain form s way (f ∷ rest) (R .stand) (R .fit) are
 
-  chain : Chain form fs
-  chain = subst (Chain form) these (use-there .chain)
+  decls-are : DeclsAre form (f ∷ rest)
+  decls-are = decls-stand form s (R .stand) (R .fit) way (f ∷ rest) are
 
-  around : scopeOf form r ≡ firstRow fs
-  around = use-there .around ∙ ap firstRow these
-
-  decls-are : DeclsAre form fs
-  decls-are = decls-stand form s (R .stand) (R .fit) (p .way) fs are
-
-  operand-is : (o : Operand) → operandAt s p ≡ some o → Is form r (operandRowOf o)
-  operand-is o e = subst (λ (o : Operand). Is form r (operandRowOf o)) (operand-used form s p r use-there o e) (use-there .is)
-
-  -- what stands behind an inserted outer alias, where its OUTER has a name in it
-  abbrev pub named : Located → Meaning
-  named x = throughOuter form (nextOf (x .row))
-
-  final : (d space n out : ℕ) → meaningOf form r ≡ saidIn (getElem? fs d) out space n → finalMeaning form r ≡ saidFrom fs named d space n out
+  final : (d space n out : ℕ) → meaningOf form r ≡ saidIn (getElem? (f ∷ rest) d) out space n → finalMeaning form r ≡ saidFrom (f ∷ rest) (named form) d space n out
   unfolding finalMeaning
-  final d space n out e = ap (behind form) e ∙ behind-from form rules fs chain decls-are (floors-good rules s (p .way) fs good are) d space n out
+  final d space n out e = ap (behind form) e ∙ behind-from form rules (f ∷ rest) chain decls-are (floors-good rules s way (f ∷ rest) good are) d space n out
 
   -- A REF by number: what it means, and what it means in the end.
-  pub ref-row : (space n : ℕ) (paths : List ℕ) (z : ℕ) → operandAt s p ≡ some (ref space (Num n) paths z)
-      → (meaningOf form r ≡ saidIn (getElem? fs 0) 0 (sought space (length paths)) n) × (finalMeaning form r ≡ saidFrom fs named 0 (sought space (length paths)) n 0)
+  pub ref-at : (space n paths z : ℕ) → Is form r (Ref space (Num n) paths z)
+      → (meaningOf form r ≡ saidIn (some f) 0 (sought space paths) n) × (finalMeaning form r ≡ saidFrom (f ∷ rest) (named form) 0 (sought space paths) n 0)
   unfolding saidIn
-  ref-row space n paths z e =
-      let means = number-meaning form r space n (length paths) z (operand-is (ref space (Num n) paths z) e) ∙ (ap (λ (k : ℕ). inScope form k 0 (sought space (length paths)) (Number n)) around ∙ innermost fs chain decls-are (sought space (length paths)) n these) in
-      (means, final 0 (sought space (length paths)) n 0 means)
-    where
-      innermost : (gs : List Floor) → Chain form gs → DeclsAre form gs → (space n : ℕ) → {f : Floor} {rest : List Floor} → f ∷ rest ≡ gs → inScope form (firstRow gs) 0 space (Number n) ≡ saidIn (getElem? gs 0) 0 space n
-      innermost [] C D space n e = let no-way : _≡_ {A = ℕ} 0 1 = cc in absurd (omega arith)
-      innermost (f ∷ rest) C D space n e = said-in form f (firstRow rest) 0 space n (C .0) (λ x q. D 0 f space n x refl q .0)
+  ref-at space n paths z is =
+      let means = number-meaning form r space n paths z is
+      ∙ (ap (λ (k : ℕ). inScope form k 0 (sought space paths) (Number n)) within ∙ said-in form f (firstRow rest) 0 (sought space paths) n (chain .0) (λ x q. decls-are 0 f (sought space paths) n x refl q .0)) in
+      (means, final 0 (sought space paths) n 0 means)
 
   -- an OUTER of two numbers
-  pub outer-row : (space d n z : ℕ) → operandAt s p ≡ some (outer space (Num d) (Num n) z)
-      → (meaningOf form r ≡ saidIn (getElem? fs d) d space n) × (finalMeaning form r ≡ saidFrom fs named d space n d)
-  outer-row space d n z e =
-      let is = operand-is (outer space (Num d) (Num n) z) e in
-      let means = outer-meaning form r space (Num d) (Num n) z is ∙ outer-said form fs r space d n z chain decls-are around is in
+  pub outer-at : (space d n z : ℕ) → Is form r (Outer space (Num d) (Num n) z)
+      → (meaningOf form r ≡ saidIn (getElem? (f ∷ rest) d) d space n) × (finalMeaning form r ≡ saidFrom (f ∷ rest) (named form) d space n d)
+  outer-at space d n z is =
+      let means = outer-meaning form r space (Num d) (Num n) z is ∙ outer-said form (f ∷ rest) r space d n z chain decls-are within is in
       (means, final d space n d means)
+
+-- for every place
+module _ (form : List ℕ) (s : Scope) (rules : RuleSet) (good : GoodScope rules s) (R : Rows form s) (p : Place) (r : ℕ) (at : rowOfOperand s p ≡ some r) where
+  abbrev U : Used form s p r
+  U = use-there form s R p r at
+
+  operand-is : (o : Operand) → operandAt s p ≡ some o → Is form r (operandRowOf o)
+  operand-is o e = subst (λ (o : Operand). Is form r (operandRowOf o)) (operand-used form s p r U o e) (U .is)
+
+  pub ref-row : (space n : ℕ) (paths : List ℕ) (z : ℕ) → operandAt s p ≡ some (ref space (Num n) paths z)
+      → (meaningOf form r ≡ saidIn (getElem? (around form s R p r at) 0) 0 (sought space (length paths)) n)
+      × (finalMeaning form r ≡ saidFrom (around form s R p r at) (named form) 0 (sought space (length paths)) n 0)
+  ref-row space n paths z e = ref-at form s rules good R (p .way) (U .f) (U .rest) (U .are) r (U .around) space n (length paths) z (operand-is (ref space (Num n) paths z) e)
+
+  pub outer-row : (space d n z : ℕ) → operandAt s p ≡ some (outer space (Num d) (Num n) z)
+      → (meaningOf form r ≡ saidIn (getElem? (around form s R p r at) d) d space n) × (finalMeaning form r ≡ saidFrom (around form s R p r at) (named form) d space n d)
+  outer-row space d n z e = outer-at form s rules good R (p .way) (U .f) (U .rest) (U .are) r (U .around) space d n z (operand-is (outer space (Num d) (Num n) z) e)
