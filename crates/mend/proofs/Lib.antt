@@ -1,0 +1,3 @@
+pub mod Agrees
+pub mod Changes
+pub mod Laws
