@@ -64,7 +64,7 @@ fn end_from(rows: &[u8], from: usize) -> usize
 
 // The row behind the field that begins at i.
 pub fn field_end(rows: &[u8], i: usize) -> usize
-    ensures { λ r. ⌜ (r ≡ fieldEnd (now (rows .entry)) i) ⌝ }
+    ensures { λ r. ⌜ (r ≡ fieldEnd (now (rows .entry)) i) × (r - i ≤ length (now (rows .entry)) / 16 - i) ⌝ }
 {
     if rows.len() / 16 <= i {
         return i;
