@@ -179,6 +179,9 @@ module _ (c : Choice) where
       pub stands-right : Stands r (m .from) (rights ++ more-right)
       pub left-end : m .left ≡ m .from + size lefts
       pub right-end : m .right ≡ m .from + size rights
+      pub before-right : List Item
+      pub all-right : before-right ++ (rights ++ more-right) ≡ rs
+      pub starts : m .from ≡ 1 + size before-right
       pub lists : entries 1 1 (fieldPairs c ls rs) ≡ entries (m .from) (m .from) (rest lefts rights)
 
     back-count : (f : ℕ) (ls rs : List Item) → Stands l f ls → Stands r f rs → backT c l r f 0 (length l / 16 - (f + 1)) ≡ common c (backRows (reverse ls)) (backRows (reverse rs))
@@ -234,6 +237,9 @@ module _ (c : Choice) where
             more-right = drop (length (drop k rs) - g) (drop k rs);
             stands-left = rw (take-append-drop (length (drop k ls) - g) (drop k ls)) (front .stands-left);
             stands-right = rw (take-append-drop (length (drop k rs) - g) (drop k rs)) (front .stands-right);
+            before-right = take k rs;
+            all-right = rw (take-append-drop (length (drop k rs) - g) (drop k rs)) (take-append-drop k rs);
+            starts = front .right;
             left-end = refl;
             right-end = refl;
             lists = rules.middle c 1 1 ls rs k g refl refl ∙ ap₂ (λ (i j : ℕ). entries i j (rest lefts rights)) (unfold size in sym (front .left)) (unfold size in sym (front .right));

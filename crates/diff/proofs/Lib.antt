@@ -1,0 +1,4 @@
+pub mod Agrees
+pub mod Lists
+pub mod Runs
+pub mod Ways

@@ -1,0 +1,15 @@
+-- `diff::list::put_two` meets its contract.
+use borrow.Author.Needs.{needs}
+use Rattle.diff.proofs.Ways.{two-put}
+use Rattle.diff.proofs.list.put_two.Statement.{statement}
+use Rattle.diff.proofs.list.put_two.Tie as tie
+
+pub put-two-spec : {M : Type 1} → statement M
+put-two-spec =
+    tie.close
+    (tie.spec
+    (λ c κs. search needs)  -- put-number-requires
+    (λ c. search needs)  -- add-put-number
+    (λ c κs. search needs)  -- put-number-requires-2
+    (λ c. search needs)  -- same-length
+    (λ c. search (two-put, needs)))  -- returns

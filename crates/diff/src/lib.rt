@@ -1,0 +1,3 @@
+// Two resolved forms compared: the list of what differs.
+mod list;
+pub mod run;

@@ -1,0 +1,190 @@
+// The whole comparison of two forms: the refusals, then the list.
+use crate::list::copy;
+use crate::list::fields_size;
+use crate::list::is_pair;
+use crate::list::put_entry;
+use crate::list::put_left;
+use crate::list::put_right;
+use form::header::HEADER;
+use form::header::Header;
+use form::header::header_to;
+use limits::of_claim;
+use matched::fields::Rest;
+use matched::fields::middle;
+use matched::row::same_row;
+use reader::read::Reading;
+use reader::read::read_to;
+use refusal::BROKEN;
+use refusal::DEEP;
+use refusal::NOT_A_FORM;
+use refusal::ROOM;
+use refusal::ROW_COUNT;
+use refusal::Refusal;
+ghost use mathlib.Core.Path.{_≡_};
+ghost use Prim.Native.Nat.{_+_, _*_, _-_, _/_, _≤_};
+ghost use lib.ListN.{length, drop};
+ghost use lib.Seq.{sets};
+ghost use Rattle.kit.specs.Out.{_&_};
+ghost use Rattle.kit.specs.Pick.{pick};
+ghost use Rattle.rules.specs.Versions.{base};
+ghost use Rattle.rules.specs.Answer.{mapAnswer};
+ghost use Rattle.comparing.specs.Compare.{listed, listOutput};
+ghost use Rattle.matched.specs.Counted.{choiceOf};
+ghost use Rattle.diff.specs.Meaning.{meaning, bytesOf};
+ghost use Rattle.diff.specs.Run.{refusedT, bodyT, claimT, opening, pairBytes, restBytes, restOf, bothBytes, rowsT};
+
+pub enum Answer {
+    // The list has so many bytes.
+    Listed(u32),
+    Refused(Refusal),
+}
+
+// Whether the bytes are a resolved form.
+pub enum Claim {
+    Whole,
+    Broken(Refusal),
+}
+
+// ---- reading
+
+// A refusal whose number document 01 gives, and its place.
+fn broken(number: u32, place: u32) -> Claim
+    ensures { λ r. ⌜ r ≡ refusedT number place ⌝ }
+{
+    Claim::Broken(Refusal { number, place })
+}
+
+// Whether the rows behind the header are those of a form as an output may be.
+fn read_body(form: &[u8]) -> Claim
+    requires { ⌜ 8 ≤ length (now form) ⌝ }
+    ensures { λ r. ⌜ r ≡ bodyT (now (form .entry)) ⌝ }
+{
+    match read_to(&form[HEADER..], of_claim(0)) {
+        Reading::Broken(row) => broken(BROKEN, (row % 4294967296) as u32),
+        Reading::Deep(row) => broken(DEEP, (row % 4294967296) as u32),
+        Reading::Whole => Claim::Whole,
+    }
+}
+
+// Whether the bytes are a form as an output may be: any name that fits a row, and four times the rows.
+fn read_claim(form: &[u8]) -> Claim
+    ensures { λ r. ⌜ r ≡ claimT (now (form .entry)) ⌝ }
+{
+    match header_to(form, of_claim(0)) {
+        Header::Wrong => broken(NOT_A_FORM, 0),
+        Header::Count => broken(ROW_COUNT, 0),
+        Header::Rows(_) => read_body(form),
+    }
+}
+
+// ---- how long the list is
+
+// The bytes of the list for what is left.
+fn rest_size(left: &[u8], right: &[u8], from: usize, end: usize, other: usize) -> usize
+    requires { ⌜ (length (now left) ≤ 65536) × (length (now right) ≤ 65536) ⌝ }
+    ensures { λ r. ⌜ (r ≡ length (restBytes (now (left .entry)) (now (right .entry)) from end other)) × (r ≤ 294912) ⌝ }
+{
+    let rights = fields_size(right, from, other, true);
+    if is_pair(left, right, from, end, other) {
+        return rights;
+    }
+    fields_size(left, from, end, false) + rights
+}
+
+// ---- the list written
+
+// Writes the differing pair, whose rows begin at `from` in both.
+fn put_pair(right: &[u8], from: usize, end: usize, other: usize, list: &mut [u8], at: usize)
+    requires { ⌜ (from ≤ end) × (from ≤ other) × (other ≤ length (now right) / 16) × (at + 20 + (16 * other - 16 * from) ≤ length (now list)) ⌝ }
+    ensures { λ _. ⌜ now (list .exit) ≡ sets (now (list .entry)) at (pairBytes (now (right .entry)) from end other) ⌝ }
+{
+    put_entry(list, at, 4, from, end - from, from, other - from);
+    let a = 16 * from;
+    let b = 16 * other;
+    copy(&right[a..b], list, at + 20);
+}
+
+// Writes the list for what is left.
+fn put_rest(left: &[u8], right: &[u8], rest: Rest, list: &mut [u8], at: usize)
+    requires { ⌜ at + length (restOf (now left) (now right) rest) ≤ length (now list) ⌝ }
+    ensures { λ _. ⌜ now (list .exit) ≡ sets (now (list .entry)) at (restOf (now (left .entry)) (now (right .entry)) rest) ⌝ }
+{
+    let from = rest.from;
+    let end = rest.left;
+    let other = rest.right;
+    if is_pair(left, right, from, end, other) {
+        put_pair(right, from, end, other, list, at);
+        return;
+    }
+    let behind = put_left(left, from, end, from, list, at);
+    put_right(right, from, other, end, list, behind);
+}
+
+// Writes the entry of the roots' OPEN rows.
+fn put_opening(right: &[u8], list: &mut [u8])
+    requires { ⌜ (16 ≤ length (now right)) × (36 ≤ length (now list)) ⌝ }
+    ensures { λ _. ⌜ now (list .exit) ≡ sets (now (list .entry)) 0 (opening (now (right .entry))) ⌝ }
+{
+    put_entry(list, 0, 1, 0, 1, 0, 1);
+    copy(&right[0..16], list, 20);
+}
+
+// The bytes of that entry: none where they are the same.
+fn open_size(same: bool) -> usize
+    ensures { λ r. ⌜ (r ≡ pick same 0 36) × (r ≤ 36) ⌝ }
+{
+    if same { 0 } else { 36 }
+}
+
+// Writes the whole list.
+fn put_list(left: &[u8], right: &[u8], same: bool, rest: Rest, list: &mut [u8])
+    requires { ⌜ (16 ≤ length (now right)) × (length (bothBytes (now left) (now right) same rest) ≤ length (now list)) ⌝ }
+    ensures { λ _. ⌜ now (list .exit) ≡ sets (now (list .entry)) 0 (bothBytes (now (left .entry)) (now (right .entry)) same rest) ⌝ }
+{
+    if same {
+        put_rest(left, right, rest, list, 0);
+        return;
+    }
+    put_opening(right, list);
+    put_rest(left, right, rest, list, 36);
+}
+
+// The list for two forms whose rows these are.
+fn list_rows(left: &[u8], right: &[u8], choice: u32, list: &mut [u8]) -> Answer
+    requires { ⌜ (length (now left) ≤ 65536) × (length (now right) ≤ 65536) × (16 ≤ length (now right)) ⌝ }
+    ensures { λ r. ⌜ (r & now (list .exit)) ≡ rowsT (choiceOf choice) (now (left .entry)) (now (right .entry)) (now (list .entry)) ⌝ }
+{
+    let same = same_row(left, 0, right, 0, choice);
+    let rest = middle(left, right, choice);
+    let size = open_size(same) + rest_size(left, right, rest.from, rest.left, rest.right);
+    if list.len() < size {
+        return Answer::Refused(Refusal {
+            number: ROOM,
+            place: 0,
+        });
+    }
+    put_list(left, right, same, rest, list);
+    Answer::Listed(size as u32)
+}
+
+// The list for two forms.
+fn list_forms(left: &[u8], right: &[u8], choice: u32, list: &mut [u8]) -> Answer
+    requires { ⌜ (8 ≤ length (now left)) × (length (now left) ≤ 65544) × (24 ≤ length (now right)) × (length (now right) ≤ 65544) ⌝ }
+    ensures { λ r. ⌜ (r & now (list .exit)) ≡ rowsT (choiceOf choice) (drop 8 (now (left .entry))) (drop 8 (now (right .entry))) (now (list .entry)) ⌝ }
+{
+    list_rows(&left[HEADER..], &right[HEADER..], choice, list)
+}
+
+// Compares two resolved forms: `list` then holds what differs. Bit 0 of the choice ignores places, bit 1 which fresh name it
+// is. After a refusal nothing is written.
+pub fn compare(left: &[u8], right: &[u8], choice: u32, list: &mut [u8]) -> Answer
+    ensures { λ r. ⌜ (meaning r ≡ mapAnswer bytesOf (listed base (choiceOf choice) (now (left .entry)) (now (right .entry)) (length (now (list .entry))))) × (now (list .exit) ≡ listOutput base (choiceOf choice) (now (left .entry)) (now (right .entry)) (now (list .entry))) ⌝ }
+{
+    match read_claim(left) {
+        Claim::Broken(refusal) => Answer::Refused(refusal),
+        Claim::Whole => match read_claim(right) {
+            Claim::Broken(refusal) => Answer::Refused(refusal),
+            Claim::Whole => list_forms(left, right, choice, list),
+        },
+    }
+}
