@@ -1,5 +1,5 @@
 -- What the code answers and leaves is what the rules say.
-use mathlib.Core.Path.{_≡_, refl, sym, ap, ap₂, _∙_, subst}
+use mathlib.Core.Path.{_≡_, refl, sym, ap, _∙_, subst}
 use mathlib.Core.Bool.{Bool, true, false, _&&_, _||_, not, and-true}
 use mathlib.Core.Logic.{_⊎_, inl, inr}
 use mathlib.Core.Option.{Option}
@@ -9,8 +9,7 @@ use native.Mathlib.Nat.{zero-add}
 use Prim.Native.Nat.{ℕ, zero, suc, _+_, _-_, _*_, _/_, _%_, _≤_, _<_}
 use lib.Dec.{eqb, leb, ltb}
 use lib.ListN.{length, getD, take, drop, replicate, length-append, length-drop, length-replicate}
-use lib.Seq.{sets, sets-eq, length-sets, take-at, length-take-le}
-use borrow.Author.Needs.{needs}
+use lib.Seq.{sets, sets-eq, length-take-le}
 use borrow.Author.Tests.{not-true, not-false, ltb-false, eqb-true}
 use Rattle.kit.specs.Out.{_&_}
 use Rattle.kit.specs.Pick.{pick}
@@ -29,15 +28,14 @@ use Rattle.reader.specs.Readings.{answerOf, readOf}
 use Rattle.mending.specs.Mend
 use Rattle.mending.specs.Mend.{Change, Mending, refused, mended, afters, changes, listBytes, formPieces, sized, mendIn, asksFor, settingFor, mendFor, mend, mendBuffer, bufferAfter, listAfter}
 use Rattle.mend_form.specs.Kept.{keptIn}
-use Rattle.mend_form.specs.Filled.{first, bodyT, headT, formT, mendedIn}
+use Rattle.mend_form.specs.Filled.{first, bodyT, headT, formT}
 use Rattle.mend_form.specs.declared.Kept.{Kept}
-use Rattle.mend_form.proofs.Laws.{body-size}
-use Rattle.mend_form.proofs.Right.{form-right, rows-split}
+use Rattle.mend_form.proofs.Right.{form-right}
 use Rattle.mend.specs.Meaning.{meaning, ruled}
-use Rattle.mend.specs.Listed.{allChanges}
+use Rattle.mend_list.specs.Listed.{allChanges}
 use Rattle.mend.specs.Run.{Ran, refusedT, markedT, inPlace, writeT, readThen, roomT, toT, madeT}
 use Rattle.mend.specs.declared.run.Answer.{Answer}
-use Rattle.mend.proofs.Changes.{long, form-changes}
+use Rattle.mend_list.proofs.Changes.{long, form-changes}
 
 -- ---- the first five bytes
 

@@ -1,5 +1,4 @@
 -- What the contracts cite.
 pub mod Meaning
--- What only the proofs do: the list, and the run, as the code makes them.
-pub mod Listed
+-- What only the proofs do: the run as the code takes it.
 pub mod Run

@@ -1,7 +1,7 @@
 -- The run as the code takes it.
 use mathlib.Core.Bool.{Bool, false, _&&_}
 use mathlib.Core.List.{List}
-use Prim.Native.Nat.{ℕ, _+_, _-_, _*_, _%_}
+use Prim.Native.Nat.{ℕ, _+_, _-_, _%_}
 use lib.Dec.{eqb, leb, ltb}
 use lib.ListN.{length, getD, take, drop, replicate}
 use lib.Seq.{sets}
@@ -13,7 +13,7 @@ use Rattle.reader.specs.declared.read.Reading.the-variants as reading
 use Rattle.mending.specs.Mend.{listBytes}
 use Rattle.mend_form.specs.Kept.{keptIn}
 use Rattle.mend_form.specs.Filled.{formT}
-use Rattle.mend.specs.Listed.{allChanges}
+use Rattle.mend_list.specs.Listed.{allChanges}
 use Rattle.mend.specs.declared.run.Answer.{Answer}
 use Rattle.mend.specs.declared.run.Answer.the-variants.{Mended, Refused}
 

@@ -1,3 +1,2 @@
 // Mends a spoilt form in its own buffer, and lists the changes.
-mod list;
 pub mod run;

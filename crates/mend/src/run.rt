@@ -1,8 +1,8 @@
 // The whole run on a buffer: the mended form is made beside it, and comes into it once nothing can be refused any more.
-use crate::list::list_changes;
 use mend_form::HEADER;
 use mend_form::ROWS;
 use mend_form::mend_into;
+use mend_list::list_changes;
 use reader::read::Reading;
 use reader::read::read;
 use refusal::BROKEN;
@@ -12,16 +12,15 @@ use refusal::ROOM;
 use refusal::ROW_COUNT;
 use refusal::Refusal;
 ghost use mathlib.Core.Path.{_≡_};
-ghost use mathlib.Core.List.{_++_};
 ghost use Prim.Native.Nat.{_+_, _*_, _-_, _≤_, _<_};
-ghost use lib.ListN.{length, take, drop, replicate};
+ghost use lib.ListN.{length, drop, replicate};
 ghost use lib.Seq.{sets};
 ghost use Rattle.kit.specs.Out.{_&_};
 ghost use Rattle.rules.specs.Versions.{base};
 ghost use Rattle.mending.specs.Mend.{listBytes, mendBuffer, bufferAfter, listAfter};
 ghost use Rattle.mend.specs.Meaning.{meaning, ruled};
 ghost use Rattle.mend.specs.Run.{refusedT, markedT, inPlace, writeT, readThen, roomT, toT, madeT};
-ghost use Rattle.mend.specs.Listed.{allChanges};
+ghost use Rattle.mend_list.specs.Listed.{allChanges};
 ghost use Rattle.reader.specs.Readings.{readOf};
 
 pub enum Answer {
@@ -143,7 +142,7 @@ fn mend_to(buffer: &mut [u8], long: usize, list: &mut [u8], form: &[u8], rows: u
     read_and_write(buffer, long, list, form, rows)
 }
 
-// Makes the mended form and lists it, in a run on a form that begins as one does.
+// Makes the mended form of one that begins as a form does. One with no row, or more than a form may have, is refusal 2.
 fn mend_marked(buffer: &mut [u8], long: usize, list: &mut [u8]) -> Answer
     requires { ⌜ (long ≤ length (now buffer)) × (8 ≤ long) ⌝ }
     ensures { λ r. ⌜ (r & now (buffer .exit) & now (list .exit)) ≡ madeT (now (buffer .entry)) long (now (list .entry)) ⌝ }

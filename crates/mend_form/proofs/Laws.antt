@@ -1,19 +1,19 @@
 -- The ways through the code.
-use mathlib.Core.Path.{_≡_, refl, sym, ap, _∙_}
+use mathlib.Core.Path.{_≡_, refl, ap, _∙_}
 use mathlib.Core.Bool.{Bool, true, false}
-use mathlib.Core.List.{List, [], _∷_, _++_}
+use mathlib.Core.List.{List}
 use native.Mathlib.Omega.{arith}
 use native.Mathlib.Nat.{add-zero}
 use native.Mathlib.Numerals.{add-one}
 use Prim.Native.Nat.{ℕ, zero, suc, _+_, _-_, _*_, _/_, _%_, _≤_, _<_}
 use lib.Dec.{eqb, ltb}
-use lib.ListN.{length, getD, set, take, drop, length-append}
+use lib.ListN.{length, getD, set, length-append}
 use lib.Seq.{sets, length-sets}
 use borrow.Author.Needs.{needs}
-use borrow.Author.Tests.{ne-eqb, eq-eqb}
+use borrow.Author.Tests.{ne-eqb}
 use Rattle.kit.specs.Out.{_&_}
 use Rattle.kit.specs.Pick.{pick}
-use Rattle.kit.proofs.Laws.{yes!, no!, tests, left-suc, sets-append}
+use Rattle.kit.proofs.Laws.{tests, left-suc, sets-append}
 use Rattle.rules.specs.Tools.{if_then_else_}
 use Rattle.rules.specs.Rows.{Close, encodeRow}
 use Rattle.rules.specs.Rows

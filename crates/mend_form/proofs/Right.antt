@@ -1,18 +1,18 @@
 -- What the code writes is the mended form of the rules.
 use mathlib.Core.Path.{_≡_, refl, sym, ap, ap₂, _∙_, subst}
-use mathlib.Core.Bool.{Bool, true, false, _||_}
+use mathlib.Core.Bool.{Bool, true, false}
 use mathlib.Core.List.{List, [], _∷_, _++_, append-assoc, append-nil}
 use native.Mathlib.Omega.{arith}
 use native.Mathlib.Nat.{add-zero, zero-add}
 use Prim.Native.Nat.{ℕ, zero, suc, _+_, _-_, _*_, _/_, _%_, _≤_, _<_}
 use lib.Dec.{eqb}
-use lib.ListN.{length, getD, take, drop, length-append, length-take, length-drop, List·getD-eq-default}
+use lib.ListN.{length, getD, take, drop, length-drop, List·getD-eq-default}
 use lib.Seq.{drop-drop, getD-take, getD-drop, length-take-le}
 use Rattle.kit.specs.Pick.{pick}
 use Rattle.kit.proofs.Laws.{tests}
 use Rattle.rules.specs.Tools.{if_then_else_}
 use Rattle.rules.specs.Rows.{value, bytes}
-use Rattle.mending.specs.Mend.{Piece, piece, afters, Fate, stays, zeroed, two-bits, fates, fated, parts, rowPieces, closesRoot, depthAfter, closeRows, allRows, behindHeader, headerPieces, formPieces}
+use Rattle.mending.specs.Mend.{Piece, piece, afters, Fate, stays, fates, fated, parts, rowPieces, closesRoot, depthAfter, closeRows, allRows, behindHeader, headerPieces, formPieces}
 use Rattle.mending.specs.Laws.Pieces.{afters-append}
 use Rattle.mend_form.specs.Kept.{kept, keptT, keptIn}
 use Rattle.mend_form.specs.Filled.{first, partAt, staysT, byteT, rowT, rowsT, bodyT, headT, formT}

@@ -1,6 +1,6 @@
 -- `mend_form::mend_row` meets its contract.
 use mathlib.Core.Path.{_≡_}
-use Prim.Native.Nat.{_+_, _-_, _≤_}
+use Prim.Native.Nat.{_+_, _-_}
 use lib.ListN.{length}
 use lib.Seq.{sets}
 use Rattle.mend_form.specs.Filled.{rowT}
