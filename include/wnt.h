@@ -88,6 +88,28 @@ enum wnt_number {
  * no call's `out` overlaps a buffer of another; they may share a form. */
 uint64_t wnt_resolve(const uint8_t *form, size_t form_len, uint8_t *out, size_t out_len);
 
+/* Mends the form in the first `length` bytes of `buffer`, whose other bytes are room for added rows: a part row is
+ * dropped, rows after the root's CLOSE are cut, missing CLOSE rows are added at the end, the row count is set to the rows
+ * that there are, and what must be zero is zeroed. Nothing else changes. The answer has 0 in its upper half and the number
+ * of changes in the lower, which is 0 for a sound form; or a refusal, and then nothing is written:
+ *
+ *   1        `length` is below 8, or bytes 0 to 4 are not those of a header
+ *   2        `length` is above `buffer_len`, or the mended form would have no row or more than 1023
+ *   3        `buffer` has no room for the mended form, or `list` none for the list
+ *   4, 5     the mended form is still none; the place is a row of it
+ *
+ * Afterwards `buffer` begins with the mended form, whose length its header says. If that is shorter than `length`, zeros
+ * stand up to `length`; bytes behind the longer of the two never change. `list` begins with the changes, in the form's
+ * order, each of three little-endian uint32_t and bytes: the offset in the mended form, how many bytes stood there before,
+ * how many stand there now, and the bytes before, with zeros up to a multiple of four. Taking them back from the first to
+ * the last gives the old bytes. Bytes of `list` behind that never change.
+ *
+ * The two buffers must not overlap, and for the rest what is said of wnt_resolve holds. */
+uint64_t wnt_mend(uint8_t *buffer, size_t buffer_len, size_t length, uint8_t *list, size_t list_len);
+
+/* The answer's lower half after mending: how many changes were made. */
+#define WNT_CHANGES(answer) ((uint32_t)((answer) & 0xffffffffu))
+
 #ifdef __cplusplus
 }
 #endif

@@ -18,8 +18,10 @@
 
 #![warn(missing_docs)]
 
+mod mending;
 mod refusal;
 
+pub use mending::{mend, Change};
 pub use refusal::Refusal;
 
 /// The bytes of a form's header.

@@ -8,7 +8,11 @@ use Rattle.refusal.specs.declared.Refusal.{Refusal}
 use Rattle.resolver.specs.Meaning.{meaning, ruled}
 use Rattle.resolver.specs.declared.run.Answer.{Answer}
 use Rattle.resolver.specs.declared.run.Answer.the-variants.{Accepted, Refused}
-use Rattle.ferhevok.specs.Packed.{packed}
+use Rattle.mending.specs.Mend.{Mending}
+use Rattle.mend.specs.Meaning as mending
+use Rattle.mend.specs.declared.run.Answer as mend
+use Rattle.mend.specs.declared.run.Answer.the-variants as mended
+use Rattle.ferhevok.specs.Packed.{packed, packedMending}
 
 module _ (a : Answer) where
   pub packs-accepted : (n : ℕ) → a ≡ Accepted n → n ≡ packed (meaning a)
@@ -21,3 +25,17 @@ pub ruleset packs = (packs-accepted, packs-refused, needs)
 
 pub packs-ruled : (a : Answer) (x : Ruled) (r : ℕ) → meaning a ≡ ruled x → r ≡ packed (meaning a) → r ≡ packed (ruled x)
 packs-ruled a x r e h = rw e at h
+
+-- ---- of a mending
+
+module _ (a : mend.Answer) where
+  pub packs-mended : (n : ℕ) → a ≡ mended.Mended n → n ≡ packedMending (mending.meaning a)
+  packs-mended n e = rw e (omega arith)
+
+  pub packs-unmended : (r : Refusal) → a ≡ mended.Refused r → r .number * 4294967296 + r .place ≡ packedMending (mending.meaning a)
+  packs-unmended r e = rw e
+
+pub ruleset packs-mending = (packs-mended, packs-unmended, needs)
+
+pub packs-mend : (a : mend.Answer) (x : Mending) (r : ℕ) → mending.meaning a ≡ mending.ruled x → r ≡ packedMending (mending.meaning a) → r ≡ packedMending (mending.ruled x)
+packs-mend a x r e h = rw e at h

@@ -1,0 +1,53 @@
+//! Mending: a form that an old editor spoilt, and the changes that make one of it again.
+
+use crate::{Refusal, MAX_FORM_SIZE};
+
+/// What a mending changed at one place.
+#[derive(Clone, Debug, PartialEq, Eq, Hash)]
+pub struct Change {
+    /// The byte of the mended form at which it begins.
+    pub offset: usize,
+    /// The bytes that stood there before.
+    pub before: Vec<u8>,
+    /// How many bytes stand there now.
+    pub now: usize,
+}
+
+extern "C" {
+    fn wnt_mend(buffer: *mut u8, buffer_len: usize, length: usize, list: *mut u8, list_len: usize) -> u64;
+}
+
+/// The most bytes of a list but for those that a cut takes away: two parts of the header, five of each row, and the cut.
+const MOST_LISTED: usize = 2 * 16 + 1023 * 5 * 16 + 16;
+
+/// Mends a form and gives the mended one with the changes, in its order; a sound form stays, with no change.
+///
+/// Both buffers have the room that is needed, so it is never refused with [`Refusal::Room`].
+pub fn mend(form: &[u8]) -> Result<(Vec<u8>, Vec<Change>), Refusal> {
+    let mut buffer = form.to_vec();
+    buffer.resize(form.len().max(MAX_FORM_SIZE), 0);
+    let mut list = vec![0; MOST_LISTED + form.len()];
+    // SAFETY: both buffers are valid for their lengths while the call lasts, and are borrowed alone.
+    let answer = unsafe { wnt_mend(buffer.as_mut_ptr(), buffer.len(), form.len(), list.as_mut_ptr(), list.len()) };
+    let (number, rest) = ((answer >> 32) as u32, answer as u32);
+    if number > 0 {
+        return Err(Refusal::of(number, rest));
+    }
+    let rows = usize::from(u16::from_le_bytes([buffer[6], buffer[7]]));
+    buffer.truncate(crate::form_size(rows));
+    Ok((buffer, changes(&list, rest as usize)))
+}
+
+/// So many changes, as the list has them.
+fn changes(list: &[u8], count: usize) -> Vec<Change> {
+    let word = |at: usize| u32::from_le_bytes(list[at..at + 4].try_into().expect("four bytes")) as usize;
+    let mut all = Vec::with_capacity(count);
+    let mut at = 0;
+    for _ in 0..count {
+        let (offset, length, now) = (word(at), word(at + 4), word(at + 8));
+        let before = list[at + 12..at + 12 + length].to_vec();
+        all.push(Change { offset, before, now });
+        at += 12 + length.next_multiple_of(4);
+    }
+    all
+}

@@ -1,0 +1,19 @@
+-- `ferhevok::in_place::packed_in` meets its contract.
+use borrow.Author.Needs.{needs}
+use Rattle.ferhevok.proofs.Packs.{packs-mending}
+use Rattle.ferhevok.proofs.in_place.packed_in.Statement.{statement}
+use Rattle.ferhevok.proofs.in_place.packed_in.Tie as tie
+
+pub packed-in-spec : {M : Type 1} → statement M
+packed-in-spec =
+    tie.close
+    (tie.spec
+    (λ c. search needs)  -- enum-known-answer
+    (λ c. search needs)  -- cast-result
+    (λ c. search needs)  -- enum-known-answer-2
+    (λ c. search needs)  -- cast-result-2
+    (λ c. search needs)  -- mul-result
+    (λ c. search needs)  -- cast-result-3
+    (λ c. search needs)  -- add-result
+    (λ c. search packs-mending)  -- returns
+    (λ c. search packs-mending))  -- returns-2
