@@ -2,10 +2,17 @@
 
 unsafe extern "C" {
     fn wnt_resolve(form: *const u8, form_len: usize, out: *mut u8, out_len: usize) -> u64;
+    fn wnt_mend(buffer: *mut u8, buffer_len: usize, length: usize, list: *mut u8, list_len: usize) -> u64;
 }
 
 /// The answer of `wnt_resolve`, which may write into `out`.
 pub fn resolve(form: &[u8], out: &mut [u8]) -> u64 {
     // SAFETY: both parts are valid for their lengths, apart from each other, for as long as the call lasts.
     unsafe { wnt_resolve(form.as_ptr(), form.len(), out.as_mut_ptr(), out.len()) }
+}
+
+/// The answer of `wnt_mend`, which may write into both parts.
+pub fn mend(buffer: &mut [u8], length: usize, list: &mut [u8]) -> u64 {
+    // SAFETY: as above.
+    unsafe { wnt_mend(buffer.as_mut_ptr(), buffer.len(), length, list.as_mut_ptr(), list.len()) }
 }

@@ -8,6 +8,7 @@ mod compare;
 mod damage;
 mod generate;
 mod library;
+mod mend;
 mod oracle;
 mod recognise;
 mod reduce;
@@ -19,6 +20,7 @@ mod samples;
 mod sensitivity;
 mod shapes;
 mod source;
+mod spoil;
 // The crate's files decide what is used of these.
 #[allow(dead_code)]
 mod standins;
@@ -44,7 +46,8 @@ compare --vectors N [--seed S] [--onto FILE] > OTHER
 compare --renaming N [--seed S]                resolve N random forms again with other names, and compare the two
 compare --bench FILE [--repetitions N]         time both sides; the picture goes to FILE as SVG
 compare --shapes FOLDER                        write the benchmark's forms of about 1,000 rows, for a profiler
-compare --samples FOLDER [--forms N]           write accepted random forms and their outputs, for readings.py";
+compare --samples FOLDER [--forms N]           write accepted random forms and their outputs, for readings.py
+compare --mend N [--seed S]                    mend N spoilt forms, and compare with a mender written for it";
 
 /// The value after `--name`, read as a number.
 fn number(arguments: &[String], name: &str) -> Option<u64> {
@@ -131,6 +134,8 @@ fn main() -> ExitCode {
         write_vectors(&arguments, count)
     } else if let Some(forms) = number(&arguments, "--renaming") {
         renaming::run(&comparison(), number(&arguments, "--seed").unwrap_or(1), forms)
+    } else if let Some(count) = number(&arguments, "--mend") {
+        spoil::run(number(&arguments, "--seed").unwrap_or(1), count)
     } else if has("--sensitivity") {
         sensitivity(number(&arguments, "--seed").unwrap_or(1))
     } else if arguments.is_empty() || has("--seconds") || has("--forms") || has("--seed") {

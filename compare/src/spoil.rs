@@ -1,0 +1,130 @@
+//! Spoilt forms, and the comparison of the proved mender with that of `mend`.
+
+use crate::chance::Chance;
+use crate::damage::damage;
+use crate::generate;
+use crate::library;
+use crate::mend::{Left, mend};
+use crate::rows::{CLOSE, FIELD, HEADER, OPEN, OUTER, ROW, Row, encode};
+use crate::shapes::Shapes;
+use std::collections::BTreeMap;
+
+/// A buffer, the length of the form in it, and a list's buffer.
+struct Spoilt {
+    buffer: Vec<u8>,
+    long: usize,
+    list: Vec<u8>,
+}
+
+/// Puts a number other than zero into a part, as an old editor does; often one that 01 says is zero.
+fn spoil_part(bytes: &mut [u8], chance: &mut Chance) {
+    let rows = (bytes.len() - HEADER) / ROW;
+    if rows == 0 {
+        return;
+    }
+    let at = HEADER + ROW * chance.below(rows);
+    let (start, end) = chance.pick(&[(1, 2), (2, 4), (4, 8), (8, 12), (12, 16)]);
+    bytes[at + start + chance.below(end - start)] = chance.pick(&[1, 2, 3, 4, 7, 128, 255]);
+}
+
+/// Puts a number into a part that 01 says is zero or of which it keeps two bits, so that the form can be mended.
+fn spoil_zero(row: &mut Row, chance: &mut Chance) {
+    let word = chance.pick(&[0, 1, 2, 19, 65536, u32::MAX]);
+    match row.code {
+        FIELD if row.b != 19 && row.b != 22 && chance.percent(50) => row.e = word as u16,
+        FIELD => (row.x, row.y) = (word, chance.pick(&[0, 5])),
+        OUTER => row.e |= (word as u16) << 2,
+        OPEN => (row.e, row.y, row.z) = (word as u16, chance.pick(&[0, 9]), chance.pick(&[0, 9])),
+        CLOSE => *row = Row::new(CLOSE, word as u8, word as u16, chance.pick(&[0, 9]), word, chance.pick(&[0, 9])),
+        2 => (row.e, row.y) = (word as u16, chance.pick(&[0, 9])),
+        4 | 9 => (row.b, row.e, row.y, row.z) = (word as u8, chance.pick(&[0, 9]), word, chance.pick(&[0, 9])),
+        6 => (row.b, row.e, row.y) = (word as u8, chance.pick(&[0, 9]), word),
+        _ => {}
+    }
+}
+
+/// One way to spoil the bytes of a form.
+fn spoil_bytes(bytes: &mut Vec<u8>, chance: &mut Chance) {
+    if bytes.len() < HEADER {
+        return;
+    }
+    match chance.below(9) {
+        0 => bytes.truncate(chance.below(bytes.len() + 1)),
+        1 => bytes.truncate(bytes.len() - (bytes.len() - HEADER).min(ROW * chance.below(4))),
+        2 => bytes.extend((0..chance.below(40)).map(|_| chance.below(256) as u8).collect::<Vec<u8>>()),
+        3 => bytes.extend(vec![chance.pick(&[0, 7, 8, 255]); ROW * chance.below(4)]),
+        4 => bytes[6 + chance.below(2)] = chance.below(256) as u8,
+        5 => bytes[5] = chance.below(256) as u8,
+        6 => bytes[chance.below(HEADER)] = chance.below(256) as u8,
+        _ => spoil_part(bytes, chance),
+    }
+}
+
+/// The bytes of a form that is spoilt in up to four ways; sometimes a sound one, sometimes none at all.
+fn spoilt_form(shapes: &Shapes, chance: &mut Chance) -> Vec<u8> {
+    let mut rows = generate::form(shapes, chance.next());
+    if chance.percent(60) {
+        for row in &mut rows {
+            if chance.percent(25) {
+                spoil_zero(row, chance);
+            }
+        }
+    }
+    let mut bytes = match chance.below(20) {
+        0 => (0..chance.below(200)).map(|_| chance.below(12) as u8).collect(),
+        1 | 2 => damage(&rows, chance),
+        3 => {
+            // As many rows as a form may have, and a few more or less.
+            let open = Row::new(OPEN, 0, 0, 0, 0, 0);
+            let field = Row::new(FIELD, chance.below(24) as u8, 0, 0, 0, 0);
+            let count = 1018 + chance.below(10);
+            encode(&[vec![open], vec![field; count]].concat())
+        }
+        _ => encode(&rows),
+    };
+    for _ in 0..chance.below(4) {
+        spoil_bytes(&mut bytes, chance);
+    }
+    bytes
+}
+
+/// A spoilt form in a buffer with some room, and a list's buffer that is sometimes short.
+fn spoilt(shapes: &Shapes, chance: &mut Chance) -> Spoilt {
+    let form = spoilt_form(shapes, chance);
+    let room = chance.pick(&[0, 1, 15, 16, 17, 32, 100, 600, 600, 600, 600]);
+    let long = if chance.percent(2) { form.len() + room + chance.below(3) } else { form.len() };
+    let space = if chance.percent(70) { 100_000 } else { chance.pick(&[0, 12, 15, 16, 28, 44, 60, 200]) };
+    let mut buffer = form;
+    buffer.extend((0..room).map(|_| chance.below(256) as u8).collect::<Vec<u8>>());
+    let list = vec![chance.below(256) as u8; space];
+    Spoilt { buffer, long, list }
+}
+
+/// Mends so many spoilt forms on both sides; answers whether both left the same each time.
+pub fn run(seed: u64, count: u64) -> bool {
+    let shapes = Shapes::new();
+    let mut answers: BTreeMap<u64, u64> = BTreeMap::new();
+    for number in 0..count {
+        let mut chance = Chance::new(seed.rotate_left(32) ^ number);
+        let case = spoilt(&shapes, &mut chance);
+        let expected = mend(&shapes, &case.buffer, case.long, &case.list);
+        let mut found = Left { answer: 0, buffer: case.buffer.clone(), list: case.list.clone() };
+        found.answer = library::mend(&mut found.buffer, case.long, &mut found.list);
+        if found != expected {
+            println!("spoilt form {number}: {:#x} and not {:#x}", found.answer, expected.answer);
+            println!("length {}, buffer {:?}", case.long, case.buffer);
+            return false;
+        }
+        let kind = if expected.answer >> 32 > 0 { expected.answer >> 32 } else { expected.answer.min(1) << 8 };
+        *answers.entry(kind).or_default() += 1;
+    }
+    for (kind, times) in &answers {
+        match kind {
+            0 => println!("{times} sound"),
+            256 => println!("{times} mended"),
+            _ => println!("{times} refused {kind}"),
+        }
+    }
+    println!("{count} spoilt forms mended, 0 differences");
+    true
+}
