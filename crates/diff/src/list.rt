@@ -22,7 +22,7 @@ fn entry_size(rows: usize, carried: bool) -> usize
 }
 
 // The bytes of the entries of the fields from one row up to another.
-pub fn fields_size(rows: &[u8], from: usize, to: usize, carried: bool) -> usize
+pub(crate) fn fields_size(rows: &[u8], from: usize, to: usize, carried: bool) -> usize
     requires { ⌜ length (now rows) ≤ 65536 ⌝ }
     ensures { λ r. ⌜ (r ≡ sizeT (now (rows .entry)) carried to from (length (now (rows .entry)) / 16)) × (r ≤ 147456) ⌝ }
 {
@@ -77,7 +77,7 @@ fn put_two(list: &mut [u8], a: usize, v: usize, w: usize)
 }
 
 // Writes the five numbers of an entry: the rows of the left from i, m of them, and those of the right from j, n of them.
-pub fn put_entry(list: &mut [u8], at: usize, kind: usize, i: usize, m: usize, j: usize, n: usize)
+pub(crate) fn put_entry(list: &mut [u8], at: usize, kind: usize, i: usize, m: usize, j: usize, n: usize)
     requires { ⌜ at + 20 ≤ length (now list) ⌝ }
     ensures { λ _. ⌜ now (list .exit) ≡ sets (now (list .entry)) at (entryT kind i m j n) ⌝ }
 {
@@ -87,7 +87,7 @@ pub fn put_entry(list: &mut [u8], at: usize, kind: usize, i: usize, m: usize, j:
 }
 
 // Copies all of these bytes.
-pub fn copy(from: &[u8], list: &mut [u8], at: usize)
+pub(crate) fn copy(from: &[u8], list: &mut [u8], at: usize)
     requires { ⌜ at + length (now from) ≤ length (now list) ⌝ }
     ensures { λ _. ⌜ now (list .exit) ≡ sets (now (list .entry)) at (now (from .entry)) ⌝ }
 {
@@ -99,7 +99,7 @@ pub fn copy(from: &[u8], list: &mut [u8], at: usize)
 }
 
 // Writes an entry for each field of the left from one row up to another; in the right they are missing before row j.
-pub fn put_left(left: &[u8], from: usize, to: usize, j: usize, list: &mut [u8], at: usize) -> usize
+pub(crate) fn put_left(left: &[u8], from: usize, to: usize, j: usize, list: &mut [u8], at: usize) -> usize
     requires { ⌜ at + length (leftT (now left) j to from) ≤ length (now list) ⌝ }
     ensures { λ r. ⌜ (now (list .exit) ≡ sets (now (list .entry)) at (leftT (now (left .entry)) j to from)) × (r ≡ at + length (leftT (now (left .entry)) j to from)) ⌝ }
 {
@@ -130,7 +130,7 @@ fn put_field(right: &[u8], j: usize, end: usize, i: usize, list: &mut [u8], at: 
 }
 
 // Writes an entry for each field of the right from one row up to another; in the left they are missing before row i.
-pub fn put_right(
+pub(crate) fn put_right(
     right: &[u8],
     from: usize,
     to: usize,
@@ -175,7 +175,7 @@ fn field_code(rows: &[u8], i: usize) -> u8
 }
 
 // Whether from this row on a lone field of one code is left of each.
-pub fn is_pair(left: &[u8], right: &[u8], from: usize, end: usize, other: usize) -> bool
+pub(crate) fn is_pair(left: &[u8], right: &[u8], from: usize, end: usize, other: usize) -> bool
     ensures { λ r. ⌜ r ≡ pairT (now (left .entry)) (now (right .entry)) from end other ⌝ }
 {
     if !is_lone(left, from, end) {
