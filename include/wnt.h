@@ -110,6 +110,42 @@ uint64_t wnt_mend(uint8_t *buffer, size_t buffer_len, size_t length, uint8_t *li
 /* The answer's lower half after mending: how many changes were made. */
 #define WNT_CHANGES(answer) ((uint32_t)((answer) & 0xffffffffu))
 
+/* The bits of the choice of wnt_compare. Places (z of every row) do not count; which fresh name it is (those from
+ * 2147483648 up, which inserted fields have) does not count. Higher bits are passed over. */
+#define WNT_IGNORE_PLACES 1u
+#define WNT_IGNORE_FRESH 2u
+
+/* The kinds of an entry of a list. */
+enum wnt_kind {
+    /* The roots' OPEN rows differ. */
+    WNT_OPENING = 1,
+    /* A field of the root is only in the left. */
+    WNT_LEFT_ONLY = 2,
+    /* A field of the root is only in the right. */
+    WNT_RIGHT_ONLY = 3,
+    /* Two lone fields of one code are left over, and differ. */
+    WNT_DIFFERING = 4
+};
+
+/* The bytes of an entry before the right's rows: five little endian numbers of four bytes. They are the kind, the first
+ * row in the left and how many, the first row in the right and how many. Where a side has none its row is the one before
+ * which they are missing, and the count 0. The rows of the right follow, 16 bytes each. */
+#define WNT_ENTRY_SIZE 20
+
+/* The answer's lower half after a comparison: the bytes of the list. */
+#define WNT_LIST_SIZE(answer) ((uint32_t)((answer) & 0xffffffffu))
+
+/* Compares two resolved forms: `list` then holds what differs, entry behind entry, and is as it was beyond them. The
+ * list is empty exactly if the forms are equal as far as the choice lets them count; applied to the left, entry by entry,
+ * it gives the right.
+ *
+ * A resolved form may have names up to 4294967295 and 4092 rows. The left's refusals 1, 2, 4 and 5 come first, then 1 if
+ * the right has another header but for the count, then the right's 2, 4 and 5, then 3 if the list has no room. A refusal
+ * leaves the list as it was. The same holds of buffers and threads as for wnt_resolve; `left` and `right` may overlap or
+ * be the same. */
+uint64_t wnt_compare(const uint8_t *left, size_t left_len, const uint8_t *right, size_t right_len, uint32_t choice,
+                     uint8_t *list, size_t list_len);
+
 #ifdef __cplusplus
 }
 #endif

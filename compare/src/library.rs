@@ -3,6 +3,15 @@
 unsafe extern "C" {
     fn wnt_resolve(form: *const u8, form_len: usize, out: *mut u8, out_len: usize) -> u64;
     fn wnt_mend(buffer: *mut u8, buffer_len: usize, length: usize, list: *mut u8, list_len: usize) -> u64;
+    fn wnt_compare(
+        left: *const u8,
+        left_len: usize,
+        right: *const u8,
+        right_len: usize,
+        choice: u32,
+        list: *mut u8,
+        list_len: usize,
+    ) -> u64;
 }
 
 /// The answer of `wnt_resolve`, which may write into `out`.
@@ -15,4 +24,13 @@ pub fn resolve(form: &[u8], out: &mut [u8]) -> u64 {
 pub fn mend(buffer: &mut [u8], length: usize, list: &mut [u8]) -> u64 {
     // SAFETY: as above.
     unsafe { wnt_mend(buffer.as_mut_ptr(), buffer.len(), length, list.as_mut_ptr(), list.len()) }
+}
+
+/// The answer of `wnt_compare`, which may write into `list`.
+pub fn compare(left: &[u8], right: &[u8], choice: u32, list: &mut [u8]) -> u64 {
+    // SAFETY: the three parts are valid for their lengths, and `list` is apart from the others, for as long as the call
+    // lasts.
+    unsafe {
+        wnt_compare(left.as_ptr(), left.len(), right.as_ptr(), right.len(), choice, list.as_mut_ptr(), list.len())
+    }
 }

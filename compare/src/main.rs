@@ -2,6 +2,7 @@
 
 mod back;
 mod bench;
+mod builds;
 mod cases;
 mod chance;
 mod compare;
@@ -39,6 +40,7 @@ include!(concat!(env!("OUT_DIR"), "/crate_files.rs"));
 
 const USAGE: &str = "\
 compare [--seconds N | --forms N] [--seed S]   compare on forms, for a minute if nothing is said
+compare --builds N [--seed S]                  compare N pairs of builds with a comparison by document 02
 compare --sensitivity [--seed S]               plant changes on both sides and show that each is caught
                                                (built with --features planted)
 compare --vectors N [--seed S] [--onto FILE] > OTHER
@@ -136,6 +138,8 @@ fn main() -> ExitCode {
         renaming::run(&comparison(), number(&arguments, "--seed").unwrap_or(1), forms)
     } else if let Some(count) = number(&arguments, "--mend") {
         spoil::run(number(&arguments, "--seed").unwrap_or(1), count)
+    } else if let Some(pairs) = number(&arguments, "--builds") {
+        builds::run(pairs, number(&arguments, "--seed").unwrap_or(1))
     } else if has("--sensitivity") {
         sensitivity(number(&arguments, "--seed").unwrap_or(1))
     } else if arguments.is_empty() || has("--seconds") || has("--forms") || has("--seed") {

@@ -18,9 +18,11 @@
 
 #![warn(missing_docs)]
 
+mod builds;
 mod mending;
 mod refusal;
 
+pub use builds::{compare, Choice, Entry, Kind};
 pub use mending::{mend, Change};
 pub use refusal::Refusal;
 

@@ -77,7 +77,15 @@ fn put_two(list: &mut [u8], a: usize, v: usize, w: usize)
 }
 
 // Writes the five numbers of an entry: the rows of the left from i, m of them, and those of the right from j, n of them.
-pub(crate) fn put_entry(list: &mut [u8], at: usize, kind: usize, i: usize, m: usize, j: usize, n: usize)
+pub(crate) fn put_entry(
+    list: &mut [u8],
+    at: usize,
+    kind: usize,
+    i: usize,
+    m: usize,
+    j: usize,
+    n: usize,
+)
     requires { ⌜ at + 20 ≤ length (now list) ⌝ }
     ensures { λ _. ⌜ now (list .exit) ≡ sets (now (list .entry)) at (entryT kind i m j n) ⌝ }
 {
@@ -99,7 +107,14 @@ pub(crate) fn copy(from: &[u8], list: &mut [u8], at: usize)
 }
 
 // Writes an entry for each field of the left from one row up to another; in the right they are missing before row j.
-pub(crate) fn put_left(left: &[u8], from: usize, to: usize, j: usize, list: &mut [u8], at: usize) -> usize
+pub(crate) fn put_left(
+    left: &[u8],
+    from: usize,
+    to: usize,
+    j: usize,
+    list: &mut [u8],
+    at: usize,
+) -> usize
     requires { ⌜ at + length (leftT (now left) j to from) ≤ length (now list) ⌝ }
     ensures { λ r. ⌜ (now (list .exit) ≡ sets (now (list .entry)) at (leftT (now (left .entry)) j to from)) × (r ≡ at + length (leftT (now (left .entry)) j to from)) ⌝ }
 {

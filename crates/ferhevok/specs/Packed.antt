@@ -1,6 +1,7 @@
 -- The number that a C function answers: a refusal's number times 2^32 plus its place; on acceptance the number of rows.
 use Prim.Native.Nat.{ℕ, _+_, _*_}
 use Rattle.mend.specs.Meaning as mending
+use Rattle.rules.specs.Answer.{AnswerOf, refused, accepted}
 use Rattle.resolver.specs.Meaning.{Numbers}
 
 abbrev pub packed : Numbers → ℕ
@@ -9,3 +10,8 @@ packed n = n .number * 4294967296 + n .place
 -- the same of a mending: where nothing is refused, the number of changes
 abbrev pub packedMending : mending.Numbers → ℕ
 packedMending n = n .number * 4294967296 + n .place
+
+-- of what answers a number that is not of rows
+abbrev pub packedAnswer : AnswerOf ℕ → ℕ
+packedAnswer (refused number place carried) = number * 4294967296 + place
+packedAnswer (accepted n) = n
