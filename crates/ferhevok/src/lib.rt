@@ -1,6 +1,6 @@
 // What other languages link: the library's C functions, each a thin one over a function of the crates below.
-pub mod in_place;
 pub mod builds;
+pub mod in_place;
 
 use resolver::run::Answer;
 use resolver::run::resolve;
