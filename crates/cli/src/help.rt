@@ -26,6 +26,10 @@ fn say_commands(talk: i32) {
     );
     say(
         talk,
+        b"  wnt mend IN OUT         mend a spoilt form, write OUT whole or not at all, and say each change\n",
+    );
+    say(
+        talk,
         b"  wnt rows FORM           print the rows of a form as a text that can be edited\n",
     );
     say(

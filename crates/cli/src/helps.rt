@@ -80,6 +80,16 @@ fn say_anonymise() {
     );
 }
 
+fn say_mend() {
+    say_topic(
+        b"mend IN OUT",
+        b"Mends a form that an editor has spoilt and writes it to OUT, a file whole or not at all: a\npart row is dropped, rows behind the root's CLOSE are cut, missing CLOSE rows are added, the\nrow count is set, and what must be zero is zeroed. Prints each change with its row and part.\nA sound form is written as it is. What is no form even so is refused, and not written.\n",
+        b"mended or sound, and written",
+        b"refused",
+        b"mend spoilt.wnt mended.wnt",
+    );
+}
+
 fn say_rows() {
     say_topic(
         b"rows FORM",
@@ -122,6 +132,8 @@ fn is_said(word: &[u8]) -> bool {
         say_explain();
     } else if same(word, b"anonymise") {
         say_anonymise();
+    } else if same(word, b"mend") {
+        say_mend();
     } else if same(word, b"rows") {
         say_rows();
     } else if same(word, b"form") {
