@@ -7,12 +7,12 @@ use lib.Dec.{eqb, leb}
 use lib.ListN.{getD}
 use Rattle.kit.specs.Pick.{pick}
 use Rattle.rules.specs.Tools.{only, if_then_else_}
-use Rattle.rules.specs.Versions.{today}
+use Rattle.rules.specs.Versions.{RuleSet, today}
 use Rattle.rules.specs.Shapes.{FIVE, SIX, Part, r, p, out, one, opt, any, variants, options, signature, ascribed, builtinParts, declares, enough}
 
 -- The rules' `parts`, by the space of the field's first DECL and whether it has one.
-unfoldable pub partsBy : (code builtin space : ℕ) (has-decl : Bool) → List Part
-partsBy code builtin space has-decl =
+unfoldable pub partsBy : RuleSet → (code builtin space : ℕ) (has-decl : Bool) → List Part
+partsBy rules code builtin space has-decl =
     getD
     ([]
     ∷ []
@@ -30,10 +30,10 @@ partsBy code builtin space has-decl =
     ∷ (any (p (9 ∷ [])) ∷ [])
     ∷ []
     ∷ []
-    ∷ (opt (p (9 ∷ [])) ∷ opt (r (0 ∷ [])) ∷ [])
+    ∷ (opt (p (rules .heap ∷ [])) ∷ opt (r (0 ∷ [])) ∷ [])
     ∷ []
     ∷ (one (r (9 ∷ [])) ∷ one (r (0 ∷ [])) ∷ options ∷ [])
-    ∷ builtinParts today builtin
+    ∷ builtinParts rules builtin
     ∷ (one (p (8 ∷ [])) ∷ any (r (12 ∷ [])) ∷ [])
     ∷ signature space
     ∷ (if eqb builtin 0 then one (r (space ∷ [])) ∷ [] else ascribed space)
@@ -47,6 +47,6 @@ partsBy code builtin space has-decl =
 unfoldable pub known : ℕ → ℕ
 known space = pick (leb space 12) space 0
 
--- what a field without DECLs wants, if it may be without
+-- what a field without DECLs wants, if it may be without, under any rule set: those with a heap type have a DECL
 unfoldable pub bareParts : (code : ℕ) → Option (List Part)
-bareParts code = only (enough (declares code) 0) (partsBy code 0 0 false)
+bareParts code = only (enough (declares code) 0) (partsBy today code 0 0 false)

@@ -40,7 +40,7 @@ stands n o e = rw (← e) (here (leb 48 n))
     here true = unfold pick in refl
     here false = unfold pick in refl
 
-how-many : length states ≡ 65
+how-many : length states ≡ 67
 unfolding states
 how-many = refl
 
@@ -49,17 +49,17 @@ unfolding states
 first-state = refl
 
 -- the row of the table is that of the list
-at-row : (n : ℕ) → getD states (pick (ltb n 113) (n - 48) 0) [] ≡ getD states (n - 48) []
+at-row : (n : ℕ) → getD states (pick (ltb n 115) (n - 48) 0) [] ≡ getD states (n - 48) []
 at-row n =
     ⊎-elim (λ h. ap (λ k. getD states k []) (sym (yes! _ (omega tests) refl)))
     (λ h. ap (λ k. getD states k []) (sym (no! _ (omega tests) refl)) ∙ first-state ∙ sym (List·getD-eq-default states [] (let e = how-many in omega arith)))
-    (lt-or-le n 113)
+    (lt-or-le n 115)
 
-row-low : (n : ℕ) → pick (ltb n 113) (n - 48) 0 < 65
-row-low n = here (ltb n 113) refl
+row-low : (n : ℕ) → pick (ltb n 115) (n - 48) 0 < 67
+row-low n = here (ltb n 115) refl
   where
-    here : (t : Bool) → ltb n 113 ≡ t → pick t (n - 48) 0 < 65
-    here true e = let h = ltb-true n 113 e in unfold pick in omega arith
+    here : (t : Bool) → ltb n 115 ≡ t → pick t (n - 48) 0 < 67
+    here true e = let h = ltb-true n 115 e in unfold pick in omega arith
     here false e = unfold pick in omega arith
 
 -- ---- the table
@@ -81,7 +81,7 @@ abbrev asked : (row column : ℕ) → Option (List Part)
 asked row column = after column (getD states row [])
 
 -- ONE LAW OVER THE TABLE: it is right if antt computes each entry to say what it must
-pub table-right : (table : List (List ℕ)) → values (λ k. values (said table k) 0 41) 0 65 ≡ values (λ k. values (asked k) 0 41) 0 65 → Right table
+pub table-right : (table : List (List ℕ)) → values (λ k. values (said table k) 0 41) 0 67 ≡ values (λ k. values (asked k) 0 41) 0 67 → Right table
 unfolding Right entry
 table-right table e left column = ⊎-elim before there (lt-or-le left 48)
   where
@@ -91,6 +91,6 @@ table-right table e left column = ⊎-elim before there (lt-or-le left 48)
     there : 48 ≤ left → leftOf (entry table left column) ≡ (leftOf left then after column)
     there h =
         ⊎-elim
-        (λ f. ap leftOf (sym (no! _ (omega tests) (no! _ (omega tests) refl))) ∙ same-table (said table) asked 65 41 (pick (ltb left 113) (left - 48) 0) column e (row-low left) f ∙ rw (at-row left, left-at left h) (unfold _then_ in refl))
+        (λ f. ap leftOf (sym (no! _ (omega tests) (no! _ (omega tests) refl))) ∙ same-table (said table) asked 67 41 (pick (ltb left 115) (left - 48) 0) column e (row-low left) f ∙ rw (at-row left, left-at left h) (unfold _then_ in refl))
         (λ f. ap leftOf (sym (no! _ (omega tests) (yes! _ (omega tests) refl))) ∙ left-before 46 (omega arith) ∙ nothing-after (leftOf left) (after column) (after-past column f))
         (lt-or-le column 41)

@@ -80,6 +80,8 @@ states =
     ∷ (opt (p (9 ∷ [])) ∷ [])
     ∷ (one (r (9 ∷ [])) ∷ options ∷ [])
     ∷ (opt (r (9 ∷ [])) ∷ [])
+    ∷ (opt (p (4 ∷ [])) ∷ opt (r (0 ∷ [])) ∷ [])
+    ∷ (opt (p (4 ∷ [])) ∷ [])
     ∷ []
 
 -- What a number stands for: nothing below 48, which is the number of a row that does not fit.
@@ -102,7 +104,7 @@ unfoldable pub entry : List (List ℕ) → (left column : ℕ) → ℕ
 entry table left column =
     pick (ltb left 48) 46
     (pick (leb 41 column) 46
-    (getD (getD table (pick (ltb left 113) (left - 48) 0) []) column 0))
+    (getD (getD table (pick (ltb left 115) (left - 48) 0) []) column 0))
 
 -- for a REF: one to the spaces 0 to 6 has at most one PATH
 unfoldable pub refEntry : List (List ℕ) → (left space paths : ℕ) → ℕ

@@ -1,8 +1,8 @@
-// The table of what a field still wants after a row. It stands alone, since antt computes each of its 2,665 entries.
+// The table of what a field still wants after a row. It stands alone, since antt computes each of its 2,747 entries.
 ghost use Rattle.wants.specs.States.{Right};
 
 // What is left, by what was wanted (from NOTHING on) and the row's column.
-const NEXT: [[u8; 41]; 65] = [
+const NEXT: [[u8; 41]; 67] = [
     *b"........................................0",
     *b"00.......................................",
     *b"..00.....................................",
@@ -68,10 +68,12 @@ const NEXT: [[u8; 41]; 65] = [
     *b"..................0.....................n",
     *b"..................hh.....................",
     *b"..................00....................p",
+    *b"00......e...............................q",
+    *b"........0...............................r",
 ];
 
 // The table, for a caller to lend: a constant is written out again wherever it is used.
-pub fn table() -> [[u8; 41]; 65]
+pub fn table() -> [[u8; 41]; 67]
     ensures { λ r. ⌜ Right r ⌝ }
 {
     NEXT
