@@ -30,7 +30,7 @@ module _ (i : ℕ) (l : Limits) where
       here (suc (suc (suc i))) n m = refl
 
 -- no setting has more rows
-few-rows : (i : ℕ) → setting i .version .rows ≤ 16383
+pub few-rows : (i : ℕ) → setting i .version .rows ≤ 16383
 few-rows zero = omega arith
 few-rows (suc zero) = omega arith
 few-rows (suc (suc zero)) = omega arith
