@@ -13,29 +13,15 @@ use Rattle.kit.specs.Pick.{pick}
 use Rattle.kit.specs.Out.{_&_}
 use Rattle.kit.proofs.Laws.{sets-append}
 use Rattle.rules.specs.Laws.ToolLaws.{false-not}
-use Rattle.rules.specs.Tools.{if_then_else_, between, only}
-use Rattle.rules.specs.Versions.{Setting, asClaimed}
-use Rattle.rules.specs.Answer.{hasHeader, rowCount}
 use Rattle.comparing.specs.Compare.{Choice}
-use Rattle.limits.specs.Held.{limitsOf, setting, settingIn}
-use Rattle.limits.proofs.Laws.{stand-claimed}
-use Rattle.limits.specs.declared.Limits.{Limits}
-use Rattle.form.specs.Header.{headerTo, headerIn, headerFor}
-use Rattle.form.specs.declared.header.Header.{Header}
-use Rattle.form.specs.declared.header.Header.the-variants.{Rows, Wrong, Count}
-use Rattle.reader.specs.Readings.{readTo}
-use Rattle.reader.specs.declared.read.Reading.{Reading}
-use Rattle.reader.specs.declared.read.Reading.the-variants as reading
 use Rattle.parts.specs.Apart.{partsAt}
 use Rattle.matched.specs.Counted.{sameT}
 use Rattle.matched.specs.Alike.{fieldEnd, middleT}
 use Rattle.matched.specs.declared.fields.Rest.{Rest}
 use Rattle.diff.specs.Written.{entrySize, sizeT, entryT, fieldsT, leftEntry, leftT, rowsHeld, rightEntry, rightT, loneT, codeT, pairT}
-use Rattle.diff.specs.Run.{refusedT, claimLimits, readT, bodyT, headT, claimT, opening, pairBytes, restBytes, restOf, bothBytes, listT, refusing, rowsT, secondT, firstT, runT}
+use Rattle.diff.specs.Run.{opening, pairBytes, restBytes, restOf, bothBytes, listT, refusing, rowsT}
 use Rattle.diff.specs.declared.run.Answer.{Answer}
 use Rattle.diff.specs.declared.run.Answer.the-variants.{Listed, Refused}
-use Rattle.diff.specs.declared.run.Claim.{Claim}
-use Rattle.diff.specs.declared.run.Claim.the-variants.{Whole, Broken}
 use Rattle.diff.proofs.Ways.{length-entry, length-held, length-right, end-within, fields-long}
 
 -- ---- an entry and its rows
@@ -235,97 +221,6 @@ all-behind l = take-all (length l - 8) (drop 8 l) (omega (arith, length-drop 8 l
 
 pub forms-listed : (c : Choice) (l r list list′ : List ℕ) (a : Answer) → (a & list′) ≡ rowsT c (take (length l - 8) (drop 8 l)) (take (length r - 8) (drop 8 r)) list → (a & list′) ≡ rowsT c (drop 8 l) (drop 8 r) list
 forms-listed c l r list list′ a e = rw (all-behind l, all-behind r) at e
-
--- ---- reading
-
--- the setting that a claim is held to
-abbrev pub held : Setting
-held = asClaimed (setting 0)
-
-pub limits-held : settingIn claimLimits ≡ held
-unfolding claimLimits
-limits-held = stand-claimed 0
-
-only-wrong : (b : Bool) (s : Setting) (form : List ℕ) (n : ℕ) → Rows n ≡ headerFor (only b s) form → (b ≡ true) × (Rows n ≡ headerIn (s .version) form)
-unfolding only headerFor
-only-wrong true s form n e = (refl, e)
-only-wrong false s form n e = let z : _≡_ {A = ℕ} 0 1 = cc in absurd (omega arith)
-
-counted-rows : (b : Bool) (n m : ℕ) → Rows n ≡ (if b then Count else Rows m) → (b ≡ false) × (n ≡ m)
-unfolding if_then_else_
-counted-rows true n m e = let z : _≡_ {A = ℕ} 0 1 = cc in absurd (omega arith)
-counted-rows false n m e = (refl, cc)
-
-either-false : (a b : Bool) → not a || not b ≡ false → (a ≡ true) × (b ≡ true)
-either-false true true e = (refl, refl)
-either-false true false e = (refl, sym e)
-either-false false b e = false-not (sym e)
-
-both-yes : (a b : Bool) → (a && b) ≡ true → (a ≡ true) × (b ≡ true)
-both-yes true b e = (refl, e)
-both-yes false b e = false-not e
-
--- a form whose header says so many rows
-pub record Headed (form : List ℕ) (n : ℕ) : Type 0 where
-  pub headed : hasHeader held form ≡ true
-  pub counted : n ≡ rowCount (held .version) form
-  pub some-rows : 1 ≤ n
-  pub few : n ≤ 4092
-  pub long : length form ≡ 8 + 16 * n
-
-pub header-rows : (form : List ℕ) (n : ℕ) → Rows n ≡ headerTo claimLimits form → Headed form n
-unfolding headerTo headerIn
-header-rows form n e =
-    let a = only-wrong (hasHeader held form) held form n (rw limits-held at e) in
-    let m = rowCount (held .version) form in
-    let b = counted-rows (not (between 1 4092 m) || not (eqb (length form) (8 + 16 * m))) n m (a .1) in
-    let d = either-false (between 1 4092 m) (eqb (length form) (8 + 16 * m)) (b .0) in
-    let f = both-yes (leb 1 m) (leb m 4092) (d .0) in
-    let low = leb-true 1 m (f .0) in
-    let high = leb-true m 4092 (f .1) in
-    let sized = eqb-true (length form) (8 + 16 * m) (d .1) in
-    record { headed = a .0; counted = b .1; some-rows = omega (arith, b .1); few = omega (arith, b .1); long = omega (arith, b .1) }
-
-rows-long : (form : List ℕ) (n : ℕ) → Rows n ≡ headerTo claimLimits form → 8 ≤ length form
-rows-long form n e = let h = header-rows form n e .long in omega arith
-
-module _ (form : List ℕ) (lim : Limits) (is : lim ≡ limitsOf (asClaimed (setting 0))) where
-  module _ (r : Reading) (e : r ≡ readTo lim (take (length form - 8) (drop 8 form))) where
-    reads : r ≡ readTo claimLimits (drop 8 form)
-    unfolding claimLimits
-    reads = rw (is, all-behind form) at e
-
-    pub body-broken : (row : ℕ) (v : Claim) → r ≡ reading.Broken row → v ≡ refusedT 4 (row % 4294967296) → v ≡ bodyT form
-    unfolding bodyT readT
-    body-broken row v q w = rw (← reads, q) w
-
-    pub body-deep : (row : ℕ) (v : Claim) → r ≡ reading.Deep row → v ≡ refusedT 5 (row % 4294967296) → v ≡ bodyT form
-    unfolding bodyT readT
-    body-deep row v q w = rw (← reads, q) w
-
-    pub body-whole : r ≡ reading.Whole → Whole ≡ bodyT form
-    unfolding bodyT readT
-    body-whole q = rw (← reads, q)
-
-  module _ (h : Header) (e : h ≡ headerTo lim form) where
-    heads : h ≡ headerTo claimLimits form
-    unfolding claimLimits
-    heads = rw is at e
-
-    pub head-long : (n : ℕ) → h ≡ Rows n → 8 ≤ length form
-    head-long n q = rows-long form n (sym q ∙ heads)
-
-    pub head-wrong : (v : Claim) → h ≡ Wrong → v ≡ refusedT 1 0 → v ≡ claimT form
-    unfolding claimT headT
-    head-wrong v q w = rw (← heads, q) w
-
-    pub head-count : (v : Claim) → h ≡ Count → v ≡ refusedT 2 0 → v ≡ claimT form
-    unfolding claimT headT
-    head-count v q w = rw (← heads, q) w
-
-    pub head-rows : (n : ℕ) (v : Claim) → h ≡ Rows n → v ≡ bodyT form → v ≡ claimT form
-    unfolding claimT headT
-    head-rows n v q w = rw (← heads, q) w
 
 -- ---- open_size
 

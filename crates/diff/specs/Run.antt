@@ -1,21 +1,18 @@
 -- The whole run as the code takes it.
 use mathlib.Core.Bool.{Bool}
 use mathlib.Core.List.{List, [], _++_}
-use Prim.Native.Nat.{ℕ, _-_, _%_}
+use Prim.Native.Nat.{ℕ, _-_}
 use lib.Dec.{ltb}
 use lib.ListN.{length, drop}
 use lib.Seq.{sets}
 use Rattle.kit.specs.Pick.{pick}
 use Rattle.kit.specs.Out.{Out, _&_}
-use Rattle.rules.specs.Versions.{asClaimed}
-use Rattle.limits.specs.Held.{limitsOf, setting}
-use Rattle.limits.specs.declared.Limits.{Limits}
-use Rattle.form.specs.Header.{headerTo}
-use Rattle.form.specs.declared.header.Header.{Header}
-use Rattle.form.specs.declared.header.Header.the-variants.{Rows, Wrong, Count}
-use Rattle.reader.specs.Readings.{readTo}
-use Rattle.reader.specs.declared.read.Reading.{Reading}
-use Rattle.reader.specs.declared.read.Reading.the-variants as reading
+use Rattle.rules.specs.Versions.{Setting, asClaimed}
+use Rattle.read_form.specs.ReadForm.{readForm}
+use Rattle.limits.specs.Held.{setting}
+use Rattle.whole_form.specs.Whole.{formOf}
+use Rattle.whole_form.specs.declared.read.Form.{Form}
+use Rattle.whole_form.specs.declared.read.Form.the-variants as form
 use Rattle.parts.specs.Apart.{partsAt}
 use Rattle.comparing.specs.Compare.{Choice}
 use Rattle.matched.specs.Counted.{sameT}
@@ -24,32 +21,12 @@ use Rattle.matched.specs.declared.fields.Rest.{Rest}
 use Rattle.diff.specs.Written.{entryT, rowsHeld, leftT, rightT, pairT}
 use Rattle.diff.specs.declared.run.Answer.{Answer}
 use Rattle.diff.specs.declared.run.Answer.the-variants.{Listed, Refused}
-use Rattle.diff.specs.declared.run.Claim.{Claim}
-use Rattle.diff.specs.declared.run.Claim.the-variants.{Whole, Broken}
 
 -- ---- reading
 
-abbrev pub refusedT : (number place : ℕ) → Claim
-refusedT number place = Broken (record { number = number; place = place })
-
-unfoldable pub claimLimits : Limits
-claimLimits = limitsOf (asClaimed (setting 0))
-
-unfoldable pub readT : Reading → Claim
-readT (reading.Broken row) = refusedT 4 (row % 4294967296)
-readT (reading.Deep row) = refusedT 5 (row % 4294967296)
-readT reading.Whole = Whole
-
-unfoldable pub bodyT : List ℕ → Claim
-bodyT form = readT (readTo claimLimits (drop 8 form))
-
-unfoldable pub headT : Header → List ℕ → Claim
-headT Wrong form = refusedT 1 0
-headT Count form = refusedT 2 0
-headT (Rows n) form = bodyT form
-
-unfoldable pub claimT : List ℕ → Claim
-claimT form = headT (headerTo claimLimits form) form
+-- the setting that both forms are held to
+abbrev pub held : Setting
+held = asClaimed (setting 0)
 
 -- ---- the list
 
@@ -86,13 +63,13 @@ unfoldable pub rowsT : Choice → (l r list : List ℕ) → Ran
 rowsT c l r list =
     pick (ltb (length list) (length (listT c l r))) (refusing 3 0 & list) (Listed (length (listT c l r)) & sets list 0 (listT c l r))
 
-unfoldable pub secondT : Claim → Choice → (left right list : List ℕ) → Ran
-secondT (Broken refusal) c left right list = Refused refusal & list
-secondT Whole c left right list = rowsT c (drop 8 left) (drop 8 right) list
+unfoldable pub secondT : Form → Choice → (left right list : List ℕ) → Ran
+secondT (form.Refused refusal) c left right list = Refused refusal & list
+secondT (form.Whole rows) c left right list = rowsT c (drop 8 left) (drop 8 right) list
 
-unfoldable pub firstT : Claim → Choice → (left right list : List ℕ) → Ran
-firstT (Broken refusal) c left right list = Refused refusal & list
-firstT Whole c left right list = secondT (claimT right) c left right list
+unfoldable pub firstT : Form → Choice → (left right list : List ℕ) → Ran
+firstT (form.Refused refusal) c left right list = Refused refusal & list
+firstT (form.Whole rows) c left right list = secondT (formOf (readForm held right)) c left right list
 
 unfoldable pub runT : Choice → (left right list : List ℕ) → Ran
-runT c left right list = firstT (claimT left) c left right list
+runT c left right list = firstT (formOf (readForm held left)) c left right list

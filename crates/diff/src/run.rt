@@ -6,20 +6,13 @@ use crate::list::put_entry;
 use crate::list::put_left;
 use crate::list::put_right;
 use form::header::HEADER;
-use form::header::Header;
-use form::header::header_to;
-use limits::of_claim;
 use matched::fields::Rest;
 use matched::fields::middle;
 use matched::row::same_row;
-use reader::read::Reading;
-use reader::read::read_to;
-use refusal::BROKEN;
-use refusal::DEEP;
-use refusal::NOT_A_FORM;
 use refusal::ROOM;
-use refusal::ROW_COUNT;
 use refusal::Refusal;
+use whole_form::read::Form;
+use whole_form::read::read_claim;
 ghost use mathlib.Core.Path.{_≡_};
 ghost use Prim.Native.Nat.{_+_, _*_, _-_, _/_, _≤_};
 ghost use lib.ListN.{length, drop};
@@ -31,50 +24,12 @@ ghost use Rattle.rules.specs.Answer.{mapAnswer};
 ghost use Rattle.comparing.specs.Compare.{listed, listOutput};
 ghost use Rattle.matched.specs.Counted.{choiceOf};
 ghost use Rattle.diff.specs.Meaning.{meaning, bytesOf};
-ghost use Rattle.diff.specs.Run.{refusedT, bodyT, claimT, opening, pairBytes, restBytes, restOf, bothBytes, rowsT};
+ghost use Rattle.diff.specs.Run.{opening, pairBytes, restBytes, restOf, bothBytes, rowsT};
 
 pub enum Answer {
     // The list has so many bytes.
     Listed(u32),
     Refused(Refusal),
-}
-
-// Whether the bytes are a resolved form.
-pub enum Claim {
-    Whole,
-    Broken(Refusal),
-}
-
-// ---- reading
-
-// A refusal whose number document 01 gives, and its place.
-fn broken(number: u32, place: u32) -> Claim
-    ensures { λ r. ⌜ r ≡ refusedT number place ⌝ }
-{
-    Claim::Broken(Refusal { number, place })
-}
-
-// Whether the rows behind the header are those of a form as an output may be.
-fn read_body(form: &[u8]) -> Claim
-    requires { ⌜ 8 ≤ length (now form) ⌝ }
-    ensures { λ r. ⌜ r ≡ bodyT (now (form .entry)) ⌝ }
-{
-    match read_to(&form[HEADER..], of_claim(0)) {
-        Reading::Broken(row) => broken(BROKEN, (row % 4294967296) as u32),
-        Reading::Deep(row) => broken(DEEP, (row % 4294967296) as u32),
-        Reading::Whole => Claim::Whole,
-    }
-}
-
-// Whether the bytes are a form as an output may be: any name that fits a row, and four times the rows.
-fn read_claim(form: &[u8]) -> Claim
-    ensures { λ r. ⌜ r ≡ claimT (now (form .entry)) ⌝ }
-{
-    match header_to(form, of_claim(0)) {
-        Header::Wrong => broken(NOT_A_FORM, 0),
-        Header::Count => broken(ROW_COUNT, 0),
-        Header::Rows(_) => read_body(form),
-    }
 }
 
 // ---- how long the list is
@@ -180,11 +135,11 @@ fn list_forms(left: &[u8], right: &[u8], choice: u32, list: &mut [u8]) -> Answer
 pub fn compare(left: &[u8], right: &[u8], choice: u32, list: &mut [u8]) -> Answer
     ensures { λ r. ⌜ (meaning r ≡ mapAnswer bytesOf (listed base (choiceOf choice) (now (left .entry)) (now (right .entry)) (length (now (list .entry))))) × (now (list .exit) ≡ listOutput base (choiceOf choice) (now (left .entry)) (now (right .entry)) (now (list .entry))) ⌝ }
 {
-    match read_claim(left) {
-        Claim::Broken(refusal) => Answer::Refused(refusal),
-        Claim::Whole => match read_claim(right) {
-            Claim::Broken(refusal) => Answer::Refused(refusal),
-            Claim::Whole => list_forms(left, right, choice, list),
+    match read_claim(left, 0) {
+        Form::Refused(refusal) => Answer::Refused(refusal),
+        Form::Whole(_) => match read_claim(right, 0) {
+            Form::Refused(refusal) => Answer::Refused(refusal),
+            Form::Whole(_) => list_forms(left, right, choice, list),
         },
     }
 }

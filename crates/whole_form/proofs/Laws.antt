@@ -83,7 +83,7 @@ module _ (input : List ℕ) where
 -- ---- a form by itself
 
 -- a refusal carries nothing more
-abbrev Plain : AnswerOf Scope → Type 0
+abbrev pub Plain : AnswerOf Scope → Type 0
 Plain (refused number place carried) = carried ≡ []
 Plain (accepted t) = Unit {0}
 
@@ -93,7 +93,7 @@ reading-plain (bad p) = refl
 reading-plain (deep p) = refl
 reading-plain (form t) = tt
 
-form-plain : (s : Setting) (input : List ℕ) → Plain (readForm s input)
+pub form-plain : (s : Setting) (input : List ℕ) → Plain (readForm s input)
 unfolding readForm
 form-plain s input =
     if-both Plain (not (hasHeader s input)) (refused 1 0 []) _ refl
