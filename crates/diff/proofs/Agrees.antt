@@ -1,28 +1,27 @@
 -- What the code answers and leaves is what the rules say.
-use mathlib.Core.Path.{_≡_, refl, sym, ap, ap₂, _∙_}
-use mathlib.Core.Bool.{Bool, true, false, _&&_, _||_, not}
-use mathlib.Core.Option.{Option, none, some}
-use mathlib.Core.List.{List, [], _∷_, _++_, map, append-nil}
-use Prim.Native.Nat.{ℕ, suc, _+_, _*_, _/_, _%_, _<_, _≤_}
+use mathlib.Core.Path.{_≡_, refl, sym, ap, _∙_}
+use mathlib.Core.Bool.{Bool, true, false}
+use mathlib.Core.Option.{none, some}
+use mathlib.Core.List.{List, [], _∷_, append-nil}
+use Prim.Native.Nat.{ℕ, suc, _+_, _*_, _/_, _<_, _≤_}
 use native.Mathlib.Omega.{arith}
-use lib.Dec.{eqb, leb, ltb}
+use lib.Dec.{leb, ltb}
 use lib.ListN.{length, getD, drop, length-drop, length-map}
 use lib.Seq.{sets, sets-eq, drop-at}
 use mir.Syntax.{w8}
 use mir.Val.{Fits}
-use borrow.Author.Needs.{needs}
 use borrow.Author.Tests.{ltb-false, eqb-true, leb-true}
 use Rattle.kit.specs.Pick.{pick}
 use Rattle.kit.specs.Out.{Out, _&_}
 use Rattle.rules.specs.Tools.{if_then_else_, between, only, _orElse_}
-use Rattle.rules.specs.Versions.{Setting, version1, today, base, asClaimed}
-use Rattle.rules.specs.Rows.{Row, bytes}
+use Rattle.rules.specs.Versions.{Setting, version1, today, base}
+use Rattle.rules.specs.Rows.{bytes}
 use Rattle.rules.specs.Tree.{Scope, flatten}
-use Rattle.rules.specs.Answer.{AnswerOf, refused, accepted, mapAnswer, mark, hasHeader, settingOf, rowCount, rowsOf, rowsIn, rowsBytes, headerBytes, formBytes}
+use Rattle.rules.specs.Answer.{AnswerOf, refused, accepted, mapAnswer, mark, hasHeader, settingOf, rowCount, rowsBytes, headerBytes, formBytes}
 use Rattle.rules.specs.Laws.ToolLaws.{done, _&_ as _also_, and-left, and-right}
 use Rattle.rules.specs.Laws.RowLaws.{Bytes}
 use Rattle.rules.specs.Laws.Reading.BeginsWritten.{rows-length}
-use Rattle.read_form.specs.ReadForm.{_andThen_, asAnswer, readForm}
+use Rattle.read_form.specs.ReadForm.{_andThen_, readForm}
 use Rattle.read_form.specs.Laws.ReadFormLaws.{ReadAs, read-exactly}
 use Rattle.comparing.specs.Compare.{Choice, Entry, differences, bothRead, compared, listBytes, listed, listAfter, listOutput}
 use Rattle.comparing.specs.Laws.WrittenAgain.{form-bytes}

@@ -1,14 +1,13 @@
 -- The list written in its parts, and the run.
-use mathlib.Core.Path.{_≡_, refl, sym, ap, ap₂, _∙_}
-use mathlib.Core.Bool.{Bool, true, false, _&&_, _||_, not}
-use mathlib.Core.List.{List, [], _∷_, _++_}
-use Prim.Native.Nat.{ℕ, zero, suc, _+_, _-_, _*_, _/_, _%_, _<_, _≤_}
+use mathlib.Core.Path.{_≡_, refl, sym, ap, _∙_}
+use mathlib.Core.Bool.{Bool, true, false}
+use mathlib.Core.List.{List, [], _++_}
+use Prim.Native.Nat.{ℕ, zero, suc, _+_, _-_, _*_, _/_, _<_, _≤_}
 use native.Mathlib.Omega.{arith}
-use lib.Dec.{eqb, leb, ltb}
+use lib.Dec.{eqb, leb}
 use lib.ListN.{length, take, drop, length-append, length-drop}
 use lib.Seq.{sets, length-sets, take-all}
-use borrow.Author.Needs.{needs}
-use borrow.Author.Tests.{lt-ltb, le-ltb, lt-leb, le-leb, leb-true, leb-false, eqb-true}
+use borrow.Author.Tests.{lt-ltb, le-ltb, lt-leb, leb-false, eqb-true}
 use Rattle.kit.specs.Pick.{pick}
 use Rattle.kit.specs.Out.{_&_}
 use Rattle.kit.proofs.Laws.{sets-append}
@@ -18,10 +17,10 @@ use Rattle.parts.specs.Apart.{partsAt}
 use Rattle.matched.specs.Counted.{sameT}
 use Rattle.matched.specs.Alike.{fieldEnd, middleT}
 use Rattle.matched.specs.declared.fields.Rest.{Rest}
-use Rattle.diff.specs.Written.{entrySize, sizeT, entryT, fieldsT, leftEntry, leftT, rowsHeld, rightEntry, rightT, loneT, codeT, pairT}
+use Rattle.diff.specs.Written.{entrySize, sizeT, entryT, leftEntry, leftT, rowsHeld, rightEntry, rightT, loneT, codeT, pairT}
 use Rattle.diff.specs.Run.{opening, pairBytes, restBytes, restOf, bothBytes, listT, refusing, rowsT}
 use Rattle.diff.specs.declared.run.Answer.{Answer}
-use Rattle.diff.specs.declared.run.Answer.the-variants.{Listed, Refused}
+use Rattle.diff.specs.declared.run.Answer.the-variants.{Listed}
 use Rattle.diff.proofs.Ways.{length-entry, length-held, length-right, end-within, fields-long}
 
 -- ---- an entry and its rows

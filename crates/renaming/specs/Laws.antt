@@ -1,5 +1,3 @@
--- Which setting the header of an input asks for.
-pub mod Settings
 -- The steps on a tree whose names are others.
 pub mod Trees
 -- Its rows are read as that tree.

@@ -1,7 +1,7 @@
 -- What an answer says of the bytes, in the rules' words.
-use mathlib.Core.Path.{_≡_, refl, sym, ap, _∙_, subst}
+use mathlib.Core.Path.{_≡_, refl, sym, _∙_, subst}
 use mathlib.Core.Bool.{Bool, true, false, _||_, not}
-use mathlib.Core.Option.{Option, none, some}
+use mathlib.Core.Option.{none, some}
 use mathlib.Core.List.{List, [], _∷_}
 use native.Mathlib.Omega.{arith}
 use Prim.Native.Nat.{ℕ, suc, _+_, _*_, _<_}
@@ -17,7 +17,6 @@ use Rattle.read_form.specs.ReadForm.{asAnswer, readForm}
 use Rattle.refusal.specs.declared.Refusal.{Refusal}
 use Rattle.limits.specs.Held.{setting}
 use Rattle.form.specs.Header.{headerIn, headerFor}
-use Rattle.form.specs.declared.header.Header.the-variants.{Rows}
 use Rattle.whole_form.specs.Asked.{orNext, askedFrom, askedOf}
 use Rattle.whole_form.specs.Whole.{formOf}
 use Rattle.whole_form.specs.declared.asked.Asked.{Asked}

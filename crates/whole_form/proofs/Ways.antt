@@ -1,12 +1,12 @@
 -- Ways through the settings, and through the reading of a form by itself.
 use mathlib.Core.Path.{_≡_, refl, sym, ap, _∙_}
-use mathlib.Core.Bool.{Bool, true, false, _&&_, _||_, not}
+use mathlib.Core.Bool.{Bool, true, false, _||_, not}
 use mathlib.Core.Option.{Option, some}
-use mathlib.Core.List.{List, [], _∷_, map}
+use mathlib.Core.List.{List, []}
 use native.Mathlib.Omega.{arith}
 use Prim.Native.Nat.{ℕ, _+_, _*_, _-_, _/_, _%_, _≤_, _<_}
 use lib.Dec.{eqb, leb}
-use lib.ListN.{length, getD, take, drop, length-drop, length-map, drop-of-length-le}
+use lib.ListN.{length, take, drop, length-drop, length-map, drop-of-length-le}
 use lib.Seq.{take-all}
 use borrow.Author.Needs.{needs}
 use borrow.Author.Tests.{leb-true, eqb-true}
@@ -14,11 +14,11 @@ use Rattle.kit.proofs.Laws.{drop-next}
 use Rattle.rules.specs.Tools.{if_then_else_, between, only}
 use Rattle.rules.specs.Versions.{Setting, version1, today, all, asClaimed}
 use Rattle.rules.specs.Rows.{Row}
-use Rattle.rules.specs.Tree.{Scope, flatten}
+use Rattle.rules.specs.Tree.{flatten}
 use Rattle.rules.specs.Tree as tree
 use Rattle.rules.specs.Begins.{Right}
 use Rattle.rules.specs.Reader.{read}
-use Rattle.rules.specs.Answer.{AnswerOf, refused, accepted, hasHeader, rowCount, rowsIn}
+use Rattle.rules.specs.Answer.{refused, hasHeader, rowCount, rowsIn}
 use Rattle.rules.specs.Laws.ToolLaws.{false-not, and-left, and-right}
 use Rattle.rules.specs.Laws.Reading.ReadRight.{read-right}
 use Rattle.rules.specs.Laws.Reading.BeginsWritten.{rows-length}

@@ -3,21 +3,10 @@ use mathlib.Core.Path.{_≡_, refl, ap, ap₂, sym, _∙_}
 use mathlib.Core.Bool.{true}
 use mathlib.Core.List.{List, [], _∷_, _++_, map, cons≢nil}
 use Prim.Native.Nat.{ℕ, zero, suc, _/_, _%_}
-use lib.Dec.{eqb}
 use lib.ListN.{getD, drop}
 use Rattle.rules.specs.Rows.{Raw, raw, Index, Num, Id, Row, Field, Decl, Ref, Path, Outer, Case, Open, Close, Export, encode, flag, number}
-use Rattle.rules.specs.Answer.{sameNumbers}
 use Rattle.comparing.specs.Compare.{Choice, blur, sixParts, rowsParts, same}
-use Rattle.rules.specs.Laws.ToolLaws.{and-left, and-right, eqb-true, false-not}
-use Rattle.read_form.specs.Laws.ReadFormLaws.{numbers-same}
-
-pub numbers-equal : (a b : List ℕ) → sameNumbers a b ≡ true → a ≡ b
-unfolding sameNumbers
-numbers-equal [] [] e = refl
-numbers-equal [] (y ∷ b) e = false-not e
-numbers-equal (x ∷ a) [] e = false-not e
-numbers-equal (x ∷ a) (y ∷ b) e =
-    ap₂ (λ (n : ℕ) (l : List ℕ). n ∷ l) (eqb-true x y (and-left (eqb x y) (sameNumbers a b) e)) (numbers-equal a b (and-right (eqb x y) (sameNumbers a b) e))
+use Rattle.headers.specs.Laws.Written.{numbers-same, numbers-equal}
 
 -- ---- six parts say at most one row
 

@@ -3,20 +3,20 @@ use mathlib.Core.Path.{_≡_, refl, ap, sym, _∙_, subst}
 use mathlib.Core.Bool.{Bool, true, false, _&&_, _||_, not}
 use mathlib.Core.Option.{some}
 use mathlib.Core.Logic.{_↔_}
-use mathlib.Core.List.{List, [], _∷_, _++_, map, append-assoc, append-nil}
-use Prim.Native.Nat.{ℕ, zero, suc, _+_, _*_, _-_, _^_, _≤_, _<_}
+use mathlib.Core.List.{List, [], _∷_, map, append-nil}
+use Prim.Native.Nat.{ℕ, _+_, _*_, _^_, _≤_, _<_}
 use native.Mathlib.Omega.{arith}
 use lib.Dec.{eqb}
-use lib.ListN.{length, take, drop, replicate, length-append}
-use lib.Seq.{take-at, drop-at}
-use Rattle.rules.specs.Tools.{if_then_else_, between, zeros, only, _orElse_}
+use lib.ListN.{length}
+use Rattle.rules.specs.Tools.{if_then_else_, between, only, _orElse_}
 use Rattle.rules.specs.Versions.{Setting, asClaimed, claimed}
-use Rattle.rules.specs.Rows.{bytes, Row}
+use Rattle.rules.specs.Rows.{Row}
 use Rattle.rules.specs.Tree.{Scope, scope, flatten, Reading, bad, deep, form}
 use Rattle.rules.specs.Good.{height}
 use Rattle.rules.specs.Begins.{IsForm, Bad, Deep}
 use Rattle.rules.specs.Reader.{read}
-use Rattle.rules.specs.Answer.{AnswerOf, refused, accepted, mark, sameNumbers, hasHeader, settingOf, rowCount, rowsIn, formIn, rowsBytes, headerBytes, formBytes}
+use Rattle.rules.specs.Answer.{AnswerOf, refused, accepted, mark, hasHeader, settingOf, rowCount, rowsIn, formIn, rowsBytes, formBytes}
+use Rattle.headers.specs.Laws.Written.{written-header}
 use Rattle.read_form.specs.ReadForm.{_andThen_, asAnswer, readForm}
 use Rattle.rules.specs.Laws.ToolLaws.{Ok, false-not, eqb-same, leb-true, All, all-map}
 use Rattle.rules.specs.Laws.RowLaws.{Written, legal-wider, Bytes, bytes-drop}
@@ -24,7 +24,7 @@ use Rattle.rules.specs.Laws.Results.{no-option, some-same}
 use Rattle.rules.specs.Laws.Reading.ReadRight.{read-right}
 use Rattle.rules.specs.Laws.Reading.BeginsWritten.{rows-written, all-some}
 use Rattle.rules.specs.Laws.Output.OutFits.{outName}
-use Rattle.rules.specs.Laws.Output.OutBytes.{bytes-length, header-count, header-length, mark-length, out-rows}
+use Rattle.rules.specs.Laws.Output.OutBytes.{header-count, out-rows}
 use Rattle.rules.specs.Laws.Demand3.{Usual, Accepted}
 use Rattle.read_form.specs.Laws.OutputLength.{form-length}
 
@@ -54,7 +54,7 @@ not-true : (b : Bool) → not b ≡ false → b ≡ true
 not-true true e = refl
 not-true false e = false-not (sym e)
 
-neither : (p q : Bool) → not p || not q ≡ false → (p ≡ true) × (q ≡ true)
+pub neither : (p q : Bool) → not p || not q ≡ false → (p ≡ true) × (q ≡ true)
 neither true true e = (refl, refl)
 neither true false e = false-not (sym e)
 neither false q e = false-not (sym e)
@@ -154,38 +154,9 @@ input-read s input room t r headed e q =
 
 -- ---- what is written
 
-pub numbers-same : (a : List ℕ) → sameNumbers a a ≡ true
-unfolding sameNumbers
-numbers-same [] = refl
-numbers-same (x ∷ a) = rw (eqb-same x) (numbers-same a)
-
-zeros-zero : (n : ℕ) → zeros (replicate n 0) ≡ true
-zeros-zero zero = refl
-zeros-zero (suc n) = zeros-zero n
-
 and-both : (a b : Bool) → a ≡ true → b ≡ true → a && b ≡ true
 and-both true b p q = q
 and-both false b p q = p
-
-module _ (s : Setting) (n : ℕ) (rest : List ℕ) (fits : 6 + s .version .counting ≤ s .version .header) where
-  abbrev bs : List ℕ
-  bs = headerBytes s n ++ rest
-
-  header-read : take (s .version .header) bs ≡ headerBytes s n
-  header-read = take-at (headerBytes s n) rest (s .version .header) (header-length s n rest fits)
-
-  -- what is written has the header of its setting
-  written-header : hasHeader s bs ≡ true
-  unfolding hasHeader headerBytes
-  written-header =
-      let c = s .version .counting in
-      let pad : List ℕ = replicate (s .version .header - (6 + c)) 0 in
-      let long : s .version .header ≤ length bs = omega (arith, length-append (headerBytes s n) rest, header-length s n rest fits) in
-      let marked : take 6 bs ≡ mark s = ap (take 6) (append-assoc (mark s) (bytes c n ++ pad) rest) ∙ take-at (mark s) _ 6 (mark-length s n rest) in
-      let size : length (mark s ++ bytes c n) ≡ 6 + c = omega (arith, length-append (mark s) (bytes c n), mark-length s n rest, bytes-length c n) in
-      let padded : drop (6 + c) (take (s .version .header) bs) ≡ pad =
-      ap (drop (6 + c)) (header-read ∙ sym (append-assoc (mark s) (bytes c n) pad)) ∙ drop-at (mark s ++ bytes c n) pad (6 + c) size in
-      and-both _ _ (and-both _ _ (leb-true long) (rw marked (numbers-same (mark s)))) (rw padded (zeros-zero (s .version .header - (6 + c))))
 
 rows-some : (t : Scope) → 1 ≤ length (flatten t)
 unfolding flatten

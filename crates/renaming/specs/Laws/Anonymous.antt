@@ -18,7 +18,7 @@ use Rattle.rules.specs.Laws.ToolLaws.{and-right, eqb-true, leb-le}
 use Rattle.rules.specs.Laws.RowLaws.{Bytes}
 use Rattle.renaming.specs.Renaming.{KeepsOn, renamedRow, renamedRows, renamed, renamedIn, renamedFor, renamedBytes, namesOf, firsts, placeOf, byFirst}
 use Rattle.renaming.specs.Anonymous.{keyIn, afterReading, anonymousIn, anonymousFor, anonymous, anonymousAfter, anonymousOutput}
-use Rattle.renaming.specs.Laws.Settings.{InForce, found-in, headed}
+use Rattle.headers.specs.Laws.Settings.{InForce, found-in, headed}
 use Rattle.renaming.specs.Laws.Bytes.{rows-long}
 use Rattle.renaming.specs.Laws.OwnNames.{counting, in-order}
 use Rattle.renaming.specs.Laws.OfForms.{first-names, names-answer, names-output}

@@ -20,7 +20,7 @@ use Rattle.rules.specs.Answer.{AnswerOf, refused, accepted, mapAnswer, Answer, 
 use Rattle.renaming.specs.Renaming.{Keeps, renamedIndex, renamedRow, renamedPart, renamedRows, renamed, renamedIn, renamedFor, renamedBytes}
 use Rattle.rules.specs.Laws.ToolLaws.{Ok, All, done, _&_, if-ok, and-left, and-right, or-true, eqb-true, eqb-same, leb-true, leb-le, leb-lt}
 use Rattle.rules.specs.Laws.RowLaws.{RawFits, FitsRaw, LegalIndex, Legal, Written, Bytes, bytes-drop, decode-written, row-again, drop-row}
-use Rattle.renaming.specs.Laws.Settings.{part-same, headed, Plain, InForce, found-in, setting-stays}
+use Rattle.headers.specs.Laws.Settings.{part-same, headed, Plain, InForce, found-in, setting-stays}
 use Rattle.renaming.specs.Laws.Trees.{renScope, renEnv, mapR, if-ren, scope-rows, Faithful, renaming}
 use Rattle.renaming.specs.Laws.Reads.{renReading, read-ren}
 

@@ -21,7 +21,7 @@ use Rattle.rules.specs.Laws.RowLaws.{Bytes}
 use Rattle.rules.specs.Laws.Reading.ReadRight.{read-right}
 use Rattle.rules.specs.Laws.Reading.BeginsWritten.{rows-length}
 use Rattle.rules.specs.Laws.Demand3.{Usual, AllUsual, readings}
-use Rattle.renaming.specs.Laws.Settings.{Plain, InForce, found-in}
+use Rattle.headers.specs.Laws.Settings.{Plain, InForce, found-in}
 use Rattle.renaming.specs.Laws.Bytes.{renaming-answer, renaming-buffer, bufferFor}
 use Rattle.renaming.specs.Laws.OwnNames.{InRange, Extended, extend, in-left, in-right, rows-agree, rows-range, by-first-keeps}
 use Rattle.renaming.specs.Laws.OutNames.{RowHas, ScopeHas, scope-from, scope-to, out-has}

@@ -1,18 +1,19 @@
 -- The settings in force: which of them the header of an input asks for.
-use mathlib.Core.Path.{_≡_, refl, ap, ap₂, sym, _∙_}
+use mathlib.Core.Path.{_≡_, refl, ap}
 use mathlib.Core.Bool.{Bool, true, false, _&&_}
-use mathlib.Core.Option.{Option, none, some}
+use mathlib.Core.Option.{some}
 use mathlib.Core.List.{List, [], _∷_, _++_}
 use Prim.Native.Nat.{ℕ, zero, suc, _+_, _*_, _≤_, _<_}
 use native.Mathlib.Omega.{arith}
-use lib.Dec.{eqb, leb}
+use lib.Dec.{leb}
 use lib.ListN.{length, take, drop}
 use Rattle.rules.specs.Tools.{zeros, only, _orElse_}
 use Rattle.rules.specs.Versions.{Setting, topName, base, all}
 use Rattle.rules.specs.Rows.{bytes}
 use Rattle.rules.specs.Answer.{mark, sameNumbers, hasHeader, settingOf}
-use Rattle.rules.specs.Laws.ToolLaws.{and-left, and-right, eqb-true, leb-le}
+use Rattle.rules.specs.Laws.ToolLaws.{leb-le}
 use Rattle.rules.specs.Laws.Demand3.{Usual, base-usual, all-usual}
+use Rattle.headers.specs.Laws.Written.{numbers-equal}
 
 -- a part of a list is the same, whatever follows it
 pub part-same : (j k : ℕ) (xs ys zs : List ℕ) → j + k ≤ length xs → take k (drop j (xs ++ ys)) ≡ take k (drop j (xs ++ zs))
@@ -27,14 +28,6 @@ part-same (suc j) k (x ∷ xs) ys zs h = part-same j k xs ys zs (omega arith)
 middle : (a c : Bool) → a && false && c ≡ false
 middle true c = refl
 middle false c = refl
-
-numbers-same : (a b : List ℕ) → sameNumbers a b ≡ true → a ≡ b
-unfolding sameNumbers
-numbers-same [] [] e = refl
-numbers-same [] (y ∷ b) e = let no-way : _≡_ {A = ℕ} 0 1 = cc in absurd (omega arith)
-numbers-same (x ∷ a) [] e = let no-way : _≡_ {A = ℕ} 0 1 = cc in absurd (omega arith)
-numbers-same (x ∷ a) (y ∷ b) e =
-    ap₂ (λ (n : ℕ) (l : List ℕ). n ∷ l) (eqb-true x y (and-left (eqb x y) (sameNumbers a b) e)) (numbers-same a b (and-right (eqb x y) (sameNumbers a b) e))
 
 -- another mark is another header
 pub other-header : (s : Setting) (input : List ℕ) → sameNumbers (take 6 input) (mark s) ≡ false → hasHeader s input ≡ false
@@ -53,7 +46,7 @@ headed s input e =
     let a = leb (s .version .header) (length input) in
     let m = sameNumbers (take 6 input) (mark s) in
     let z = zeros (drop (6 + s .version .counting) (take (s .version .header) input)) in
-    record { long = leb-le (s .version .header) (length input) (first a m z e); marked = numbers-same (take 6 input) (mark s) (second a m z e) }
+    record { long = leb-le (s .version .header) (length input) (first a m z e); marked = numbers-equal (take 6 input) (mark s) (second a m z e) }
   where
     first : (a m z : Bool) → a && m && z ≡ true → a ≡ true
     first true m z e = refl
@@ -129,3 +122,35 @@ setting-stays (s′ ∷ ss) input other s l e m h = go (hasHeader s′ input) e 
     go false e rec =
         let no-header : hasHeader s′ other ≡ false = other-header s′ other (rw m (apart-from s′ ss input s (l .1) e)) in
         rw no-header (rec e)
+
+-- ---- a setting of the list
+
+pub data Among : Setting → List Setting → Type 0 where
+  here : {s : Setting} {ss : List Setting} → Among s (s ∷ ss)
+  there : {s s′ : Setting} {ss : List Setting} → Among s ss → Among s (s′ ∷ ss)
+
+pub among-plain : (settings : List Setting) (s : Setting) → InForce settings → Among s settings → Plain s
+among-plain settings s l here = l .0
+among-plain settings s l (there a) = among-plain _ s (l .2) a
+
+pub among-apart : (s′ : Setting) (ss : List Setting) (s : Setting) → AllApart s′ ss → Among s ss → sameNumbers (mark s) (mark s′) ≡ false
+among-apart s′ ss s l here = l .0
+among-apart s′ ss s l (there a) = among-apart s′ _ s (l .1) a
+
+pub asked-among : (settings : List Setting) (input : List ℕ) (s : Setting) → settingOf settings input ≡ some s → Among s settings
+unfolding settingOf only _orElse_
+asked-among [] input s e = let no-way : _≡_ {A = ℕ} 0 1 = cc in absurd (omega arith)
+asked-among (s′ ∷ ss) input s e = go (hasHeader s′ input) e (λ e′. asked-among ss input s e′)
+  where
+    go : (b : Bool) → (only b s′ orElse settingOf ss input) ≡ some s → (settingOf ss input ≡ some s → Among s ss) → Among s (s′ ∷ ss)
+    go true e rec = let same : s′ ≡ s = cc in rw (← same) here
+    go false e rec = there (rec e)
+
+-- its header asks for it
+pub setting-is : (settings : List Setting) (input : List ℕ) (s : Setting) → InForce settings → Among s settings → take 6 input ≡ mark s → hasHeader s input ≡ true
+    → settingOf settings input ≡ some s
+unfolding settingOf only _orElse_
+setting-is settings input s l here m h = rw h
+setting-is settings input s l (there {s′ = s′} {ss = ss} a) m h =
+    let no-header : hasHeader s′ input ≡ false = other-header s′ input (rw m (among-apart s′ ss s (l .1) a)) in
+    rw no-header (setting-is ss input s (l .2) a m h)

@@ -1,0 +1,2 @@
+-- What is proved of headers.
+pub mod Laws
