@@ -2,15 +2,12 @@
 use mathlib.Core.Path.{_≡_, refl, sym, ap, _∙_}
 use mathlib.Core.Bool.{Bool, true, false, not}
 use mathlib.Core.Logic.{⊎-elim}
-use mathlib.Core.List.{List, [], _∷_, _++_, append-assoc}
+use mathlib.Core.List.{List, [], _∷_, _++_}
 use Prim.Native.Nat.{ℕ, zero, suc, _+_, _-_, _*_, _/_, _%_, _<_, _≤_}
 use native.Mathlib.Omega.{arith}
-use native.Mathlib.Nat.{add-assoc}
-use native.Mathlib.Numerals.{add-one}
 use lib.Dec.{eqb, leb, ltb}
-use lib.ListN.{length, getD, set, take, drop, length-append, length-drop}
-use lib.Seq.{sets, length-sets, length-take-le, take-suc, take-all}
-use borrow.Author.Needs.{needs}
+use lib.ListN.{length, take, drop, length-append, length-drop}
+use lib.Seq.{sets, length-sets, length-take-le}
 use borrow.Author.Tests.{lt-ltb, le-ltb, le-leb, lt-leb, leb-false}
 use Rattle.kit.specs.Pick.{pick}
 use Rattle.kit.proofs.Laws.{sets-append, pick-has, lt-or-le}
@@ -18,7 +15,7 @@ use Rattle.rules.specs.Rows.{bytes}
 use Rattle.parts.specs.Apart.{partsAt}
 use Rattle.parts.specs.declared.Parts.{Parts}
 use Rattle.matched.specs.Alike.{codeOf, isBehind, depthBehind, endT, endBehind, fieldEnd}
-use Rattle.diff.specs.Written.{entrySize, sizeT, twoT, entryT, fieldsT, leftEntry, leftT, rowsHeld, rightEntry, rightT, loneT, codeT, pairT}
+use Rattle.diff.specs.Written.{entrySize, sizeT, twoT, entryT, fieldsT, leftEntry, rowsHeld, rightEntry, loneT, codeT, pairT}
 
 -- ---- numbers
 
@@ -56,17 +53,6 @@ unfolding entryT
 entry-put l l₁ l₂ l₃ a k i m j n e₁ e₂ e₃ =
     let s : a + 4 + 8 ≡ a + 12 = omega arith in
     sym (sets-append l a (bytes 4 k) (twoT i m ++ twoT j n) ∙ rw (length-number k, ← e₁) (sets-append l₁ (a + 4) (twoT i m) (twoT j n) ∙ rw (length-two i m, ← e₂, s, ← e₃)))
-
--- ---- copy
-
-pub copy-turn : (from l₀ l : List ℕ) (at k : ℕ) → l ≡ sets l₀ at (take k from) → k < length from → set l (at + k) (getD from k 0) ≡ sets l₀ at (take (k + 1) from)
-copy-turn from l₀ l at k e h =
-    let n : length (take k from) ≡ k = length-take-le k from (omega arith) in
-    let next : take (k + 1) from ≡ take k from ++ (getD from k 0 ∷ []) = rw add-one (take-suc from k 0 h) in
-    rw (next, sets-append l₀ at (take k from) (getD from k 0 ∷ []), n, ← e)
-
-pub copy-done : (from l₀ l : List ℕ) (at k : ℕ) → l ≡ sets l₀ at (take k from) → length from ≤ k → l ≡ sets l₀ at from
-copy-done from l₀ l at k e h = rw (take-all k from h) at e
 
 -- ---- where a field ends
 

@@ -1,5 +1,6 @@
 // The entries of a list: how many bytes they take, and their bytes. An entry is five numbers of four bytes, the lower byte
 // first (the kind; the first row and the count in the left; the same in the right), then the right's rows.
+use copy::copy;
 use matched::fields::field_end;
 use parts::parts_at;
 ghost use mathlib.Core.Path.{_≡_};
@@ -92,18 +93,6 @@ pub(crate) fn put_entry(
     put_number(list, at, kind);
     put_two(list, at + 4, i, m);
     put_two(list, at + 12, j, n);
-}
-
-// Copies all of these bytes.
-pub(crate) fn copy(from: &[u8], list: &mut [u8], at: usize)
-    requires { ⌜ at + length (now from) ≤ length (now list) ⌝ }
-    ensures { λ _. ⌜ now (list .exit) ≡ sets (now (list .entry)) at (now (from .entry)) ⌝ }
-{
-    let mut k = 0;
-    while k < from.len() {
-        list[at + k] = from[k];
-        k += 1;
-    }
 }
 
 // Writes an entry for each field of the left from one row up to another; in the right they are missing before row j.

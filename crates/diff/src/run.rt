@@ -1,10 +1,10 @@
 // The whole comparison of two forms: the refusals, then the list.
-use crate::list::copy;
 use crate::list::fields_size;
 use crate::list::is_pair;
 use crate::list::put_entry;
 use crate::list::put_left;
 use crate::list::put_right;
+use copy::copy;
 use form::header::HEADER;
 use matched::fields::Rest;
 use matched::fields::middle;

@@ -1,14 +1,14 @@
 -- The ways through the run.
 use mathlib.Core.Path.{_≡_, refl, sym, ap, _∙_}
 use mathlib.Core.Bool.{Bool, true, false, not}
-use mathlib.Core.List.{List, [], _∷_}
+use mathlib.Core.List.{List, []}
 use native.Mathlib.Omega.{arith}
 use native.Mathlib.Nat.{zero-add}
 use native.Mathlib.Numerals.{add-one}
-use Prim.Native.Nat.{ℕ, zero, suc, _+_, _-_, _*_, _%_, _≤_, _<_}
+use Prim.Native.Nat.{ℕ, _+_, _-_, _*_, _%_, _≤_, _<_}
 use lib.Dec.{leb, ltb}
-use lib.ListN.{length, getD, set, take, drop, replicate, length-drop}
-use lib.Seq.{sets, length-take-le, drop-cons, take-all}
+use lib.ListN.{length, set, take, drop, replicate, length-drop}
+use lib.Seq.{sets, length-take-le, take-all}
 use borrow.Author.Needs.{needs}
 use borrow.Author.Tests.{not-true, not-false, ltb-false}
 use Rattle.kit.specs.Out.{_&_}
@@ -35,26 +35,14 @@ use Rattle.mend.specs.declared.run.Answer.the-variants.{Mended}
 pub fits-first : (l : List ℕ) (n m : ℕ) → n ≤ length l → m ≤ n → m ≤ length (take n l)
 fits-first l n m h g = omega (arith, length-take-le n l h)
 
-drop-end : (k : ℕ) (l : List ℕ) → length l ≤ k → drop k l ≡ []
-drop-end zero [] h = refl
-drop-end zero (x ∷ l) h = absurd (omega arith)
-drop-end (suc k) [] h = refl
-drop-end (suc k) (x ∷ l) h = drop-end k l (omega arith)
-
 module _ (buffer T : List ℕ) (k : ℕ) where
-  pub form-turn : (form : List ℕ) → sets buffer k (drop k form) ≡ T → k < length form → sets (set buffer k (getD form k 0)) (k + 1) (drop (k + 1) form) ≡ T
-  form-turn form inv h = rw add-one (rw (drop-cons form k 0 h) at inv)
-
-  pub form-end : (form : List ℕ) → sets buffer k (drop k form) ≡ T → length form ≤ k → buffer ≡ T
-  form-end form inv h = (rw (drop-end k form h) at inv)
-
   pub zero-turn : {n : ℕ} → sets buffer k (replicate (n - k) 0) ≡ T → k < n → sets (set buffer k 0) (k + 1) (replicate (n - (k + 1)) 0) ≡ T
   zero-turn {n} inv h = rw add-one (rw (left-suc k n h, add-one) at inv)
 
   pub zero-end : {n : ℕ} → sets buffer k (replicate (n - k) 0) ≡ T → n ≤ k → buffer ≡ T
   zero-end {n} inv h = let z : n - k ≡ 0 = omega arith in (rw z at inv)
 
-pub ruleset copy-ways = (form-turn, form-end, zero-turn, zero-end, needs)
+pub ruleset zero-ways = (zero-turn, zero-end, needs)
 
 pub placed : (buffer l₁ l₂ form : List ℕ) (long : ℕ) → l₁ ≡ sets buffer 0 form → l₂ ≡ sets l₁ (length form) (replicate (long - length form) 0) → l₂ ≡ inPlace buffer long form
 unfolding inPlace

@@ -1,4 +1,5 @@
 // The whole run on a buffer: the mended form is made beside it, and comes into it once nothing can be refused any more.
+use copy::copy;
 use mend_form::HEADER;
 use mend_form::ROWS;
 use mend_form::mend_into;
@@ -47,18 +48,6 @@ fn is_marked(form: &[u8]) -> bool
         & ((form[1] == b'N') & ((form[2] == b'T') & ((form[3] == 1) & (form[4] == 0))))
 }
 
-// Copies a form to the front of the buffer.
-fn put_form(buffer: &mut [u8], form: &[u8])
-    requires { ⌜ length (now form) ≤ length (now buffer) ⌝ }
-    ensures { λ _. ⌜ now (buffer .exit) ≡ sets (now (buffer .entry)) 0 (now (form .entry)) ⌝ }
-{
-    let mut k = 0;
-    while k < form.len() {
-        buffer[k] = form[k];
-        k += 1;
-    }
-}
-
 // Zeroes from byte `from` up to byte `end`.
 fn zero(buffer: &mut [u8], from: usize, end: usize)
     requires { ⌜ end ≤ length (now buffer) ⌝ }
@@ -76,7 +65,7 @@ fn put_mended(buffer: &mut [u8], long: usize, form: &[u8])
     requires { ⌜ (length (now form) ≤ length (now buffer)) × (long ≤ length (now buffer)) ⌝ }
     ensures { λ _. ⌜ now (buffer .exit) ≡ inPlace (now (buffer .entry)) long (now (form .entry)) ⌝ }
 {
-    put_form(buffer, form);
+    copy(form, buffer, 0);
     zero(buffer, form.len(), long);
 }
 

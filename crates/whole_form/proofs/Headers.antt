@@ -3,13 +3,13 @@ use mathlib.Core.Path.{_≡_, refl, sym, ap, _∙_}
 use mathlib.Core.Bool.{Bool, true, false}
 use mathlib.Core.List.{List, [], _∷_, _++_}
 use native.Mathlib.Omega.{arith}
-use native.Mathlib.Numerals.{add-one}
-use Prim.Native.Nat.{ℕ, zero, suc, _+_, _-_, _/_, _%_, _<_, _≤_}
-use lib.ListN.{length, getD, set, drop, replicate, length-append, length-replicate, drop-of-length-le, List·getD-append}
-use lib.Seq.{sets, drop-cons, getD-append-add}
+use Prim.Native.Nat.{ℕ, _+_, _-_, _/_, _%_, _<_, _≤_}
+use lib.ListN.{length, getD, set, drop, replicate, length-append, length-replicate, List·getD-append}
+use lib.Seq.{sets, getD-append-add}
 use borrow.Author.Needs.{needs}
 use Rattle.kit.specs.Pick.{pick}
 use Rattle.kit.proofs.Laws.{copies-at}
+use Rattle.copy.proofs.Laws.{copy-turn, copy-end}
 use Rattle.rules.specs.Rows.{bytes}
 use Rattle.rules.specs.Answer.{mark, headerBytes}
 use Rattle.rules.specs.Laws.Output.OutBytes.{bytes-length}
@@ -23,12 +23,6 @@ upper-long long n h = rw h
 pub upper-short : (long : Bool) (n : ℕ) → long ≡ false → 0 ≡ pick long (n % 256) 0
 unfolding pick
 upper-short long n h = rw h
-
--- a store past the end
-pub set-past : (l : List ℕ) (i v : ℕ) → length l ≤ i → l ≡ set l i v
-set-past [] i v h = refl
-set-past (x ∷ l) zero v h = absurd (omega arith)
-set-past (x ∷ l) (suc i) v h = ap (λ k. x ∷ k) (set-past l i v (omega arith))
 
 module _ (l : Limits) (n : ℕ) where
   abbrev H : List ℕ
@@ -138,9 +132,9 @@ module _ (l : Limits) (n h b : ℕ) (hs : h ≡ l .header) (bs : b ≡ 6 + pick 
 
 module _ (out T H : List ℕ) (i : ℕ) (inv : sets out i (drop i H) ≡ T) (size : ℕ) (is : size ≡ length H) where
   pub header-end : size ≤ i → out ≡ T
-  header-end h = let past : length H ≤ i = omega arith in rw (drop-of-length-le H past) at inv
+  header-end h = copy-end out H T i i inv (omega arith)
 
-  pub header-turn : i < size → (b : ℕ) → b ≡ getD H i 0 → (out′ : List ℕ) → out′ ≡ set out i b → sets out′ (i + 1) (drop (i + 1) H) ≡ T
-  header-turn h b e out′ q = rw (q, e, add-one) (rw (drop-cons H i 0 (omega arith)) at inv)
+  pub header-turn : i < size → (b : ℕ) → b ≡ getD H i 0 → sets (set out i b) (i + 1) (drop (i + 1) H) ≡ T
+  header-turn h b e = copy-turn out H T i i inv (omega arith) b e
 
 pub ruleset size-ways = (size-behind, size-header, needs)

@@ -3,7 +3,7 @@ use form::header::behind_count;
 use limits::Limits;
 ghost use mathlib.Core.Path.{_≡_};
 ghost use Prim.Native.Nat.{_%_, _≤_, _<_};
-ghost use lib.ListN.{length, getD, set};
+ghost use lib.ListN.{length, getD};
 ghost use lib.Seq.{sets};
 ghost use Rattle.kit.specs.Pick.{pick};
 ghost use Rattle.rules.specs.Answer.{headerBytes};
@@ -72,15 +72,6 @@ fn header_size(limits: Limits, rows: usize) -> usize
     if header < behind { behind } else { header }
 }
 
-// Writes a byte, if there is room for it.
-fn put_byte(out: &mut [u8], at: usize, byte: u8)
-    ensures { λ _. ⌜ now (out .exit) ≡ set (now (out .entry)) at byte ⌝ }
-{
-    if at < out.len() {
-        out[at] = byte;
-    }
-}
-
 // Writes the header of a form of these limits that has so many rows, as far as there is room for it.
 pub fn put_header(out: &mut [u8], limits: Limits, rows: usize)
     ensures { λ _. ⌜ now (out .exit) ≡ sets (now (out .entry)) 0 (headerBytes (settingIn limits) rows) ⌝ }
@@ -88,7 +79,10 @@ pub fn put_header(out: &mut [u8], limits: Limits, rows: usize)
     let size = header_size(limits, rows);
     let mut i = 0;
     while i < size {
-        put_byte(out, i, header_byte(limits, rows, i));
+        if out.len() <= i {
+            return;
+        }
+        out[i] = header_byte(limits, rows, i);
         i += 1;
     }
 }

@@ -3,7 +3,7 @@ use mathlib.Core.Path.{_≡_}
 use Prim.Native.Nat.{_-_}
 use lib.ListN.{length, replicate}
 use lib.Seq.{sets}
-use Rattle.mend.proofs.Laws.{copy-ways}
+use Rattle.mend.proofs.Laws.{zero-ways}
 use Rattle.mend.proofs.run.zero.Statement.{statement}
 use Rattle.mend.proofs.run.zero.Tie as tie
 
@@ -19,10 +19,10 @@ zero-spec =
     (tie.spec
     Inv-loop
     μ-loop
-    (λ c. search copy-ways)  -- loop-holds
-    (λ c. search copy-ways)  -- slice-write-buffer
-    (λ c. search copy-ways)  -- add-k
-    (λ c. search copy-ways)  -- loop-less
-    (λ c. search copy-ways)  -- loop-again
-    (λ c. search copy-ways)  -- same-length
-    (λ c. search copy-ways))  -- returns
+    (λ c. search zero-ways)  -- loop-holds
+    (λ c. search zero-ways)  -- slice-write-buffer
+    (λ c. search zero-ways)  -- add-k
+    (λ c. search zero-ways)  -- loop-less
+    (λ c. search zero-ways)  -- loop-again
+    (λ c. search zero-ways)  -- same-length
+    (λ c. search zero-ways))  -- returns

@@ -3,10 +3,11 @@ use mathlib.Core.Path.{_≡_, refl}
 use Prim.Native.Nat.{_-_}
 use lib.ListN.{length, drop}
 use lib.Seq.{sets}
+use borrow.Author.Needs.{needs}
 use Rattle.rules.specs.Answer.{headerBytes}
 use Rattle.limits.specs.Held.{settingIn}
+use Rattle.copy.proofs.Laws.{copy-full}
 use Rattle.whole_form.proofs.Headers.{header-end, header-turn}
-use borrow.Author.Needs.{needs}
 use Rattle.whole_form.proofs.header.put_header.Statement.{statement}
 use Rattle.whole_form.proofs.header.put_header.Tie as tie
 
@@ -25,10 +26,12 @@ put-header-spec =
     μ-loop
     (λ c κs. search needs)  -- header-size-requires
     (λ c. (refl, refl))  -- loop-holds
+    (λ c. search needs)  -- same-length
+    (λ c. search (copy-full, needs))  -- returns
     (λ c κs. search needs)  -- header-byte-requires
-    (λ c κs. search needs)  -- put-byte-requires
+    (λ c. search needs)  -- slice-write-out
     (λ c. search needs)  -- add-i
     (λ c. search needs)  -- loop-less
     (λ c. (search (header-turn, needs), search needs))  -- loop-again
-    (λ c. search needs)  -- same-length
-    (λ c. search (header-end, needs)))  -- returns
+    (λ c. search needs)  -- same-length-2
+    (λ c. search (header-end, needs)))  -- returns-2
