@@ -94,14 +94,14 @@ pub ruleset put-ways = (moved-put, apart-put, noted-moved, noted-apart, noted-no
 
 -- ---- the rows
 
-moved-append : (es fs : List Entry) → movedOf (es ++ fs) ≡ movedOf es ++ movedOf fs
+pub moved-append : (es fs : List Entry) → movedOf (es ++ fs) ≡ movedOf es ++ movedOf fs
 unfolding movedOf
 moved-append [] fs = refl
 moved-append (Moved z space meant gets ∷ es) fs = ap (λ (l : List MovedNumber). movedNumber z space meant gets ∷ l) (moved-append es fs)
 moved-append (Apart z space number ∷ es) fs = moved-append es fs
 moved-append (Nothing ∷ es) fs = moved-append es fs
 
-apart-append : (es fs : List Entry) → apartOf (es ++ fs) ≡ apartOf es ++ apartOf fs
+pub apart-append : (es fs : List Entry) → apartOf (es ++ fs) ≡ apartOf es ++ apartOf fs
 unfolding apartOf
 apart-append [] fs = refl
 apart-append (Moved z space meant gets ∷ es) fs = apart-append es fs

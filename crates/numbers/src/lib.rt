@@ -42,10 +42,10 @@ pub enum Entry {
 }
 
 // A number: the place of its row, the space in which it is counted.
-struct Number {
-    z: u32,
-    space: u8,
-    number: u32,
+pub struct Number {
+    pub z: u32,
+    pub space: u8,
+    pub number: u32,
 }
 
 // Whether a row has a number: a REF that is one, or an OUTER whose index is one.
