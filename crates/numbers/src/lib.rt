@@ -62,7 +62,8 @@ fn number_at(form: &[u8], row: u16) -> Number
     ensures { λ r. ⌜ r ≡ numberAt (now (form .entry)) row ⌝ }
 {
     let z = z_at(form, row);
-    if code_at(form, row) == OUTER {
+    let code = code_at(form, row);
+    if code == OUTER {
         return Number {
             z,
             space: b_at(form, row),
