@@ -12,6 +12,11 @@ use Rattle.mending.specs.Mend.{Mending}
 use Rattle.mend.specs.Meaning as mending
 use Rattle.mend.specs.declared.run.Answer as mend
 use Rattle.mend.specs.declared.run.Answer.the-variants as mended
+use Rattle.moving.specs.MovedAnswer.{MovedAnswer}
+use Rattle.moved_list.specs.declared.Listed.{Listed}
+use Rattle.moved.specs.Meaning as moved
+use Rattle.moved.specs.declared.run.Answer as moves
+use Rattle.moved.specs.declared.run.Answer.the-variants as moving
 use Rattle.ferhevok.specs.Packed.{packed, packedMending}
 
 module _ (a : Answer) where
@@ -39,3 +44,17 @@ pub ruleset packs-mending = (packs-mended, packs-unmended, needs)
 
 pub packs-mend : (a : mend.Answer) (x : Mending) (r : ℕ) → mending.meaning a ≡ mending.ruled x → r ≡ packedMending (mending.meaning a) → r ≡ packedMending (mending.ruled x)
 packs-mend a x r e h = rw e at h
+
+-- ---- of moved numbers
+
+module _ (a : moves.Answer) where
+  pub packs-listed : (n : Listed) → a ≡ moving.Listed n → n .apart * 65536 + n .moved ≡ packed (moved.meaning a)
+  packs-listed n e = rw e (omega arith)
+
+  pub packs-unlisted : (r : Refusal) → a ≡ moving.Refused r → r .number * 4294967296 + r .place ≡ packed (moved.meaning a)
+  packs-unlisted r e = rw e
+
+pub ruleset packs-lists = (packs-listed, packs-unlisted, needs)
+
+pub packs-moved : (a : moves.Answer) (x : MovedAnswer) (r : ℕ) → moved.meaning a ≡ moved.ruled x → r ≡ packed (moved.meaning a) → r ≡ packed (moved.ruled x)
+packs-moved a x r e h = rw e at h

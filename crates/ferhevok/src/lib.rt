@@ -1,6 +1,7 @@
 // What other languages link: the library's C functions, each a thin one over a function of the crates below.
 pub mod builds;
 pub mod in_place;
+pub mod numbers;
 
 use resolver::run::Answer;
 use resolver::run::resolve;

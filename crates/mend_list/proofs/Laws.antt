@@ -15,33 +15,13 @@ use Rattle.kit.specs.Out.{Out, _&_}
 use Rattle.kit.specs.Pick.{pick}
 use Rattle.kit.proofs.Laws.{tests, left-suc, sets-append, drop-next}
 use Rattle.rules.specs.Rows.{bytes}
+use Rattle.stores.proofs.Laws.{set-past, length-word}
 use Rattle.rules.specs.Answer.{sameNumbers}
 use Rattle.mending.specs.Mend.{Change, changeBytes, listBytes}
 use Rattle.mend_list.specs.Listed.{listed, none, noted, change, pieceChanges, widthT, rowChanges, rowsChanges, headChanges, allChanges, changesIn}
 use Rattle.mend_list.specs.declared.Listed.{Listed}
 
 -- ---- stores
-
--- a store past the end changes nothing
-pub set-past : (l : List ℕ) (i v : ℕ) → length l ≤ i → l ≡ set l i v
-set-past [] i v h = refl
-set-past (x ∷ l) zero v h = absurd (omega arith)
-set-past (x ∷ l) (suc i) v h = ap (λ (m : List ℕ). x ∷ m) (set-past l i v (omega arith))
-
-pub half-put : (l l₁ l₂ : List ℕ) (i v : ℕ) → l₁ ≡ set l i (v % 256) → l₂ ≡ set l₁ (i + 1) (v / 256 % 256) → l₂ ≡ sets l i (bytes 2 v)
-unfolding bytes
-half-put l l₁ l₂ i v e₁ e₂ = rw (e₂, e₁, add-one)
-
-two-halves : (v : ℕ) → bytes 4 v ≡ bytes 2 v ++ bytes 2 (v / 65536)
-unfolding bytes
-two-halves v =
-    let p : v / 256 / 256 ≡ v / 65536 = omega arith in
-    rw p
-
-pub word-put : (l l₁ l₂ : List ℕ) (i v : ℕ) → l₁ ≡ sets l i (bytes 2 v) → l₂ ≡ sets l₁ (i + 2) (bytes 2 (v / 65536)) → l₂ ≡ sets l i (bytes 4 v)
-word-put l l₁ l₂ i v e₁ e₂ =
-    let p : i + 2 ≡ i + length (bytes 2 v) = unfold bytes in refl in
-    rw (e₂, e₁, p) (sym (sets-append l i (bytes 2 v) (bytes 2 (v / 65536))) ∙ ap (sets l i) (sym (two-halves v)))
 
 module _ (list T : List ℕ) (to k n : ℕ) where
   pub bytes-turn : (old l : List ℕ) (from : ℕ) → sets list (to + k) (take (n - k) (drop (from + k) old)) ≡ T → k < n → from + n ≤ length old → l ≡ set list (to + k) (getD old (from + k) 0)
@@ -71,10 +51,6 @@ zeros-start list to n = let z : n - 0 ≡ n = omega arith in rw (z, add-zero)
 pub ruleset put-ways = (set-past, bytes-turn, bytes-end, zeros-turn, zeros-end, bytes-start, zeros-start, needs)
 
 -- ---- a change
-
-length-word : (v : ℕ) → length (bytes 4 v) ≡ 4
-unfolding bytes
-length-word v = refl
 
 pub words-put : (l l₁ l₂ l₃ : List ℕ) (i u v w : ℕ) → l₁ ≡ sets l i (bytes 4 u) → l₂ ≡ sets l₁ (i + 4) (bytes 4 v) → l₃ ≡ sets l₂ (i + 8) (bytes 4 w) → l₃ ≡ sets l i (bytes 4 u ++ (bytes 4 v ++ bytes 4 w))
 words-put l l₁ l₂ l₃ i u v w e₁ e₂ e₃ =

@@ -1,5 +1,6 @@
 // The list of changes: each with its byte offset, how many bytes stood there and how many stand there now, and the bytes before.
 // What lies past the end of the list's buffer is counted and not stored, so that a buffer too small tells how long the list is.
+use stores::put_word;
 ghost use mathlib.Core.Path.{_≡_};
 ghost use mathlib.Core.List.{_++_};
 ghost use Prim.Native.Nat.{_+_, _*_, _-_, _/_, _%_, _≤_, _<_};
@@ -27,24 +28,6 @@ fn put_byte(list: &mut [u8], i: usize, byte: u8)
         return;
     }
     list[i] = byte;
-}
-
-// The lowest sixteen bits of a number in two bytes.
-fn put_half(list: &mut [u8], i: usize, v: usize)
-    requires { ⌜ i + 2 < 18446744073709551616 ⌝ }
-    ensures { λ _. ⌜ now (list .exit) ≡ sets (now (list .entry)) i (bytes 2 v) ⌝ }
-{
-    put_byte(list, i, (v % 256) as u8);
-    put_byte(list, i + 1, (v / 256 % 256) as u8);
-}
-
-// The lowest 32 bits of a number in four bytes.
-fn put_word(list: &mut [u8], i: usize, v: usize)
-    requires { ⌜ i + 4 < 18446744073709551616 ⌝ }
-    ensures { λ _. ⌜ now (list .exit) ≡ sets (now (list .entry)) i (bytes 4 v) ⌝ }
-{
-    put_half(list, i, v);
-    put_half(list, i + 2, v / 65536);
 }
 
 // The n bytes of `old` from `from` on.

@@ -103,7 +103,7 @@ module _ (form : List ℕ) where
       let F = field-of f outer n x S e in
       up-even form v (x .row) 0 a ∙ (ap (λ (r : ℕ). scopeAbove form r 0) (F .is-at) ∙ scope-behind f outer S (F .before) (F .are-even) (F .stand))
 
-  held-stands : (f : Floor) (outer n : ℕ) (x : Placed) (gs : Fields) (way : List ℕ) → Stands form f outer → getElem? (originalsFrom (f .row) (f .level .fields)) n ≡ some x → held (x .item) ≡ some gs
+  pub held-stands : (f : Floor) (outer n : ℕ) (x : Placed) (gs : Fields) (way : List ℕ) → Stands form f outer → getElem? (originalsFrom (f .row) (f .level .fields)) n ≡ some x → held (x .item) ≡ some gs
       → Stands form (floor (level way gs) (insideOf x)) (f .row)
   unfolding flatten headOf held insideOf encode
   held-stands f outer n x gs way S e h = go (x .item) refl h

@@ -25,5 +25,7 @@ pub mod LookedUp
 -- Every REF is the row of a place; which rows are read outward.
 pub mod EveryRow
 pub mod Walked
+-- The rows of an accepted input and its output, in their bytes, under any setting.
+pub mod OnBytes
 -- The sentence on bytes.
 pub mod Sentence

@@ -1,38 +1,31 @@
 -- The sentence on bytes: in an accepted input and its output every walked name means the same declaration, and the readings on the rows of
 -- both say which row that is.
 use mathlib.Core.Path.{_≡_, refl, ap, sym, _∙_, subst}
-use mathlib.Core.Bool.{Bool, true, false, _||_, not}
+use mathlib.Core.Bool.{Bool, true, false}
 use mathlib.Core.Option.{Option, none, some, Option·map}
-use mathlib.Core.List.{List, [], _∷_, _++_, map, append-nil}
-use native.Mathlib.Omega.{arith}
-use Prim.Native.Nat.{ℕ, _+_, _-_, _*_, _/_, _≤_, _^_, _<_}
-use lib.Dec.{eqb, ltb}
-use lib.ListN.{length, drop, getElem?, length-append, length-map}
-use Rattle.kit.specs.Pick.{pick}
-use Rattle.kit.proofs.Laws.{pick-has}
-use Rattle.rules.specs.Tools.{if_then_else_, between, _then_, only, _orElse_}
-use Rattle.rules.specs.Versions.{Setting, base, version1, today, asClaimed}
-use Rattle.rules.specs.Rows.{Row, encode, Raw, raw, rawBytes, bytes, encodeRow}
-use Rattle.rules.specs.Tree.{Operand, Scope, Item, headOf, flatten, form as tree}
+use mathlib.Core.List.{List, [], _∷_}
+use Prim.Native.Nat.{ℕ, _+_, _*_}
+use lib.ListN.{length, getElem?}
+use Rattle.rules.specs.Tools.{_then_, only, _orElse_}
+use Rattle.rules.specs.Versions.{Setting, base, version1, today}
+use Rattle.rules.specs.Rows.{Row}
+use Rattle.rules.specs.Tree.{Operand, Scope, Item, headOf, flatten}
 use Rattle.rules.specs.Good.{GoodScope}
 use Rattle.rules.specs.Answer
-use Rattle.rules.specs.Answer.{AnswerOf, refused, accepted, mapAnswer, answer, answerIn, formIn, output, rowCount, rowsIn, rowsBytes, formBytes, written, settingOf}
+use Rattle.rules.specs.Answer.{accepted, answer, output, formBytes, settingOf}
 use Rattle.rules.specs.Readings
 use Rattle.rules.specs.Readings.{originals, Place, Level, Use, useIn, useInside, useAt, walkedAt}
-use Rattle.rules.specs.Laws.ToolLaws.{then-some, eqb-true}
+use Rattle.rules.specs.Laws.ToolLaws.{then-some}
 use Rattle.rules.specs.Laws.RowLaws.{Bytes}
 use Rattle.rules.specs.Laws.Results.{some-same, no-option}
-use Rattle.rules.specs.Laws.Reading.BeginsWritten.{rows-length}
-use Rattle.rules.specs.Laws.Reading.ReadRight.{read-right}
-use Rattle.rules.specs.Laws.Output.OutBytes.{header-length, out-rows}
-use Rattle.rules.specs.Laws.Demand3.{base-usual, Accepted, readings}
+use Rattle.rules.specs.Laws.Demand3.{base-usual, Accepted}
 use Rattle.places.specs.PlaceRows.{Placed, originalsFrom, Floor, floorsAt, fieldIn, fieldAt, rowOfDecl, rowOfOperand, operandRowAt}
 use Rattle.places.specs.Counting.{levels, originals-from, elem-map, floors-at}
-use Rattle.row_parts.specs.Parts as parts
 use Rattle.readings.specs.Meaning.{readingOf, isOutward, meaningOf, finalMeaning}
-use Rattle.reading_laws.specs.Stand.{rows-stand}
 use Rattle.reading_laws.specs.Outward.{rowMeant}
 use Rattle.reading_laws.specs.Declared.{Declared}
+use Rattle.reading_laws.specs.OnBytes
+use Rattle.reading_laws.specs.OnBytes.{base-within, body}
 use Rattle.reading_laws.specs.Meant.{Rows, around, around-are, outward-found}
 use Rattle.reading_laws.specs.Counted.{counting-row}
 use Rattle.reading_laws.specs.Walked.{walked-row}
@@ -65,31 +58,7 @@ operand-has-row s p u e =
         (sym (elem-map (λ (y : Placed). y .item) (originalsFrom (f .row) (f .level .fields)) (p .field)) ∙ (sym items ∙ s₂ .1)) in
         (_, row-of s p f fs (X .0) (s₃ .0) q (X .1) (ap (λ (i : Item). getElem? (headOf i .operands) (p .at)) (X .2) ∙ s₃ .1))
 
--- ---- bytes
-
--- as many rows as stand behind the header, if there is room for them
-rows-fit : (form : List ℕ) (n : ℕ) → 8 + 16 * n ≤ length form → n ≤ 65535 → n ≤ parts.rowsIn form
-unfolding parts.rowsIn
-rows-fit form n long low = least ((length form - 8) / 16) (omega (arith, long))
-  where
-    least : (m : ℕ) → n ≤ m → n ≤ pick (ltb m 65535) m 65535
-    least m h = pick-has (λ (k : ℕ). n ≤ k) (ltb m 65535) h low
-
-row-length : (r : Row) → length (encodeRow r) ≡ 16
-unfolding encodeRow rawBytes bytes
-row-length r = sixteen (encode r)
-  where
-    sixteen : (parts : Raw) → length (rawBytes parts) ≡ 16
-    sixteen (raw code b e x y z) = refl
-
-bytes-length : (rs : List Row) → length (rowsBytes rs) ≡ 16 * length rs
-unfolding rowsBytes
-bytes-length [] = refl
-bytes-length (r ∷ rs) = omega (arith, length-append (encodeRow r) (rowsBytes rs), row-length r, bytes-length rs)
-
-form-long : (v : Setting) (rs : List Row) → 6 + v .version .counting ≤ v .version .header → length (formBytes v rs) ≡ v .version .header + 16 * length rs
-unfolding formBytes
-form-long v rs h = omega (arith, length-append (Answer.headerBytes v (length rs)) (rowsBytes rs), header-length v (length rs) [] h, bytes-length rs)
+-- ---- the one setting in force
 
 abbrev the-setting : Setting
 the-setting = record { version = version1; rules = today }
@@ -102,45 +71,9 @@ one-setting input v e = go (Answer.hasHeader (the-setting) input) e
     go true e = sym (some-same _ v e)
     go false e = no-option v e
 
--- an accepted input has the length that its header says
-long-enough : (v : Setting) (input : List ℕ) (room : ℕ) (t : Scope) → formIn [] v input room ≡ accepted t → length input ≡ v .version .header + 16 * rowCount (v .version) input
-unfolding formIn if_then_else_
-long-enough v input room t e = go (between 1 (v .version .rows) (rowCount (v .version) input)) (eqb (length input) (v .version .header + 16 * rowCount (v .version) input)) refl _ e
-  where
-    go : (a b : Bool) → eqb (length input) (v .version .header + 16 * rowCount (v .version) input) ≡ b → (rest : AnswerOf Scope) → (if not a || not b then refused 2 0 [] else rest) ≡ accepted t
-        → length input ≡ v .version .header + 16 * rowCount (v .version) input
-    go true true q rest e = eqb-true _ _ q
-    go true false q rest e = let no-way : _≡_ {A = ℕ} 0 1 = cc in absurd (omega arith)
-    go false b q rest e = let no-way : _≡_ {A = ℕ} 0 1 = cc in absurd (omega arith)
-
-input-rows : (input : List ℕ) (s : Scope) (v : Setting) → v ≡ the-setting → map some (flatten s) ≡ rowsIn v input → length input ≡ v .version .header + 16 * rowCount (v .version) input
-    → length (flatten s) ≤ v .version .rows → Rows input s
-input-rows input s v q = subst (λ (v : Setting). map some (flatten s) ≡ rowsIn v input → length input ≡ v .version .header + 16 * rowCount (v .version) input → length (flatten s) ≤ v .version .rows → Rows input s) (sym q) rows
-  where
-    rows : map some (flatten s) ≡ rowsIn (the-setting) input → length input ≡ 8 + 16 * rowCount version1 input → length (flatten s) ≤ 1023 → Rows input s
-    rows e long few =
-        let n = sym (length-map (flatten s) some) ∙ (ap length e ∙ rows-length (version1 .names) (rowCount version1 input) (drop 8 input)) in
-        record { stand = rows-stand input 0 (version1 .names) (rowCount version1 input) (flatten s) (sym e); fit = rows-fit input (length (flatten s)) (omega (arith, n, long)) (omega (arith, few)) }
-
--- the output begins with the form's bytes
-begins : (input old : List ℕ) (v : Setting) (t : Scope) → settingOf base input ≡ some v → formIn [] v input (length old) ≡ accepted t → (rest : List ℕ) × (output base input old ≡ formBytes v (flatten t) ++ rest)
-unfolding output Answer.outputInside Answer.outputFor Answer.outputAfter written answerIn mapAnswer
-begins input old v t e f = (
-  _,
-  ap (λ (o : Option Setting). Answer.outputFor [] o input old) e
-      ∙ ap (λ (x : AnswerOf Scope). Answer.outputAfter v (mapAnswer flatten x) (v .version .header + 64 * rowCount (v .version) input) old) f,
-)
-
-output-rows : (out : List ℕ) (s : Scope) (v : Setting) (rest : List ℕ) → v ≡ the-setting → rowsIn (asClaimed v) out ≡ map some (flatten s) → out ≡ formBytes v (flatten s) ++ rest → length (flatten s) ≤ 4092 → Rows out s
-output-rows out s v rest q =
-    subst (λ (v : Setting). rowsIn (asClaimed v) out ≡ map some (flatten s) → out ≡ formBytes v (flatten s) ++ rest → length (flatten s) ≤ 4092 → Rows out s) (sym q) rows
-  where
-    rows : rowsIn (asClaimed (the-setting)) out ≡ map some (flatten s) → out ≡ formBytes (the-setting) (flatten s) ++ rest
-        → length (flatten s) ≤ 4092 → Rows out s
-    rows e b few =
-        let n = form-long the-setting (flatten s) (omega arith) in
-        let m = ap length b ∙ length-append (formBytes the-setting (flatten s)) rest in
-        record { stand = rows-stand out 0 4294967295 _ (flatten s) e; fit = rows-fit out (length (flatten s)) (omega (arith, n, m)) (omega (arith, few)) }
+-- its header has eight bytes
+whole-body : (bs : List ℕ) (v : Setting) → v ≡ the-setting → body v bs ≡ bs
+whole-body bs v e = ap (λ (u : Setting). body u bs) e
 
 -- ---- the sentence
 
@@ -168,53 +101,30 @@ pub record SameMeaning (input out : List ℕ) (before after : Scope) (p : Place)
 
 module _ (input old : List ℕ) (bs : Bytes input) (out : List Row) (e : answer base input (length old) ≡ accepted out) where
   -- the input's tree and the output's
-  pub trees : Accepted base input old out
-  trees = readings base base-usual input old bs out e
+  abbrev pub trees : Accepted base input old out
+  trees = OnBytes.trees base base-usual base-within input old bs out e
 
   the-one : trees .setting ≡ the-setting
   the-one = one-setting input (trees .setting) (trees .asked-for)
 
-  of-input : map some (flatten (trees .before)) ≡ rowsIn (trees .setting) input
-  of-input = read-right (trees .setting .rules) _ (rowsIn (trees .setting) input) (tree (trees .before)) .0 (trees .reads) .0 .of-tree
-
   pub rows-before : Rows input (trees .before)
-  rows-before =
-      input-rows input (trees .before) (trees .setting) the-one of-input (long-enough (trees .setting) input (length old) (trees .after) (trees .forms)) (trees .few)
+  rows-before = subst (λ (l : List ℕ). Rows l (trees .before)) (whole-body input (trees .setting) the-one) (OnBytes.rows-before base base-usual base-within input old bs out e)
 
   pub rows-after : Rows (output base input old) (trees .after)
-  unfolding output
   rows-after =
-      let B = begins input old (trees .setting) (trees .after) (trees .asked-for) (trees .forms) in
-      let four = trees .four in
-      let counted = trees .counted in
-      let most : trees .setting .version .rows ≡ 1023 = ap (λ (v : Setting). v .version .rows) the-one in
-      let n = ap length (trees .of-tree) in
-      output-rows (output base input old) (trees .after) (trees .setting) (B .0) the-one (trees .rows-out ∙ ap (map some) (sym (trees .of-tree))) (B .1) (omega (arith, four, counted, most, n))
+      subst (λ (l : List ℕ). Rows l (trees .after)) (whole-body (output base input old) (trees .setting) the-one) (OnBytes.rows-after base base-usual base-within input old bs out e)
 
   good-after : GoodScope (trees .setting .rules) (trees .after)
-  good-after = read-right (trees .setting .rules) _ _ (tree (trees .after)) .0 (trees .reads-out) .0 .good
+  good-after = OnBytes.good-after base base-usual base-within input old bs out e
 
   -- the input has its tree's rows and nothing behind them
   just-these : length input ≡ 8 + 16 * length (flatten (trees .before))
-  just-these =
-      let long = long-enough (trees .setting) input (length old) (trees .after) (trees .forms) in
-      let header : trees .setting .version .header ≡ 8 = ap (λ (v : Setting). v .version .header) the-one in
-      let n = sym (length-map (flatten (trees .before)) some) ∙ (ap length of-input ∙ rows-length (trees .setting .version .names) (rowCount (trees .setting .version) input) (drop (trees .setting .version .header) input)) in
-      omega (arith, long, header, n)
+  just-these = ap length (sym (whole-body input (trees .setting) the-one)) ∙ OnBytes.just-these base base-usual base-within input old bs out e
 
   -- the form's bytes alone
   pub rows-of-file : Rows (formBytes (trees .setting) out) (trees .after)
   rows-of-file =
-      let four = trees .four in
-      let counted = trees .counted in
-      let most : trees .setting .version .rows ≡ 1023 = ap (λ (v : Setting). v .version .rows) the-one in
-      let wide : trees .setting .version .counting ≡ 2 = ap (λ (v : Setting). v .version .counting) the-one in
-      let n = ap length (trees .of-tree) in
-      let few : length out < 256 ^ trees .setting .version .counting = subst (λ (c : ℕ). length out < 256 ^ c) (sym wide) (omega (arith, four, counted, most)) in
-      let whole = append-nil (formBytes (trees .setting) out) in
-      let rows = ap (rowsIn (asClaimed (trees .setting))) (sym whole) ∙ out-rows (trees .setting) out [] (trees .usual .header) few (trees .fit) in
-      output-rows (formBytes (trees .setting) out) (trees .after) (trees .setting) [] the-one (rows ∙ ap (map some) (sym (trees .of-tree)))
-      (sym whole ∙ ap (λ (l : List Row). formBytes (trees .setting) l ++ []) (sym (trees .of-tree))) (omega (arith, four, counted, most, n))
+      subst (λ (l : List ℕ). Rows l (trees .after)) (whole-body (formBytes (trees .setting) out) (trees .setting) the-one) (OnBytes.rows-of-file base base-usual base-within input old bs out e)
 
   -- in any bytes in which the output's rows stand
   module _ (written-bytes : List ℕ) (R : Rows written-bytes (trees .after)) where

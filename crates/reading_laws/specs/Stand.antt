@@ -40,6 +40,9 @@ xPart (raw code b e x y z) = x
 abbrev pub yPart : Raw → ℕ
 yPart (raw code b e x y z) = y
 
+abbrev pub zPart : Raw → ℕ
+zPart (raw code b e x y z) = z
+
 -- ---- rows
 
 abbrev pub At : (form : List ℕ) (row : ℕ) → List Row → Type 0

@@ -115,7 +115,7 @@ fn outward(form: &[u8], row: u16, space: u8, name: u32) -> Meaning
 }
 
 // The outer scope of an OUTER.
-fn outer_wanted(e: u32, x: u32) -> Wanted
+pub fn outer_wanted(e: u32, x: u32) -> Wanted
     ensures { λ r. ⌜ r ≡ outerWanted e x ⌝ }
 {
     if (e == 1) | (e == 3) {

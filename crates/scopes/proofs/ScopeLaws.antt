@@ -5,14 +5,15 @@ use mathlib.Core.List.{List}
 use native.Mathlib.Omega.{arith}
 use Prim.Native.Nat.{ℕ, zero, suc, _+_, _-_, _≤_, _<_}
 use borrow.Author.Needs.{needs}
-use lib.Dec.{eqb}
+use lib.Dec.{eqb, leb}
 use Rattle.kit.specs.Pick.{pick}
 use Rattle.kit.proofs.Laws.{yes!, no!, tests, left-suc, down}
+use Rattle.rules.specs.Readings.{isFresh}
 use Rattle.row_parts.proofs.PartLaws.{count-on}
 use Rattle.row_parts.specs.Parts.{codeAt, bAt, xAt, rowsIn, countOn}
 use Rattle.scopes.specs.Scopes.{levelBehind, levelOn, levelAbove, scopeAbove, scopeOf, declares, isMeant, findFrom, findIn, numberFrom, numberOf, isFound, declaresName, isWanted, outwardFrom, scopeOutward}
 use Rattle.scopes.specs.declared.Key.{Key}
-use Rattle.scopes.specs.declared.Key.the-variants.{Name, Number}
+use Rattle.scopes.specs.declared.Key.the-variants.{Name, Number, Inserted}
 use Rattle.scopes.specs.declared.Found.{Found}
 use Rattle.scopes.specs.declared.Found.the-variants.{At, Nothing}
 use Rattle.scopes.specs.declared.Wanted.{Wanted}
@@ -88,6 +89,10 @@ module _ (name number wanted : ℕ) (key : Key) where
 
   pub meant-number : key ≡ Number wanted → eqb wanted number ≡ isMeant key name number
   meant-number q = rw q
+
+pub meant-inserted : (name number : ℕ) (key : Key) → key ≡ Inserted → leb 2147483648 name ≡ isMeant key name number
+unfolding isFresh
+meant-inserted name number key q = rw q
 
 pub find-start : (form : List ℕ) (scope space rows : ℕ) (key : Key) → rows ≡ rowsIn form → findFrom form space key scope (rows - scope) 0 0 ≡ findIn form scope space key
 unfolding findIn
@@ -171,7 +176,7 @@ module _ (form : List ℕ) (wanted : Wanted) (scope around out : ℕ) (T : Outer
     pub outward-on : b ≡ false → (a : ℕ) → a ≡ scopeOf form (around - 1) → outwardFrom form wanted (scope - (out + 1)) a (out + 1) ≡ T
     outward-on e a ha = no! _ (omega tests) (no! _ e (rw ha)) ∙ sought
 
-pub ruleset scope-ways = (behind-open, above-close, behind-close, behind-other, above-open, above-other, declares-is, meant-name, meant-number, declares-at, declares-nothing, wanted-out, wanted-named, wanted-declaring, needs)
+pub ruleset scope-ways = (behind-open, above-close, behind-close, behind-other, above-open, above-other, declares-is, meant-name, meant-number, meant-inserted, declares-at, declares-nothing, wanted-out, wanted-named, wanted-declaring, needs)
 
 pub ruleset climb-ways = (scope-start, scope-end, scope-hit, scope-on, needs)
 

@@ -4,9 +4,10 @@ use mathlib.Core.List.{List}
 use Prim.Native.Nat.{ℕ, zero, suc, _+_, _-_}
 use lib.Dec.{eqb}
 use Rattle.kit.specs.Pick.{pick}
+use Rattle.rules.specs.Readings.{isFresh}
 use Rattle.row_parts.specs.Parts.{codeAt, bAt, xAt, rowsIn, countOn}
 use Rattle.scopes.specs.declared.Key.{Key}
-use Rattle.scopes.specs.declared.Key.the-variants.{Name, Number}
+use Rattle.scopes.specs.declared.Key.the-variants.{Name, Number, Inserted}
 use Rattle.scopes.specs.declared.Found.{Found}
 use Rattle.scopes.specs.declared.Found.the-variants.{At, Nothing}
 use Rattle.scopes.specs.declared.Wanted.{Wanted}
@@ -50,6 +51,7 @@ declares form row level space = eqb level 0 && eqb (codeAt form row) 2 && eqb (b
 abbrev pub isMeant : Key → (name number : ℕ) → Bool
 isMeant (Name wanted) name number = not (eqb wanted 0) && eqb wanted name
 isMeant (Number wanted) name number = eqb wanted number
+isMeant Inserted name number = isFresh name
 
 -- the rows from `row` on, of which `left` are left, with `number` declarations of the space before
 unfoldable pub findFrom : (form : List ℕ) (space : ℕ) → Key → (row left level number : ℕ) → Found
@@ -61,7 +63,7 @@ findFrom form space key row (suc left) level number =
     (pick (here && isMeant key (xAt form row) number) (At row number)
     (findFrom form space key (row + 1) left (levelBehind level code) (pick here (number + 1) number)))
 
--- the declaration of a space that a scope has by a name or a number
+-- the declaration of a space that a scope has by a name or a number, or its first inserted one
 unfoldable pub findIn : (form : List ℕ) (scope space : ℕ) → Key → Found
 findIn form scope space key = findFrom form space key scope (rowsIn form - scope) 0 0
 

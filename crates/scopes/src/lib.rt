@@ -1,6 +1,7 @@
 // Scopes and what they declare, found by going through the rows.
 //
 // A scope is known by its first row, the one behind its OPEN. The rows outside every OPEN have 0 for theirs.
+use row_parts::FIRST_FRESH;
 use row_parts::b_at;
 use row_parts::code_at;
 use row_parts::counted;
@@ -19,6 +20,8 @@ ghost use Rattle.scopes.specs.Scopes.{levelOn, levelAbove, scopeOf, decl
 pub enum Key {
     Name(u32),
     Number(u32),
+    // The first inserted one.
+    Inserted,
 }
 
 // The DECL row of a declaration, and its number.
@@ -113,10 +116,11 @@ fn is_meant(key: Key, name: u32, number: u32) -> bool
     match key {
         Key::Name(wanted) => (wanted != 0) & (wanted == name),
         Key::Number(wanted) => wanted == number,
+        Key::Inserted => FIRST_FRESH <= name,
     }
 }
 
-// The declaration of a space that a scope has by a name or a number.
+// The declaration of a space that a scope has by a name or a number, or its first inserted one.
 pub fn find(form: &[u8], scope: u16, space: u8, key: Key) -> Found
     ensures { λ r. ⌜ r ≡ findIn (now (form .entry)) scope space key ⌝ }
 {

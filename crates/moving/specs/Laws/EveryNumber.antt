@@ -23,7 +23,7 @@ use Rattle.rules.specs.Laws.Meaning.Lookups
 -- ---- an input has no inserted field
 
 mutual
-  low-none : (s : Scope) → LowScope s → NoneInserted s
+  pub low-none : (s : Scope) → LowScope s → NoneInserted s
   low-none (scope kind name fs) low = low-fields fs (low .1)
 
   low-fields : (fs : Fields) → LowFields fs → NoneInFields fs
@@ -34,7 +34,7 @@ mutual
   low-item (plain h) low = tt
   low-item (holds h s) low = low-none s low
 
-fields-none : (s : Scope) → NoneInserted s → NoneInFields (fieldsOf s)
+pub fields-none : (s : Scope) → NoneInserted s → NoneInFields (fieldsOf s)
 fields-none (scope kind name fs) h = h
 
 -- What a number counts to in the input has a place.

@@ -392,7 +392,7 @@ kin-longer (comes {d = d} {h = h} {xs = xs} {ys = ys} k) space = go (eqb (d .spa
     go true l = omega arith
     go false l = l
 
-item-after : (l l′ : Level) → Same l l′ → (space n : ℕ) (x : Spot) → counted l space n ≡ some x → (y : Spot) × (counted l′ space n ≡ some y)
+pub item-after : (l l′ : Level) → Same l l′ → (space n : ℕ) (x : Spot) → counted l space n ≡ some x → (y : Spot) × (counted l′ space n ≡ some y)
 unfolding counted
 item-after l l′ S space n x e =
     let a = elem-lt (ofSpace (standings 0 (l .fields)) space) n x e in
@@ -407,7 +407,7 @@ map-some g (some a) b e = (a, refl, some-same (g a) b e)
 pub floor-level : (s : Scope) (p : Place) (w : Written) (f : Floor) → countedIn s p w ≡ some f → scopeOf s p w ≡ some (f .level)
 floor-level s p w f e = sym (counted-in s p w) ∙ ap (Option·map (λ (g : Floor). g .level)) e
 
-level-floor : (s : Scope) (p : Place) (w : Written) (l : Level) → scopeOf s p w ≡ some l → (f : Floor) × (countedIn s p w ≡ some f) × (f .level ≡ l)
+pub level-floor : (s : Scope) (p : Place) (w : Written) (l : Level) → scopeOf s p w ≡ some l → (f : Floor) × (countedIn s p w ≡ some f) × (f .level ≡ l)
 level-floor s p w l e = map-some (λ (g : Floor). g .level) (countedIn s p w) l (counted-in s p w ∙ e)
 
 pub denoted-counted : (f : Floor) (w : Written) (d : Denoted) → denoted f w ≡ some d → (x : Spot) × (counted (f .level) (w .space) (w .number) ≡ some x) × (place (f .level) x ≡ d .place)

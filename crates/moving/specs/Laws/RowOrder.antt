@@ -68,11 +68,11 @@ order-lower l P = record { rows = P .rows; are = P .are; rising = rising-lower l
 
 -- ---- the operands of a field
 
-row-is : (s : Scope) (p : Place) (x : Placed) (o : Operand) → fieldAt s p ≡ some x → getElem? (headOf (x .item) .operands) (p .at) ≡ some o → rowOfOperand s p ≡ some (operandRowAt x (p .at))
+pub row-is : (s : Scope) (p : Place) (x : Placed) (o : Operand) → fieldAt s p ≡ some x → getElem? (headOf (x .item) .operands) (p .at) ≡ some o → rowOfOperand s p ≡ some (operandRowAt x (p .at))
 unfolding rowOfOperand _then_
 row-is s p x o e₁ e₂ = rw (e₁, e₂)
 
-take-next : (os : List Operand) (k : ℕ) (o : Operand) → getElem? os k ≡ some o → length (operandRows (take (suc k) os)) ≡ length (operandRows (take k os)) + length (operandRow o)
+pub take-next : (os : List Operand) (k : ℕ) (o : Operand) → getElem? os k ≡ some o → length (operandRows (take (suc k) os)) ≡ length (operandRows (take k os)) + length (operandRow o)
 unfolding operandRows
 take-next [] k o e = no-option o e
 take-next (x ∷ os) zero o e = let a = length-append (operandRow x) [] in let b = ap (λ (y : Operand). length (operandRow y)) (some-same x o e) in omega (arith, a, b)
@@ -119,31 +119,31 @@ operands-order s w n k x (o ∷ os) at-field same =
 -- ---- the fields of a scope
 
 -- these are the fields from number `n` on of the scope at the end of a way, and the first of them is at `row`
-record Rest (s : Scope) (f : Floor) (n row : ℕ) (fs : Fields) : Type 0 where
-  own : AtItsWay s f
-  same : (m : ℕ) → getElem? (originalsFrom row fs) m ≡ getElem? (originalsFrom (f .row) (f .level .fields)) (n + m)
+pub record Rest (s : Scope) (f : Floor) (n row : ℕ) (fs : Fields) : Type 0 where
+  pub own : AtItsWay s f
+  pub same : (m : ℕ) → getElem? (originalsFrom row fs) m ≡ getElem? (originalsFrom (f .row) (f .level .fields)) (n + m)
 
-place-field : {s : Scope} {f : Floor} {n row : ℕ} {fs : Fields} → Rest s f n row fs → (x : Placed) → getElem? (originalsFrom row fs) 0 ≡ some x → (j : ℕ)
+pub place-field : {s : Scope} {f : Floor} {n row : ℕ} {fs : Fields} → Rest s f n row fs → (x : Placed) → getElem? (originalsFrom row fs) 0 ≡ some x → (j : ℕ)
     → fieldAt s (record { way = f .level .way; field = n; at = j }) ≡ some x
 place-field {s} {f} {n} R x e j =
     field-is s (record { way = f .level .way; field = n; at = j }) f (R .own .0) x (R .own .1)
     (ap (getElem? (originalsFrom (f .row) (f .level .fields))) (omega arith) ∙ (sym (R .same 0) ∙ e))
 
-rest-inserted : {s : Scope} {f : Floor} {n row : ℕ} {i : Item} {fs : Fields} → isInserted (headOf i) ≡ true → Rest s f n row (i ▸ fs) → Rest s f n (row + length (itemRows i)) fs
+pub rest-inserted : {s : Scope} {f : Floor} {n row : ℕ} {i : Item} {fs : Fields} → isInserted (headOf i) ≡ true → Rest s f n row (i ▸ fs) → Rest s f n (row + length (itemRows i)) fs
 unfolding originalsFrom if_then_else_
 rest-inserted b R = record { own = R .own; same = λ m. rw b at (R .same m) }
 
-rest-original : {s : Scope} {f : Floor} {n row : ℕ} {i : Item} {fs : Fields} → isInserted (headOf i) ≡ false → Rest s f n row (i ▸ fs) → Rest s f (suc n) (row + length (itemRows i)) fs
+pub rest-original : {s : Scope} {f : Floor} {n row : ℕ} {i : Item} {fs : Fields} → isInserted (headOf i) ≡ false → Rest s f n row (i ▸ fs) → Rest s f (suc n) (row + length (itemRows i)) fs
 unfolding originalsFrom if_then_else_
 rest-original {f = f} b R =
     record { own = R .own; same = λ m. (rw b at (R .same (suc m))) ∙ ap (getElem? (originalsFrom (f .row) (f .level .fields))) (omega arith) }
 
-first-is : (row : ℕ) (i : Item) (fs : Fields) → isInserted (headOf i) ≡ false → getElem? (originalsFrom row (i ▸ fs)) 0 ≡ some (record { row = row; item = i })
+pub first-is : (row : ℕ) (i : Item) (fs : Fields) → isInserted (headOf i) ≡ false → getElem? (originalsFrom row (i ▸ fs)) 0 ≡ some (record { row = row; item = i })
 unfolding originalsFrom if_then_else_
 first-is row i fs b = rw b
 
 -- the scope that a field holds
-held-rest : {s : Scope} {f : Floor} {n row : ℕ} {i : Item} {fs : Fields} (gs : Fields) → isInserted (headOf i) ≡ false → Readings.held i ≡ some gs → Rest s f n row (i ▸ fs)
+pub held-rest : {s : Scope} {f : Floor} {n row : ℕ} {i : Item} {fs : Fields} (gs : Fields) → isInserted (headOf i) ≡ false → Readings.held i ≡ some gs → Rest s f n row (i ▸ fs)
     → Rest s (floor (level (f .level .way ++ (n ∷ [])) gs) (PlaceRows.insideOf (record { row = row; item = i }))) 0 (PlaceRows.insideOf (record { row = row; item = i })) gs
 unfolding floorsAt
 held-rest {s} {f} {n} {row} {i} {fs} gs b h R =

@@ -1,0 +1,22 @@
+-- `ferhevok::numbers::packed_lists` meets its contract.
+use borrow.Author.Needs.{needs}
+use Rattle.ferhevok.proofs.Packs.{packs-lists}
+use Rattle.ferhevok.proofs.numbers.packed_lists.Statement.{statement}
+use Rattle.ferhevok.proofs.numbers.packed_lists.Tie as tie
+
+pub packed-lists-spec : {M : Type 1} → statement M
+packed-lists-spec =
+    tie.close
+    (tie.spec
+    (λ c. search needs)  -- enum-known-answer
+    (λ c. search needs)  -- cast-result
+    (λ c. search needs)  -- mul-result
+    (λ c. search needs)  -- cast-result-2
+    (λ c. search needs)  -- add-result
+    (λ c. search needs)  -- enum-known-answer-2
+    (λ c. search needs)  -- cast-result-3
+    (λ c. search needs)  -- mul-result-2
+    (λ c. search needs)  -- cast-result-4
+    (λ c. search needs)  -- add-result-2
+    (λ c. search packs-lists)  -- returns
+    (λ c. search packs-lists))  -- returns-2

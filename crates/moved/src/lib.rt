@@ -1,0 +1,2 @@
+// The written numbers that inserted aliases have moved.
+pub mod run;
