@@ -4,7 +4,7 @@
 use mathlib.Core.Bool.{_&&_}
 use mathlib.Core.Option.{Option, none, some}
 use mathlib.Core.List.{List, [], _∷_}
-use Prim.Native.Nat.{ℕ, suc, _+_}
+use Prim.Native.Nat.{ℕ, suc, _+_, _*_}
 use lib.Dec.{eqb}
 use lib.ListN.{length}
 use Rattle.rules.specs.Tools.{if_then_else_, isJust}
@@ -13,7 +13,7 @@ use Rattle.rules.specs.Rows.{Num, Id}
 use Rattle.rules.specs.Tree.{Declaration, Operand, ref, outer, case, Head, Scope, scope, Fields, end, _▸_, Item, plain, holds, headOf, withOperands, flatten}
 use Rattle.rules.specs.Shapes.{hereOnly}
 use Rattle.rules.specs.Rules.{Result, find, fresh, declarations, resolve}
-use Rattle.rules.specs.Answer.{Answer, refused, accepted, mapAnswer, resolved, settingOf, answer}
+use Rattle.rules.specs.Answer.{Answer, refused, accepted, mapAnswer, resolved, settingOf, rowCount, answer, outputAfter}
 use Rattle.read_form.specs.ReadForm.{readForm, _andThen_}
 
 -- ---- what is remembered of a scope
@@ -112,7 +112,19 @@ sharedAfter (accepted rs) settings input = proposed (settingOf settings input) i
 unfoldable pub shared : List Setting → (input : List ℕ) (room : ℕ) → Answer
 shared settings input room = sharedAfter (answer settings input room) settings input
 
+-- ---- the output buffer
+
+-- What it holds after an answer is what `output` has for such an answer: refusals 1 to 5 leave it as it was, the others zero the form's
+-- part of it, and a form is written to its front with zeros behind it. Bytes beyond that part stay.
+unfoldable pub sharedFor : Option Setting → List Setting → (input old : List ℕ) → List ℕ
+sharedFor none settings input old = old
+sharedFor (some s) settings input old =
+    outputAfter s (shared settings input (length old)) (s .version .header + 64 * rowCount (s .version) input) old
+
+unfoldable pub sharedOutput : List Setting → (input old : List ℕ) → List ℕ
+sharedOutput settings input old = sharedFor (settingOf settings input) settings input old
+
 -- Unfolds all of this module: for a claim that antt computes.
 unfoldable pub computes : Unit {0}
-unfolding servedBy markOuter markOperand markOperands markHead insertions markScope mark propose proposed sharedAfter shared
+unfolding servedBy markOuter markOperand markOperands markHead insertions markScope mark propose proposed sharedAfter shared sharedFor sharedOutput
 computes = tt

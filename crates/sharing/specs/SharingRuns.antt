@@ -3,7 +3,7 @@ use mathlib.Core.Path.{_≡_, refl}
 use mathlib.Core.Bool.{Bool, true, false, _&&_}
 use mathlib.Core.List.{List, [], _∷_, _++_}
 use Prim.Native.Nat.{ℕ, zero, suc, _+_, _*_}
-use lib.ListN.{length}
+use lib.ListN.{length, replicate}
 use Rattle.rules.specs.Tools
 use Rattle.rules.specs.Versions
 use Rattle.rules.specs.Versions.{Setting, version1, version2, today, newer}
@@ -14,13 +14,13 @@ use Rattle.rules.specs.Shapes
 use Rattle.rules.specs.Reader
 use Rattle.rules.specs.Rules
 use Rattle.rules.specs.Answer
-use Rattle.rules.specs.Answer.{Answer, accepted, formBytes}
+use Rattle.rules.specs.Answer.{Answer, accepted, sameNumbers, formBytes}
 use Rattle.rules.specs.Readings
 use Rattle.read_form.specs.ReadForm
 use Rattle.checking.specs.Check
 use Rattle.checking.specs.Check.{Verdict, yes, verdict}
 use Rattle.sharing.specs.Sharing
-use Rattle.sharing.specs.Sharing.{shared}
+use Rattle.sharing.specs.Sharing.{shared, sharedOutput}
 use Rattle.rules.specs.Examples
 use Rattle.rules.specs.Examples.{Case, Expected, refusal, rows, inputBytes, agrees}
 
@@ -161,3 +161,21 @@ ten (c ∷ cs) = (let input = inputBytes first (c .input) in likeOwn (shared Ver
 ten-right : ten Examples.cases ≡ true
 unfolding ten likeOwn isRows passes isYes agrees inputBytes Examples.cases Examples.rawsBytes Tools.computes Rows.computes Tree.computes Shapes.computes Reader.computes Rules.computes Answer.computes Readings.computes ReadForm.computes Check.computes Sharing.computes
 ten-right = refl
+
+-- ---- the whole output buffer of 800 bytes, of which 24 lie beyond the form's part
+
+-- two references from inside to a type of this name
+unfoldable pair : (name : ℕ) → List Raw
+pair name = root (type 1 [] ++ component 0 (type 0 (many 2 1 name 70)))
+
+unfoldable buffer : List Raw → List ℕ
+buffer rs = sharedOutput Versions.all (inputBytes first rs) (replicate 800 7)
+
+-- Accepted: a form with one alias, whose header says 15 rows, and zeros; refused by the steps: zeros; cut off before its last row: as it was.
+buffers-right :
+    (sameNumbers (buffer (pair 1))
+    (inputBytes first (root (type 1 [] ++ component 0 (outerAlias 2147483648 1 0 70 ++ type 0 (many 2 0 0 70)))) ++ (replicate 528 0 ++ replicate 24 7))
+    && (sameNumbers (buffer (pair 2)) (replicate 776 0 ++ replicate 24 7)
+    && sameNumbers (buffer (raw 7 0 0 0 0 0 ∷ [])) (replicate 800 7))) ≡ true
+unfolding buffer pair root component type outerAlias many inputBytes Examples.rawsBytes Tools.computes Rows.computes Tree.computes Shapes.computes Reader.computes Rules.computes Answer.computes Readings.computes ReadForm.computes Check.computes Sharing.computes
+buffers-right = refl

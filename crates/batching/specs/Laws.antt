@@ -1,0 +1,10 @@
+-- Each member by itself.
+pub mod BatchLaws
+pub mod MemberLaws
+pub mod BytesLaws
+-- The prelude's root, as what lies around a member.
+pub mod InPrelude
+-- The row that a name means.
+pub mod MeantRow
+-- Demand 3.
+pub mod BatchMeaning

@@ -1,0 +1,136 @@
+-- The marked rows as the code writes them, scope by scope.
+use mathlib.Core.Bool.{Bool, true, false}
+use mathlib.Core.List.{List, [], _∷_}
+use Prim.Native.Nat.{ℕ, zero, suc, _+_, _/_, _%_, _≤_}
+use lib.Dec.{eqb, ltb}
+use lib.ListN.{length}
+use Rattle.kit.specs.Pick.{pick}
+use Rattle.kit.specs.Out.{Out, _&_}
+use Rattle.parts.specs.declared.Parts.{Parts}
+use Rattle.parts.specs.Apart.{partsAt}
+use Rattle.rows.specs.declared.row.Index.the-variants.{Name}
+use Rattle.rows.specs.declared.row.Row.the-variants.{Ref}
+use Rattle.put.specs.Put.{putRow, copyRow}
+use Rattle.names.specs.Table.{Slot, between, pushed, findIn}
+use Rattle.names.specs.declared.Found.{Found}
+use Rattle.names.specs.declared.Found.the-variants.{At, Nothing}
+use Rattle.index.specs.Indexed.{Holds}
+use Rattle.mark.specs.declared.Marking.{Marking}
+use Rattle.mark.specs.Visits.{placeAt, Visit, visitsT}
+
+-- the index serves the table, and the names that the scope declares are among those that are used
+pub record Serves (m : Marking) (table : List Slot) (index : List ℕ) : Type 0 where
+  pub holds : Holds table index (m .used)
+  pub within : m .own ≤ m .used
+
+-- what a write leaves of the rows
+unfoldable pub leftBy : Out ℕ (List ℕ) → List ℕ
+leftBy (to & rows) = rows
+
+-- ---- what a scope declares
+
+abbrev pub slotOf : Parts → (number : ℕ) → Slot
+slotOf p number = p .b ∷ p .x ∷ number ∷ 0 ∷ 0 ∷ 0 ∷ []
+
+-- a DECL is entered
+unfoldable pub enterRowT : Parts → List Slot → (used : ℕ) → Out ℕ (List Slot)
+enterRowT p table used = pick (eqb (p .code) 2) (pushed table used (slotOf p 0)) (used & table)
+
+unfoldable pub enterThen : {A : Type 0} → Out ℕ (List Slot) → (ℕ → List Slot → A) → A
+enterThen (used & table) f = f used table
+
+unfoldable pub enterAll : List Visit → List Slot → (used : ℕ) → Out ℕ (List Slot)
+enterAll [] table used = used & table
+enterAll (v ∷ vs) table used = enterThen (enterRowT (v .parts) table used) λ u t. enterAll vs t u
+
+-- ---- what it refers to
+
+abbrev pub isFound : Found → Bool
+isFound (At n) = true
+isFound Nothing = false
+
+-- what is carried along, the table, and the marked rows
+abbrev pub Step : Type 0
+Step = Out Marking (Out (List Slot) (List ℕ))
+
+abbrev pub marking : (own used fresh : ℕ) → Marking
+marking own used fresh = record { own = own; used = used; fresh = fresh }
+
+unfoldable pub insertWith : Marking → Out ℕ (List Slot) → Out Marking (List Slot)
+insertWith m (used & table) = marking (m .own) used ((m .fresh + 1) % 4294967296) & table
+
+-- a name that has no alias yet gets the next
+unfoldable pub insertT : Parts → Marking → List Slot → Out Marking (List Slot)
+insertT p m table = insertWith m (pushed table (m .used) (slotOf p (m .fresh)))
+
+-- a name that has one is named by it
+unfoldable pub serveT : Parts → (row alias : ℕ) (marked : List ℕ) → List ℕ
+serveT p row alias marked = leftBy (putRow marked row (Ref (p .b) (Name alias) 0 (p .z)))
+
+unfoldable pub beside : Out Marking (List Slot) → List ℕ → Step
+beside (m & table) marked = m & table & marked
+
+unfoldable pub outerT : Found → Parts → (row : ℕ) → Marking → List Slot → List ℕ → Step
+outerT (At alias) p row m table marked = m & table & serveT p row alias marked
+outerT Nothing p row m table marked = beside (insertT p m table) marked
+
+unfoldable pub nameT : Parts → (row : ℕ) → Marking → List Slot → List ℕ → Step
+nameT p row m table marked =
+    pick (isFound (findIn (between 0 (m .own) table) (p .b) (p .x))) (m & table & marked)
+    (outerT (findIn (between (m .own) (m .used) table) (p .b) (p .x)) p row m table marked)
+
+unfoldable pub refT : Parts → (row : ℕ) → Marking → List Slot → List ℕ → Step
+refT p row m table marked =
+    pick (ltb 0 (p .y)) (marking (m .own) (m .used) ((m .fresh + p .y) % 4294967296) & table & marked)
+    (pick (eqb (p .e) 0) (m & table & marked) (nameT p row m table marked))
+
+unfoldable pub rowT : Parts → (row : ℕ) (walked : Bool) → Marking → List Slot → List ℕ → Step
+rowT p row walked m table marked =
+    pick walked (pick (eqb (p .code) 3) (refT p row m table marked) (m & table & marked)) (m & table & marked)
+
+unfoldable pub markThen : {A : Type 0} → Step → (Marking → List Slot → List ℕ → A) → A
+markThen (m & table & marked) f = f m table marked
+
+unfoldable pub markAll : List Visit → Marking → List Slot → List ℕ → Step
+markAll [] m table marked = m & table & marked
+markAll (v ∷ vs) m table marked =
+    markThen (rowT (v .parts) (v .row) (v .walked) m table marked) λ m′ t l. markAll vs m′ t l
+
+-- ---- one scope, and all
+
+-- the next insertion's name, the table, and the marked rows
+abbrev pub Steps : Type 0
+Steps = Out ℕ (Out (List Slot) (List ℕ))
+
+unfoldable pub nextOf : Step → Steps
+nextOf (m & rest) = m .fresh & rest
+
+-- the scope whose first row this is
+unfoldable pub scopeT : (rows ends : List ℕ) (first fresh : ℕ) → List Slot → List ℕ → Steps
+scopeT rows ends first fresh table marked =
+    let vs = visitsT rows ends (length rows / 16) (placeAt first) in
+    enterThen (enterAll vs table 0) λ own t. nextOf (markAll vs (marking own own fresh) t marked)
+
+-- the row at i, if it opens a scope
+unfoldable pub openT : (rows ends : List ℕ) (i fresh : ℕ) → List Slot → List ℕ → Steps
+openT rows ends i fresh table marked =
+    pick (eqb (partsAt rows i .code) 7) (scopeT rows ends (i + 1) fresh table marked) (fresh & table & marked)
+
+unfoldable pub scopesThen : {A : Type 0} → Steps → (ℕ → List Slot → List ℕ → A) → A
+scopesThen (fresh & table & marked) f = f fresh table marked
+
+-- the rows from i on, so many
+unfoldable pub scopesT : (rows ends : List ℕ) (i left fresh : ℕ) → List Slot → List ℕ → Out (List Slot) (List ℕ)
+scopesT rows ends i zero fresh table marked = table & marked
+scopesT rows ends i (suc left) fresh table marked =
+    scopesThen (openT rows ends i fresh table marked) λ f t l. scopesT rows ends (i + 1) left f t l
+
+-- the rows from i on copied to their own places, so many
+unfoldable pub copiesT : (rows : List ℕ) (i left : ℕ) (marked : List ℕ) → List ℕ
+copiesT rows i zero marked = marked
+copiesT rows i (suc left) marked = copiesT rows (i + 1) left (leftBy (copyRow rows i marked i))
+
+unfoldable pub markedT : (rows ends : List ℕ) → List Slot → (marked : List ℕ) → Out (List Slot) (List ℕ)
+markedT rows ends table marked =
+    let count = length rows / 16 in
+    scopesT rows ends 0 count 2147483648 table (copiesT rows 0 count marked)
