@@ -20,7 +20,7 @@ depthT depth code begins =
 -- are they the same row, but for e, x and y of REF and OUTER?
 unfoldable pub sameT : (p q : Parts) → Bool
 sameT p q =
-    eqb (p .code) (q .code) && ((eqb (p .b) (q .b) && eqb (p .z) (q .z)) && (eqb (p .code) 3 || (eqb (p .code) 5 || (eqb (p .e) (q .e) && (eqb (p .x) (q .x) && eqb (p .y) (q .y))))))
+    eqb (p .code) (q .code) && (eqb (p .b) (q .b) && ((eqb (p .code) 3 || (eqb (p .code) 5 || (eqb (p .e) (q .e) && (eqb (p .x) (q .x) && eqb (p .y) (q .y))))) && eqb (p .z) (q .z)))
 
 -- is a claimed row other than the first of these?
 unfoldable pub otherT : Parts → List Parts → Bool

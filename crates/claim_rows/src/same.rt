@@ -42,9 +42,10 @@ fn is_same(p: Parts, q: Parts) -> bool
     ensures { λ r. ⌜ r ≡ sameT p q ⌝ }
 {
     (p.code == q.code)
-        & (((p.b == q.b) & (p.z == q.z))
-            & ((p.code == REF)
-                | ((p.code == OUTER) | ((p.e == q.e) & ((p.x == q.x) & (p.y == q.y))))))
+        & ((p.b == q.b)
+            & (((p.code == REF)
+                | ((p.code == OUTER) | ((p.e == q.e) & ((p.x == q.x) & (p.y == q.y)))))
+                & (p.z == q.z)))
 }
 
 // Whether a claimed row breaks the condition, where j is the input's next row.
