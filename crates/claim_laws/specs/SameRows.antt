@@ -18,7 +18,7 @@ use Rattle.rules.specs.Tree.{Declaration, Operand, ref, outer, case, Head, Scop
 use Rattle.rules.specs.Readings
 use Rattle.rules.specs.Readings.{isInserted}
 use Rattle.checking.specs.Check.{isPath, kept, sameParts, withoutPaths, Claimed, own, added, scopeClaimed, fieldsClaimed, itemClaimed, differs, condition2}
-use Rattle.claim_rows.specs.Added.{beginsT}
+use Rattle.claim_rows.specs.Added.{isAddedT}
 use Rattle.claim_rows.specs.Same.{depthT, sameT, otherT, breaksT, pastPaths, nextT, behindT, restT, differsT}
 use Rattle.claim_rows.specs.declared.Tried.{Tried}
 use Rattle.claim_rows.specs.declared.Tried.the-variants.{Passes, Breaks}
@@ -36,7 +36,7 @@ mark zero r = own r
 mark (suc d) r = added r
 
 unfoldable deep : (depth : ℕ) → Row → List Row → ℕ
-deep depth r rs = depthT depth (codeIn r) (beginsT (codeIn r) (allParts rs))
+deep depth r rs = depthT depth (codeIn r) (isAddedT false (codeIn r) (allParts rs))
 
 unfoldable marks : (depth : ℕ) → List Row → List Claimed
 marks depth [] = []
@@ -311,7 +311,7 @@ pick-level false = refl
 
 -- behind the FIELD of a field, where d is 0 or 1: whether the field is added is told by the rows behind it
 field-deep : (d : ℕ) (h : Head) (ys : List Row) → d ≤ 1 → NoDecl ys → deep d (Field (h .code) (h .builtin) (h .z)) (behindField h ++ ys) ≡ level (isInserted h)
-unfolding deep depthT beginsT asParts encode pick behindField isInserted
+unfolding deep depthT isAddedT asParts encode pick behindField isInserted
 field-deep d h ys l n =
     rw (
       le-ltb _ _ l,

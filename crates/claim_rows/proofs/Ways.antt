@@ -13,7 +13,7 @@ use Rattle.kit.proofs.Laws.{left-suc}
 use Rattle.parts.specs.Apart.{partsAt}
 use Rattle.parts.specs.declared.Parts.{Parts}
 use Rattle.claim_rows.specs.Left.{rowsFrom, rowsAt}
-use Rattle.claim_rows.specs.Added.{anyFresh, beginsT}
+use Rattle.claim_rows.specs.Added.{anyFresh, isAddedT}
 use Rattle.claim_rows.specs.Same.{depthT, sameT, otherT, breaksT, pastPaths, nextT, behindT, restT, differsT}
 use Rattle.claim_rows.specs.declared.Tried.{Tried}
 use Rattle.claim_rows.specs.declared.Tried.the-variants.{Passes, Breaks}
@@ -28,7 +28,7 @@ pub rows-past : (l : List ℕ) (i : ℕ) → length l / 16 ≤ i → rowsAt l i 
 unfolding rowsAt rowsFrom
 rows-past l i h = let e : length l / 16 - i ≡ 0 = omega arith in rw e
 
--- ---- any_fresh, begins_added
+-- ---- any_fresh, is_added
 
 module _ (l : List ℕ) (T : Bool) (i : ℕ) (inv : anyFresh (rowsAt l i) ≡ T) where
   pub fresh-none : length l / 16 ≤ i → false ≡ T
@@ -53,14 +53,14 @@ module _ (l : List ℕ) (T : Bool) (i : ℕ) (inv : anyFresh (rowsAt l i) ≡ T)
 
 pub ruleset freshes = (fresh-none, fresh-other, fresh-found, fresh-turn, needs)
 
-module _ (code : ℕ) (ps : List Parts) where
-  pub begins-other : (code ≡ 1 → ⊥) → false ≡ beginsT code ps
-  unfolding beginsT pick
-  begins-other h = rw (ne-eqb _ _ h)
+module _ (before : Bool) (code : ℕ) (ps : List Parts) where
+  pub added-other : (code ≡ 1 → ⊥) → before ≡ isAddedT before code ps
+  unfolding isAddedT pick
+  added-other h = rw (ne-eqb _ _ h)
 
-  pub begins-field : (b : Bool) → code ≡ 1 → b ≡ anyFresh ps → b ≡ beginsT code ps
-  unfolding beginsT pick
-  begins-field b h e = rw (eq-eqb _ _ h) e
+  pub added-field : (b : Bool) → code ≡ 1 → b ≡ anyFresh ps → b ≡ isAddedT before code ps
+  unfolding isAddedT pick
+  added-field b h e = rw (eq-eqb _ _ h) e
 
 -- ---- depth_behind
 
@@ -162,10 +162,10 @@ pub ruleset following = (behind-added, behind-past, behind-own, needs)
 -- ---- try_rows
 
 module _ (l w : List ℕ) (T : Tried) (i d j : ℕ) (inv : differsT i d (rowsAt l i) (rowsAt w j) ≡ T) where
-  module _ (h : i < length l / 16) (p : Parts) (e : p ≡ partsAt l i) (b : Bool) (f : b ≡ beginsT (p .code) (rowsAt l (i + 1))) (d′ : ℕ) (g : d′ ≡ depthT d (p .code) b) (t : Bool) (k : t ≡ breaksT p d′ (rowsAt w j)) where
+  module _ (h : i < length l / 16) (p : Parts) (e : p ≡ partsAt l i) (b : Bool) (f : b ≡ isAddedT false (p .code) (rowsAt l (i + 1))) (d′ : ℕ) (g : d′ ≡ depthT d (p .code) b) (t : Bool) (k : t ≡ breaksT p d′ (rowsAt w j)) where
     turn : pick t (Breaks i) (differsT (i + 1) d′ (rowsAt l (i + 1)) (behindT d′ (rowsAt w j))) ≡ T
     unfolding differsT
-    turn = let q : d′ ≡ depthT d (p .code) (beginsT (p .code) (rowsAt l (i + 1))) = rw (← f) g in rw (k, q, e) (rw (rows-there l i h) at inv)
+    turn = let q : d′ ≡ depthT d (p .code) (isAddedT false (p .code) (rowsAt l (i + 1))) = rw (← f) g in rw (k, q, e) (rw (rows-there l i h) at inv)
 
     pub row-breaks : t ≡ true → Breaks i ≡ T
     unfolding pick

@@ -11,6 +11,6 @@ unfoldable pub anyFresh : List Parts → Bool
 anyFresh [] = false
 anyFresh (p ∷ ps) = pick (eqb (p .code) 2) (pick (leb 2147483648 (p .x)) true (anyFresh ps)) false
 
--- is a row of this code, with these behind it, the FIELD of an added field?
-unfoldable pub beginsT : (code : ℕ) → List Parts → Bool
-beginsT code ps = pick (eqb code 1) (anyFresh ps) false
+-- is the field of a row of this code added? A FIELD's DECLs tell, which come first of the rows behind it; others are as the row before.
+unfoldable pub isAddedT : (before : Bool) (code : ℕ) → List Parts → Bool
+isAddedT before code ps = pick (eqb code 1) (anyFresh ps) before

@@ -5,7 +5,7 @@ use Prim.Native.Nat.{ℕ, _+_, _-_}
 use lib.Dec.{eqb, ltb}
 use Rattle.kit.specs.Pick.{pick}
 use Rattle.parts.specs.declared.Parts.{Parts}
-use Rattle.claim_rows.specs.Added.{beginsT}
+use Rattle.claim_rows.specs.Added.{isAddedT}
 use Rattle.claim_rows.specs.declared.Tried.{Tried}
 use Rattle.claim_rows.specs.declared.Tried.the-variants.{Passes, Breaks}
 
@@ -53,5 +53,5 @@ restT i (q ∷ qs) = Breaks i
 unfoldable pub differsT : (i depth : ℕ) (ps qs : List Parts) → Tried
 differsT i depth [] qs = restT i qs
 differsT i depth (p ∷ ps) qs =
-    let d = depthT depth (p .code) (beginsT (p .code) ps) in
+    let d = depthT depth (p .code) (isAddedT false (p .code) ps) in
     pick (breaksT p d qs) (Breaks i) (differsT (i + 1) d ps (behindT d qs))

@@ -5,7 +5,7 @@ use rows::row::DECL;
 use rows::row::FIELD;
 ghost use mathlib.Core.Path.{_≡_};
 ghost use Rattle.claim_rows.specs.Left.{rowsAt};
-ghost use Rattle.claim_rows.specs.Added.{anyFresh, beginsT};
+ghost use Rattle.claim_rows.specs.Added.{anyFresh, isAddedT};
 
 // Whether one of the DECLs that stand from row `from` on has such a name.
 fn any_fresh(rows: &[u8], from: usize) -> bool
@@ -26,12 +26,13 @@ fn any_fresh(rows: &[u8], from: usize) -> bool
     false
 }
 
-// Whether a row of this code is the FIELD of an added field: `next` is the row behind it.
-pub fn begins_added(code: u8, rows: &[u8], next: usize) -> bool
-    ensures { λ r. ⌜ r ≡ beginsT code (rowsAt (now (rows .entry)) next) ⌝ }
+// Whether the field of a row of this code is added: a FIELD's DECLs tell, of which `next` is the first; behind it all rows
+// are as the one before.
+pub fn is_added(before: bool, code: u8, rows: &[u8], next: usize) -> bool
+    ensures { λ r. ⌜ r ≡ isAddedT before code (rowsAt (now (rows .entry)) next) ⌝ }
 {
     if code != FIELD {
-        return false;
+        return before;
     }
     any_fresh(rows, next)
 }

@@ -1,7 +1,7 @@
 // Condition 2: no PATH is left, and the claim's rows that are not added are the input's in order, but for PATH rows and
 // e, x and y of REF and OUTER.
 use crate::Tried;
-use crate::added::begins_added;
+use crate::added::is_added;
 use parts::Parts;
 use parts::parts_at;
 use rows::row::CLOSE;
@@ -17,7 +17,7 @@ ghost use Rattle.claim_rows.specs.Left.{rowsAt};
 ghost use Rattle.claim_rows.specs.Same.{depthT, sameT, breaksT, pastPaths, behindT, differsT};
 
 // How deep in an added field the claim is behind a row of this code: 0 outside of added fields, 1 in one, and one more for
-// each scope that is open in it. `begins`: whether the row is the FIELD of an added field.
+// each scope that is open in it. `begins`: whether a FIELD is that of an added field.
 fn depth_behind(depth: usize, code: u8, begins: bool) -> usize
     requires { ⌜ depth + 1 < 18446744073709551616 ⌝ }
     ensures { λ r. ⌜ (r ≡ depthT depth code begins) × (r ≤ depth + 1) ⌝ }
@@ -102,7 +102,7 @@ pub fn try_rows(input: &[u8], claim: &[u8]) -> Tried
     let mut i = 0;
     while i < n {
         let p = parts_at(claim, i);
-        depth = depth_behind(depth, p.code, begins_added(p.code, claim, i + 1));
+        depth = depth_behind(depth, p.code, is_added(false, p.code, claim, i + 1));
         if breaks(p, depth, input, j) {
             return Tried::Breaks(i);
         }
