@@ -18,6 +18,16 @@ use Rattle.claim_rows.specs.Same.{depthT, sameT, otherT, breaksT, pastPa
 use Rattle.claim_rows.specs.declared.Tried.{Tried}
 use Rattle.claim_rows.specs.declared.Tried.the-variants.{Passes, Breaks}
 
+-- ---- a test that is turned round
+
+pub is-false : (b : Bool) → not b ≡ true → b ≡ false
+is-false true h = sym h
+is-false false h = refl
+
+pub is-true : (b : Bool) → not b ≡ false → b ≡ true
+is-true true h = refl
+is-true false h = sym h
+
 -- ---- the rows that are left
 
 pub rows-there : (l : List ℕ) (i : ℕ) → i < length l / 16 → rowsAt l i ≡ partsAt l i ∷ rowsAt l (i + 1)
