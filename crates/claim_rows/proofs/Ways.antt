@@ -64,13 +64,19 @@ module _ (l : List ℕ) (T : Bool) (i : ℕ) (inv : anyFresh (rowsAt l i) ≡ T)
 pub ruleset freshes = (fresh-none, fresh-other, fresh-found, fresh-turn, needs)
 
 module _ (before : Bool) (code : ℕ) (ps : List Parts) where
-  pub added-other : (code ≡ 1 → ⊥) → before ≡ isAddedT before code ps
-  unfolding isAddedT pick
-  added-other h = rw (ne-eqb _ _ h)
-
   pub added-field : (b : Bool) → code ≡ 1 → b ≡ anyFresh ps → b ≡ isAddedT before code ps
   unfolding isAddedT pick
   added-field b h e = rw (eq-eqb _ _ h) e
+
+  pub added-close : code ≡ 8 → false ≡ isAddedT before code ps
+  unfolding isAddedT pick
+  added-close h = rw h
+
+  pub added-other : (code ≡ 1 → ⊥) → (code ≡ 8 → ⊥) → before ≡ isAddedT before code ps
+  unfolding isAddedT pick
+  added-other h g = rw (ne-eqb _ _ h, ne-eqb _ _ g)
+
+pub ruleset adding = (added-field, added-close, added-other, needs)
 
 -- ---- depth_behind
 

@@ -11,6 +11,7 @@ unfoldable pub anyFresh : List Parts → Bool
 anyFresh [] = false
 anyFresh (p ∷ ps) = pick (eqb (p .code) 2) (pick (leb 2147483648 (p .x)) true (anyFresh ps)) false
 
--- is the field of a row of this code added? A FIELD's DECLs tell, which come first of the rows behind it; others are as the row before.
+-- is the field of a row of this code added? A FIELD's DECLs tell, which come first of the rows behind it; a CLOSE is of none; others are as
+-- the row before.
 unfoldable pub isAddedT : (before : Bool) (code : ℕ) → List Parts → Bool
-isAddedT before code ps = pick (eqb code 1) (anyFresh ps) before
+isAddedT before code ps = pick (eqb code 1) (anyFresh ps) (pick (eqb code 8) false before)

@@ -1,6 +1,7 @@
 // Which fields of a claim are added: those with a DECL whose name no input has.
 use index::FRESH;
 use parts::parts_at;
+use rows::row::CLOSE;
 use rows::row::DECL;
 use rows::row::FIELD;
 ghost use mathlib.Core.Path.{_≡_};
@@ -26,13 +27,16 @@ fn any_fresh(rows: &[u8], from: usize) -> bool
     false
 }
 
-// Whether the field of a row of this code is added: a FIELD's DECLs tell, of which `next` is the first; behind it all rows
-// are as the one before.
+// Whether the field of a row of this code is added: a FIELD's DECLs tell, of which `next` is the first; a CLOSE is of none;
+// other rows are as the row before.
 pub fn is_added(before: bool, code: u8, rows: &[u8], next: usize) -> bool
     ensures { λ r. ⌜ r ≡ isAddedT before code (rowsAt (now (rows .entry)) next) ⌝ }
 {
-    if code != FIELD {
-        return before;
+    if code == FIELD {
+        return any_fresh(rows, next);
     }
-    any_fresh(rows, next)
+    if code == CLOSE {
+        return false;
+    }
+    before
 }
