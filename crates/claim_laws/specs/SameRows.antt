@@ -8,7 +8,7 @@ use native.Mathlib.Omega.{arith}
 use native.Mathlib.Numerals.{add-one}
 use lib.Dec.{eqb, ltb}
 use lib.ListN.{length}
-use Rattle.rules.specs.Laws.ToolLaws.{eqb-same}
+use Rattle.rules.specs.Laws.ToolLaws.{eqb-same, All, done, _&_}
 use borrow.Author.Tests.{lt-ltb, le-ltb, eqb-true, ne-eqb}
 use Rattle.kit.specs.Pick.{pick}
 use Rattle.parts.specs.declared.Parts.{Parts}
@@ -22,7 +22,7 @@ use Rattle.claim_rows.specs.Added.{isAddedT}
 use Rattle.claim_rows.specs.Same.{depthT, sameT, otherT, breaksT, pastPaths, nextT, behindT, restT, differsT}
 use Rattle.claim_rows.specs.declared.Tried.{Tried}
 use Rattle.claim_rows.specs.declared.Tried.the-variants.{Passes, Breaks}
-use Rattle.claim_laws.specs.RowParts.{ofRaw, asParts, allParts, codeIn, NoDecl, behindField, operands-no-decl, any-fresh}
+use Rattle.claim_laws.specs.RowParts.{ofRaw, asParts, allParts, codeIn, NoDecl, behindField, operands-no-decl, any-fresh, fields-no-decl, scope-no-decl, Inner, inner-behind}
 
 -- what the rules find, as the code says it
 abbrev pub tried : Option ℕ → Tried
@@ -173,63 +173,18 @@ differs-marks (r ∷ rs) n d qs s = rw (add-one n) (turn r rs n (deep d r rs) qs
 
 -- ---- the rows of a tree are marked as the rules say
 
--- a row of a field behind its FIELD: it is no FIELD, OPEN or CLOSE
-record Inner (r : Row) : Type 0 where
-  stays : (d : ℕ) (rs : List Row) → deep d r rs ≡ d
+stays : (d : ℕ) (r : Row) (rs : List Row) → Inner r → deep d r rs ≡ d
+unfolding deep depthT pick
+stays d r rs i = rw (ne-eqb (codeIn r) 1 (i .no-field), ne-eqb (codeIn r) 8 (i .no-close), ne-eqb (codeIn r) 7 (i .no-open))
 
-inner : (r : Row) → (codeIn r ≡ 1 → ⊥) → (codeIn r ≡ 8 → ⊥) → (codeIn r ≡ 7 → ⊥) → Inner r
-inner r f g h = record { stays = λ d rs. unfold deep depthT pick in rw (ne-eqb (codeIn r) 1 f, ne-eqb (codeIn r) 8 g, ne-eqb (codeIn r) 7 h) }
-
-marks-inner : (d : ℕ) (r : Row) (rs : List Row) → Inner r → marks d (r ∷ rs) ≡ mark d r ∷ marks d rs
+-- rows of a field behind its FIELD
+pass-inner : (d : ℕ) (xs ys : List Row) → All Inner xs → marks d (xs ++ ys) ≡ map (mark d) xs ++ marks d ys
 unfolding marks
-marks-inner d r rs i = rw (i .stays d rs)
+pass-inner d [] ys done = refl
+pass-inner d (r ∷ xs) ys (i & p) = rw (stays d r (xs ++ ys) i) (ap (λ (l : List Claimed). mark d r ∷ l) (pass-inner d xs ys p))
 
--- so are all of these
-abbrev Passing : (d : ℕ) → List Row → Type 0
-Passing d xs = (ys : List Row) → marks d (xs ++ ys) ≡ map (mark d) xs ++ marks d ys
-
-pass-none : (d : ℕ) → Passing d []
-pass-none d ys = refl
-
-pass-inner : (d : ℕ) (r : Row) (xs : List Row) → Inner r → Passing d xs → Passing d (r ∷ xs)
-pass-inner d r xs i p ys = marks-inner d r (xs ++ ys) i ∙ ap (λ (l : List Claimed). mark d r ∷ l) (p ys)
-
-pass-both : (d : ℕ) (xs ys : List Row) → Passing d xs → Passing d ys → Passing d (xs ++ ys)
-pass-both d xs ys p q zs = rw (append-assoc xs ys zs) (p (ys ++ zs) ∙ rw (q zs, map-append (mark d) xs ys, append-assoc))
-
-module _ (d : ℕ) where
-  pass-decls : (ds : List Declaration) → Passing d (declRows ds)
-  unfolding declRows asParts encode
-  pass-decls [] = pass-none d
-  pass-decls (x ∷ ds) = pass-inner d (Decl (x .space) (x .name) (x .z)) (declRows ds) (inner _ (omega arith) (omega arith) (omega arith)) (pass-decls ds)
-
-  pass-paths : (ps : List ℕ) → Passing d (pathRows ps)
-  unfolding pathRows asParts encode
-  pass-paths [] = pass-none d
-  pass-paths (p ∷ ps) = pass-inner d (Path p) (pathRows ps) (inner _ (omega arith) (omega arith) (omega arith)) (pass-paths ps)
-
-  pass-operand : (o : Operand) → Passing d (operandRow o)
-  unfolding operandRow asParts encode
-  pass-operand (ref space at paths z) = pass-inner d (Ref space at (length paths) z) (pathRows paths) (inner _ (omega arith) (omega arith) (omega arith)) (pass-paths paths)
-  pass-operand (outer space up at z) = pass-inner d (Outer space up at z) [] (inner _ (omega arith) (omega arith) (omega arith)) (pass-none d)
-  pass-operand (case name z) = pass-inner d (Case name z) [] (inner _ (omega arith) (omega arith) (omega arith)) (pass-none d)
-
-  pass-operands : (os : List Operand) → Passing d (operandRows os)
-  unfolding operandRows
-  pass-operands [] = pass-none d
-  pass-operands (o ∷ os) = pass-both d (operandRow o) (operandRows os) (pass-operand o) (pass-operands os)
-
-  pass-export : (x : Option ℕ) → Passing d (exportRows x)
-  unfolding exportRows asParts encode
-  pass-export none = pass-none d
-  pass-export (some n) = pass-inner d (Export n) [] (inner _ (omega arith) (omega arith) (omega arith)) (pass-none d)
-
-  -- a field's rows behind its FIELD
-  pass-behind : (h : Head) → Passing d (behindField h)
-  unfolding behindField
-  pass-behind h =
-      pass-both d (declRows (h .decls)) (operandRows (h .operands) ++ exportRows (h .export)) (pass-decls (h .decls))
-      (pass-both d (operandRows (h .operands)) (exportRows (h .export)) (pass-operands (h .operands)) (pass-export (h .export)))
+pass-behind : (d : ℕ) (h : Head) (ys : List Row) → marks d (behindField h ++ ys) ≡ map (mark d) (behindField h) ++ marks d ys
+pass-behind d h ys = pass-inner d (behindField h) ys (inner-behind h)
 
 -- ---- rows behind which the depth is another
 
@@ -324,16 +279,6 @@ field-deep d h ys l n =
 head-goes : (d : ℕ) (h : Head) (ys : List Row) (b : Bool) → isInserted h ≡ b → d ≤ 1 → NoDecl ys → marks d (headRows h ++ ys) ≡ map (mark (level b)) (headRows h) ++ marks (level b) ys
 unfolding marks headRows behindField
 head-goes d h ys b e l n = rw (field-deep d h ys l n, e) (ap (λ (cs : List Claimed). mark (level b) (Field (h .code) (h .builtin) (h .z)) ∷ cs) (pass-behind (level b) h ys))
-
-fields-no-decl : (fs : Fields) (zs : List Row) → NoDecl (fieldsRows fs ++ (Close ∷ zs))
-unfolding flatten headRows asParts encode
-fields-no-decl end zs = refl
-fields-no-decl (plain h ▸ fs) zs = refl
-fields-no-decl (holds h s ▸ fs) zs = refl
-
-scope-no-decl : (s : Scope) (ys : List Row) → NoDecl (flatten s ++ ys)
-unfolding flatten asParts encode
-scope-no-decl (scope kind name fs) ys = refl
 
 -- a field and what follows it
 item-added : (d : ℕ) (i : Item) (ys : List Row) → isInserted (headOf i) ≡ true → d ≤ 1 → NoDecl ys → marks d (itemRows i ++ ys) ≡ map added (itemRows i) ++ marks 1 ys
