@@ -88,7 +88,7 @@ parts-eleven : (rules : RuleSet) (builtin : ℕ) (d : Declaration) → Shapes.pa
 unfolding Shapes.parts Shapes.declared
 parts-eleven rules builtin d = refl
 
-closed : (code : ℕ) → isIn code (9 ∷ 10 ∷ 11 ∷ []) ≡ true → Shapes.opens code ≡ none
+pub closed : (code : ℕ) → isIn code (9 ∷ 10 ∷ 11 ∷ []) ≡ true → Shapes.opens code ≡ none
 unfolding Shapes.opens if_then_else_
 closed code c =
     or-cases (eqb code 9) _ c (λ t. rw (eqb-true code 9 t))

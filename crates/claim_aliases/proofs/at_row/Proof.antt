@@ -1,0 +1,10 @@
+-- `claim_aliases::at_row` meets its contract.
+use Rattle.claim_aliases.proofs.Ways.{at-is}
+use borrow.Author.Needs.{needs}
+use Rattle.claim_aliases.proofs.at_row.Statement.{statement}
+use Rattle.claim_aliases.proofs.at_row.Tie as tie
+
+pub at-row-spec : {M : Type 1} → statement M
+at-row-spec = tie.close (tie.spec
+    (λ c κs. search needs)  -- is-added-requires
+    (λ c. search (at-is, needs)))  -- returns

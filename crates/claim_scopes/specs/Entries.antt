@@ -1,0 +1,34 @@
+-- What was entered for the scopes of a claim: slots with a space of a scope, a name or number, and a value.
+use mathlib.Core.List.{List, [], _∷_, _++_}
+use Prim.Native.Nat.{ℕ, _+_, _*_, _%_}
+use lib.Dec.{ltb}
+use lib.ListN.{length, drop}
+use Rattle.kit.specs.Pick.{pick}
+use Rattle.names.specs.Table.{Slot, findIn}
+use Rattle.names.specs.declared.Found.{Found}
+use Rattle.names.specs.declared.Found.the-variants as found
+use Rattle.claim_scopes.specs.declared.entries.Entry.{Entry}
+use Rattle.claim_scopes.specs.declared.entries.Entry.the-variants.{Value, Nothing}
+
+-- a space of a scope, by the row of its OPEN
+unfoldable pub keyT : (scope space : ℕ) → ℕ
+keyT scope space = scope % 65536 * 13 + space
+
+unfoldable pub slotT : (scope space name value : ℕ) → Slot
+slotT scope space name value = keyT scope space ∷ name ∷ value ∷ 0 ∷ 0 ∷ 0 ∷ []
+
+unfoldable pub entryOf : Found → Entry
+entryOf (found.At value) = Value value
+entryOf found.Nothing = Nothing
+
+-- the first of the slots that were entered so
+unfoldable pub lookT : List Slot → (scope space name : ℕ) → Entry
+lookT ss scope space name = entryOf (findIn ss (keyT scope space) name)
+
+-- one slot more, where there is room
+unfoldable pub enterT : (room : ℕ) → List Slot → Slot → List Slot
+enterT room ss s = pick (ltb (length ss) room) (ss ++ (s ∷ [])) ss
+
+-- a table whose first slots are these, and the others as they were
+unfoldable pub laidT : (ss table : List Slot) → List Slot
+laidT ss table = ss ++ drop (length ss) table
