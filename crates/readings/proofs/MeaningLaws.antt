@@ -1,22 +1,19 @@
 -- The ways through the code that says what a reference means.
 use mathlib.Core.Path.{_≡_, refl, _∙_}
-use mathlib.Core.Bool.{Bool, true, false, _&&_, _||_, not}
+use mathlib.Core.Bool.{Bool, true, false}
 use mathlib.Core.List.{List}
-use native.Mathlib.Omega.{arith}
-use Prim.Native.Nat.{ℕ, _≤_, _<_}
+use Prim.Native.Nat.{ℕ}
 use borrow.Author.Needs.{needs}
-use lib.Dec.{eqb}
 use Rattle.kit.proofs.Laws.{yes!, no!, tests}
-use Rattle.rules.specs.Shapes.{hereOnly}
-use Rattle.row_parts.specs.Parts.{codeAt, bAt, eAt, xAt, yAt, isInserted, nextOf, fieldOf}
+use Rattle.row_parts.specs.Parts.{codeAt, bAt, eAt, xAt, yAt, nextOf}
 use Rattle.scopes.specs.Scopes.{scopeOf, findIn, scopeOutward}
 use Rattle.readings.specs.Meaning.{spaceSought, isWalked, readingOf, isOutward, meant, inScope, inOuter, outwardFor, outerWanted, indexKey, throughOuter, keyOf, meaningOf, isInsertedOuter, behind, finalMeaning}
 use Rattle.scopes.specs.declared.Key.{Key}
-use Rattle.scopes.specs.declared.Key.the-variants.{Name, Number}
+use Rattle.scopes.specs.declared.Key.the-variants.{Name}
 use Rattle.scopes.specs.declared.Found.{Found}
 use Rattle.scopes.specs.declared.Found.the-variants.{At as FoundAt, Nothing}
 use Rattle.scopes.specs.declared.Wanted.{Wanted}
-use Rattle.scopes.specs.declared.Wanted.the-variants.{Out, Named, Declaring}
+use Rattle.scopes.specs.declared.Wanted.the-variants.{Declaring}
 use Rattle.scopes.specs.declared.Outer.{Outer}
 use Rattle.scopes.specs.declared.Outer.the-variants.{At as OuterAt, Nowhere as NoScope}
 use Rattle.readings.specs.declared.Meaning.{Meaning}
@@ -25,24 +22,6 @@ use Rattle.readings.specs.declared.Reading.{Reading}
 use Rattle.readings.specs.declared.Reading.the-variants.{Outward, LookedUp, Counting}
 
 -- ---- readings
-
-module _ (form : List ℕ) (row b y : ℕ) (space : b ≡ bAt form row) (paths : y ≡ yAt form row) where
-  pub sought-own : y ≡ 0 → b ≡ spaceSought form row
-  unfolding spaceSought
-  sought-own e = yes! _ (omega tests) space
-
-  module _ (n : y ≡ 0 → ⊥) where
-    pub sought-core : b < 7 → 6 ≡ spaceSought form row
-    unfolding spaceSought
-    sought-core h = no! _ (omega tests) (yes! _ (omega tests) refl)
-
-    pub sought-instance : 7 ≤ b → 10 ≡ spaceSought form row
-    unfolding spaceSought
-    sought-instance h = no! _ (omega tests) (no! _ (omega tests) refl)
-
-pub walked-is : (form : List ℕ) (row c y f b : ℕ) (h : Bool) → c ≡ codeAt form row → y ≡ yAt form row → f ≡ fieldOf form row → b ≡ bAt form f → h ≡ hereOnly b → (eqb c 3 && eqb y 0 && not h) ≡ isWalked form row
-unfolding isWalked
-walked-is form row c y f b h hc hy hf hb hh = rw (hc, hy, hh, hb, hf)
 
 module _ (form : List ℕ) (row e : ℕ) (flag : e ≡ eAt form row) where
   pub reading-counting : e ≡ 0 → Counting ≡ readingOf form row
@@ -88,23 +67,6 @@ module _ (form : List ℕ) (row space name s : ℕ) (around : s ≡ scopeOf form
   unfolding outwardFor inOuter
   outward-nowhere q = rw (← around, ← got, q)
 
-module _ (e x : ℕ) where
-  pub wanted-name : (eqb e 1 || eqb e 3) ≡ true → Named x ≡ outerWanted e x
-  unfolding outerWanted
-  wanted-name h = yes! _ h refl
-
-  pub wanted-count : (eqb e 1 || eqb e 3) ≡ false → Out x ≡ outerWanted e x
-  unfolding outerWanted
-  wanted-count h = no! _ h refl
-
-  pub index-number : e < 2 → Number x ≡ indexKey e x
-  unfolding indexKey
-  index-number h = yes! _ (omega tests) refl
-
-  pub index-name : 2 ≤ e → Name x ≡ indexKey e x
-  unfolding indexKey
-  index-name h = no! _ (omega tests) refl
-
 module _ (form : List ℕ) (row e x s : ℕ) (flags : e ≡ eAt form row) (up : x ≡ xAt form row) (around : s ≡ scopeOf form row) (w : Wanted) (wanted : w ≡ outerWanted e x) (o : Outer) (got : o ≡ scopeOutward form s w) where
   pub through-at : (scope out : ℕ) → o ≡ OuterAt scope out → (b y : ℕ) (k : Key) → b ≡ bAt form row → y ≡ yAt form row → k ≡ indexKey e y → (X : Meaning) → X ≡ inScope form scope out b k → X ≡ throughOuter form row
   unfolding throughOuter inOuter
@@ -113,15 +75,6 @@ module _ (form : List ℕ) (row e x s : ℕ) (flags : e ≡ eAt form row) (up : 
   pub through-nowhere : o ≡ NoScope → Nowhere ≡ throughOuter form row
   unfolding throughOuter inOuter
   through-nowhere q = rw (← flags, ← up, ← around, ← wanted, ← got, q)
-
-module _ (form : List ℕ) (row e x : ℕ) (flag : e ≡ eAt form row) (operand : x ≡ xAt form row) where
-  pub key-number : e ≡ 0 → Number x ≡ keyOf form row
-  unfolding keyOf
-  key-number h = yes! _ (omega tests) (rw operand)
-
-  pub key-name : (e ≡ 0 → ⊥) → Name x ≡ keyOf form row
-  unfolding keyOf
-  key-name h = no! _ (omega tests) (rw operand)
 
 module _ (form : List ℕ) (row c : ℕ) (code : c ≡ codeAt form row) (X : Meaning) where
   pub meaning-outer : c ≡ 5 → X ≡ throughOuter form row → X ≡ meaningOf form row
@@ -136,10 +89,6 @@ module _ (form : List ℕ) (row c : ℕ) (code : c ≡ codeAt form row) (X : Mea
     pub meaning-here : o ≡ false → (s : ℕ) → s ≡ scopeOf form row → (k : Key) → k ≡ keyOf form row → X ≡ inScope form s 0 space k → X ≡ meaningOf form row
     unfolding meaningOf
     meaning-here h s hs k hk x = no! _ (omega tests) (no! _ (rw (← outward) h) (x ∙ rw (sought, hs, hk)))
-
-pub inserted-outer-is : (form : List ℕ) (decl n c : ℕ) (i : Bool) → i ≡ isInserted form decl → n ≡ nextOf decl → c ≡ codeAt form n → (i && eqb c 5) ≡ isInsertedOuter form decl
-unfolding isInsertedOuter
-inserted-outer-is form decl n c i hi hn hc = rw (hi, hc, hn)
 
 module _ (form : List ℕ) (row : ℕ) (m : Meaning) (got : m ≡ meaningOf form row) where
   module _ (decl number out name : ℕ) (at : m ≡ At decl number out name) (i : Bool) (alias : i ≡ isInsertedOuter form decl) where
@@ -157,4 +106,4 @@ module _ (form : List ℕ) (row : ℕ) (m : Meaning) (got : m ≡ meaningOf form
 
 pub ruleset final-ways = (final-behind, final-itself, final-nowhere, needs)
 
-pub ruleset meaning-ways = (sought-own, sought-core, sought-instance, walked-is, reading-counting, reading-outward, reading-looked-up, outward-yes, outward-looked-up, outward-counting, in-at, in-nothing, outward-at, outward-nowhere, wanted-name, wanted-count, index-number, index-name, through-at, through-nowhere, key-number, key-name, meaning-outer, meaning-outward, meaning-here, inserted-outer-is, needs)
+pub ruleset meaning-ways = (reading-counting, reading-outward, reading-looked-up, outward-yes, outward-looked-up, outward-counting, in-at, in-nothing, outward-at, outward-nowhere, through-at, through-nowhere, meaning-outer, meaning-outward, meaning-here, needs)

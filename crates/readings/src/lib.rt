@@ -1,16 +1,18 @@
 // What a reference on the rows of a form means: outward where it is a walked name, by counting where it is a number, or looked up in one
 // scope. It takes any bytes.
-use codes::here_only;
+use operands::index_key;
+pub use operands::is_inserted_outer;
+use operands::is_walked;
+use operands::key_of;
+pub use operands::outer_wanted;
+pub use operands::space_sought;
 use row_parts::OUTER;
 use row_parts::b_at;
 use row_parts::code_at;
 use row_parts::e_at;
-use row_parts::field_of;
-use row_parts::is_inserted;
 use row_parts::next;
 use row_parts::x_at;
 use row_parts::y_at;
-use rows::row::REF;
 use scopes::Found;
 use scopes::Key;
 use scopes::Outer;
@@ -19,7 +21,7 @@ use scopes::find;
 use scopes::scope_of;
 use scopes::scope_outward;
 ghost use mathlib.Core.Path.{_≡_};
-ghost use Rattle.readings.specs.Meaning.{spaceSought, isWalked, readingOf, isOutward, inScope, outwardFor, outerWanted, indexKey, throughOuter, keyOf, meaningOf, isInsertedOuter, finalMeaning};
+ghost use Rattle.readings.specs.Meaning.{readingOf, isOutward, inScope, outwardFor, throughOuter, meaningOf, finalMeaning};
 
 // The DECL row that is meant, its number in its scope, how many scopes out that is, and its name.
 pub enum Meaning {
@@ -40,29 +42,6 @@ pub enum Reading {
     LookedUp,
     // A number.
     Counting,
-}
-
-// The space in which a REF's operand is looked up: with PATHs, that of the instance where they start.
-pub fn space_sought(form: &[u8], row: u16) -> u8
-    ensures { λ r. ⌜ r ≡ spaceSought (now (form .entry)) row ⌝ }
-{
-    let space = b_at(form, row);
-    if y_at(form, row) == 0 {
-        space
-    } else if space < 7 {
-        6
-    } else {
-        10
-    }
-}
-
-// Whether a name is walked: that of a REF without PATHs, in a field that is not here-only.
-fn is_walked(form: &[u8], row: u16) -> bool
-    ensures { λ r. ⌜ r ≡ isWalked (now (form .entry)) row ⌝ }
-{
-    (code_at(form, row) == REF)
-        & (y_at(form, row) == 0)
-        & !here_only(b_at(form, field_of(form, row)))
 }
 
 // How a REF or an OUTER is read.
@@ -114,24 +93,6 @@ fn outward(form: &[u8], row: u16, space: u8, name: u32) -> Meaning
     }
 }
 
-// The outer scope of an OUTER.
-pub fn outer_wanted(e: u32, x: u32) -> Wanted
-    ensures { λ r. ⌜ r ≡ outerWanted e x ⌝ }
-{
-    if (e == 1) | (e == 3) {
-        Wanted::Named(x)
-    } else {
-        Wanted::Out(x)
-    }
-}
-
-// Its index there.
-fn index_key(e: u32, y: u32) -> Key
-    ensures { λ r. ⌜ r ≡ indexKey e y ⌝ }
-{
-    if e < 2 { Key::Number(y) } else { Key::Name(y) }
-}
-
 // The declaration at an OUTER's index in its outer scope.
 pub fn through_outer(form: &[u8], row: u16) -> Meaning
     ensures { λ r. ⌜ r ≡ throughOuter (now (form .entry)) row ⌝ }
@@ -149,18 +110,6 @@ pub fn through_outer(form: &[u8], row: u16) -> Meaning
     }
 }
 
-// A REF's operand.
-fn key_of(form: &[u8], row: u16) -> Key
-    ensures { λ r. ⌜ r ≡ keyOf (now (form .entry)) row ⌝ }
-{
-    let x = x_at(form, row);
-    if e_at(form, row) == 0 {
-        Key::Number(x)
-    } else {
-        Key::Name(x)
-    }
-}
-
 // The declaration that a REF or an OUTER means; a number counts in its own scope, and no alias is followed.
 pub fn meaning_of(form: &[u8], row: u16) -> Meaning
     ensures { λ r. ⌜ r ≡ meaningOf (now (form .entry)) row ⌝ }
@@ -173,13 +122,6 @@ pub fn meaning_of(form: &[u8], row: u16) -> Meaning
         return outward(form, row, space, x_at(form, row));
     }
     in_scope(form, scope_of(form, row), 0, space, key_of(form, row))
-}
-
-// Whether a DECL row is that of an inserted outer alias.
-pub fn is_inserted_outer(form: &[u8], decl: u16) -> bool
-    ensures { λ r. ⌜ r ≡ isInsertedOuter (now (form .entry)) decl ⌝ }
-{
-    is_inserted(form, decl) & (code_at(form, next(decl)) == OUTER)
 }
 
 // What a reference means in the end: behind an inserted outer alias, the declaration that the alias's OUTER counts to.

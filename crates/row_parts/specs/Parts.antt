@@ -1,66 +1,15 @@
--- The rows of a form, by the bytes in which they stand. Any bytes will do: what lies past the end is 0.
+-- The rows of a form, by the bytes in which they stand. Any bytes will do: what lies past the end is 0. Single rows and the header are said in
+-- crates below, and passed on here.
 use mathlib.Core.Bool.{Bool, _&&_, _||_, not}
 use mathlib.Core.List.{List}
-use Prim.Native.Nat.{ℕ, zero, suc, _+_, _*_, _-_, _/_}
-use lib.Dec.{eqb, ltb}
-use lib.ListN.{length, getD}
+use Prim.Native.Nat.{ℕ, zero, suc, _+_}
+use lib.Dec.{eqb}
 use Rattle.kit.specs.Pick.{pick}
-use Rattle.rules.specs.Readings.{isFresh}
-use Rattle.rows.specs.Apart.{two, four}
-
--- ---- the parts of a row: sixteen bytes, behind a header of eight
-
-abbrev pub startOf : ℕ → ℕ
-startOf row = 8 + 16 * row
-
-unfoldable pub codeAt : (form : List ℕ) (row : ℕ) → ℕ
-codeAt form row = getD form (startOf row) 0
-
-unfoldable pub bAt : (form : List ℕ) (row : ℕ) → ℕ
-bAt form row = getD form (startOf row + 1) 0
-
-unfoldable pub eAt : (form : List ℕ) (row : ℕ) → ℕ
-eAt form row = two form (startOf row + 2)
-
-unfoldable pub xAt : (form : List ℕ) (row : ℕ) → ℕ
-xAt form row = four form (startOf row + 4)
-
-unfoldable pub yAt : (form : List ℕ) (row : ℕ) → ℕ
-yAt form row = four form (startOf row + 8)
-
-unfoldable pub zAt : (form : List ℕ) (row : ℕ) → ℕ
-zAt form row = four form (startOf row + 12)
-
--- ---- the header
-
-abbrev pub beginsWnt : List ℕ → Bool
-beginsWnt form = eqb (getD form 0 0) 87 && eqb (getD form 1 0) 78 && eqb (getD form 2 0) 84
-
--- is it that of version 1?
-abbrev pub hasHeader : List ℕ → Bool
-hasHeader form = beginsWnt form && eqb (getD form 3 0) 1 && eqb (getD form 4 0) 0 && eqb (getD form 5 0) 0
-
--- how many whole rows stand behind it, at most 65535
-unfoldable pub rowsIn : List ℕ → ℕ
-rowsIn form = let rows = (length form - 8) / 16 in pick (ltb rows 65535) rows 65535
-
--- are there just as many as it says?
-unfoldable pub isWhole : List ℕ → Bool
-isWhole form = eqb (two form 6) (rowsIn form) && eqb (length form) (startOf (rowsIn form))
-
--- ---- kinds of rows
-
--- an inserted DECL
-unfoldable pub isInserted : (form : List ℕ) (row : ℕ) → Bool
-isInserted form row = eqb (codeAt form row) 2 && isFresh (xAt form row)
-
--- a REF or an OUTER
-unfoldable pub isReference : (form : List ℕ) (row : ℕ) → Bool
-isReference form row = eqb (codeAt form row) 3 || eqb (codeAt form row) 5
-
--- the row behind a row; the last that a row number can say is its own
-unfoldable pub nextOf : ℕ → ℕ
-nextOf row = pick (ltb row 65535) (row + 1) row
+pub use Rattle.row_bytes.specs.Parts.{startOf}
+unfoldable pub use Rattle.row_bytes.specs.Parts.{codeAt, bAt, eAt, xAt, yAt, zAt}
+pub use Rattle.row_count.specs.Count.{beginsWnt, hasHeader}
+unfoldable pub use Rattle.row_count.specs.Count.{rowsIn, isWhole}
+unfoldable pub use Rattle.row_kinds.specs.Kinds.{isInserted, isReference, nextOf, countOn}
 
 -- the last FIELD up to a row, or row 0
 unfoldable pub fieldOf : (form : List ℕ) (row : ℕ) → ℕ
@@ -78,12 +27,6 @@ unfoldable pub isAscribed : (form : List ℕ) (row : ℕ) → Bool
 isAscribed form row =
     let field = fieldOf form row in
     isTyped form field && (not (eqb (bAt form row) (bAt form (nextOf field))) || eqb (codeAt form (nextOf row)) 3)
-
--- ---- counts
-
--- one more, if there is one more to count and a number of four bytes can say it
-unfoldable pub countOn : (count : ℕ) (more : Bool) → ℕ
-countOn count more = pick (eqb count 4294967295) count (pick more (count + 1) count)
 
 -- ---- inserted fields: each has one DECL
 

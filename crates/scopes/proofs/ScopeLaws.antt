@@ -9,9 +9,8 @@ use lib.Dec.{eqb, leb}
 use Rattle.kit.specs.Pick.{pick}
 use Rattle.kit.proofs.Laws.{yes!, no!, tests, left-suc, down}
 use Rattle.rules.specs.Readings.{isFresh}
-use Rattle.row_parts.proofs.PartLaws.{count-on}
-use Rattle.row_parts.specs.Parts.{codeAt, bAt, xAt, rowsIn, countOn}
-use Rattle.scopes.specs.Scopes.{levelBehind, levelOn, levelAbove, scopeAbove, scopeOf, declares, isMeant, findFrom, findIn, numberFrom, numberOf, isFound, declaresName, isWanted, outwardFrom, scopeOutward}
+use Rattle.row_parts.specs.Parts.{codeAt, xAt, rowsIn}
+use Rattle.scopes.specs.Scopes.{levelBehind, scopeOf, declares, isMeant, findFrom, findIn, isFound, declaresName, isWanted, outwardFrom, scopeOutward}
 use Rattle.scopes.specs.declared.Key.{Key}
 use Rattle.scopes.specs.declared.Key.the-variants.{Name, Number, Inserted}
 use Rattle.scopes.specs.declared.Found.{Found}
@@ -21,67 +20,7 @@ use Rattle.scopes.specs.declared.Wanted.the-variants.{Out, Named, Declar
 use Rattle.scopes.specs.declared.Outer.{Outer}
 use Rattle.scopes.specs.declared.Outer.the-variants.{At as OuterAt, Nowhere}
 
--- ---- levels
-
-module _ (level code : ℕ) where
-  pub behind-open : code ≡ 7 → (r : ℕ) → r ≡ countOn level true → r ≡ levelOn level code
-  unfolding levelOn
-  behind-open h r e = yes! _ (omega tests) e
-
-  -- below the highest count nothing stays
-  pub level-on : level < 4294967295 → levelOn level code ≡ levelBehind level code
-  unfolding levelOn levelBehind pick
-  level-on h = rw (count-on level true h)
-
-  pub above-close : code ≡ 8 → level + 1 ≡ levelAbove level code
-  unfolding levelAbove
-  above-close h = yes! _ (omega tests) refl
-
-  module _ (n : code ≡ 7 → ⊥) where
-    pub behind-close : code ≡ 8 → (r : ℕ) → r ≡ level - 1 → r ≡ levelOn level code
-    unfolding levelOn
-    behind-close h r e = no! _ (omega tests) (yes! _ (omega tests) e)
-
-    pub behind-other : (code ≡ 8 → ⊥) → level ≡ levelOn level code
-    unfolding levelOn
-    behind-other h = no! _ (omega tests) (no! _ (omega tests) refl)
-
-  module _ (n : code ≡ 8 → ⊥) where
-    pub above-open : code ≡ 7 → (r : ℕ) → r ≡ level - 1 → r ≡ levelAbove level code
-    unfolding levelAbove
-    above-open h r e = no! _ (omega tests) (yes! _ (omega tests) e)
-
-    pub above-other : (code ≡ 7 → ⊥) → level ≡ levelAbove level code
-    unfolding levelAbove
-    above-other h = no! _ (omega tests) (no! _ (omega tests) refl)
-
--- ---- the scope of a row
-
-pub scope-start : (form : List ℕ) (row : ℕ) → scopeAbove form row 0 ≡ scopeOf form row
-unfolding scopeOf
-scope-start form row = refl
-
-module _ (form : List ℕ) (above level T : ℕ) (inv : scopeAbove form above level ≡ T) where
-  pub scope-end : above ≤ 0 → 0 ≡ T
-  unfolding scopeAbove
-  scope-end h = let e : above ≡ 0 = omega arith in rw e at inv
-
-  module _ (h : 0 < above) (c : ℕ) (code : c ≡ codeAt form (above - 1)) (b : Bool) (bound : b ≡ (eqb level 0 && eqb c 7)) where
-    step : pick b (above - 1 + 1) (scopeAbove form (above - 1) (levelAbove level c)) ≡ T
-    unfolding scopeAbove
-    step = let e : above - 1 + 1 ≡ suc (above - 1) = omega arith in rw (bound, code, e) (rw (down above h) at inv)
-
-    pub scope-hit : b ≡ true → above - 1 + 1 ≡ T
-    scope-hit e = yes! _ e refl ∙ step
-
-    pub scope-on : b ≡ false → (l : ℕ) → l ≡ levelAbove level c → scopeAbove form (above - 1) l ≡ T
-    scope-on e l hl = no! _ e (rw hl) ∙ step
-
 -- ---- declarations
-
-pub declares-is : (form : List ℕ) (row level space c b : ℕ) → c ≡ codeAt form row → b ≡ bAt form row → (eqb level 0 && eqb c 2 && eqb b space) ≡ declares form row level space
-unfolding declares
-declares-is form row level space c b hc hb = rw (hc, hb)
 
 module _ (name number wanted : ℕ) (key : Key) where
   pub meant-name : key ≡ Name wanted → (not (eqb wanted 0) && eqb wanted name) ≡ isMeant key name number
@@ -117,19 +56,6 @@ module _ (form : List ℕ) (space : ℕ) (key : Key) (rows row level number : �
 
       pub find-on : (d && m) ≡ false → (n l : ℕ) → n ≡ pick d (number + 1) number → l ≡ levelBehind level c → findFrom form space key (row + 1) (rows - (row + 1)) l n ≡ T
       find-on e n l hn hl = no! _ on (no! _ (rw (← name, ← meant, ← here) e) (rw (hn, hl, here))) ∙ found
-
-pub number-start : (form : List ℕ) (decl space scope : ℕ) → space ≡ bAt form decl → scope ≡ scopeOf form decl → numberFrom form space scope (decl - scope) 0 0 ≡ numberOf form decl
-unfolding numberOf
-number-start form decl space scope hb hs = rw (hb, hs)
-
-module _ (form : List ℕ) (space decl row level number T : ℕ) (inv : numberFrom form space row (decl - row) level number ≡ T) where
-  pub number-end : decl ≤ row → number ≡ T
-  unfolding numberFrom
-  number-end h = let e : decl - row ≡ 0 = omega arith in rw e at inv
-
-  pub number-turn : row < decl → (d : Bool) (c n l : ℕ) → d ≡ declares form row level space → c ≡ codeAt form row → n ≡ pick d (number + 1) number → l ≡ levelBehind level c → numberFrom form space (row + 1) (decl - (row + 1)) l n ≡ T
-  unfolding numberFrom
-  number-turn h d c n l hd hc hn hl = rw (hn, hl, hd, hc) (rw (left-suc row decl h) at inv)
 
 -- ---- outward
 
@@ -176,12 +102,8 @@ module _ (form : List ℕ) (wanted : Wanted) (scope around out : ℕ) (T : Outer
     pub outward-on : b ≡ false → (a : ℕ) → a ≡ scopeOf form (around - 1) → outwardFrom form wanted (scope - (out + 1)) a (out + 1) ≡ T
     outward-on e a ha = no! _ (omega tests) (no! _ e (rw ha)) ∙ sought
 
-pub ruleset scope-ways = (behind-open, above-close, behind-close, behind-other, above-open, above-other, declares-is, meant-name, meant-number, meant-inserted, declares-at, declares-nothing, wanted-out, wanted-named, wanted-declaring, needs)
-
-pub ruleset climb-ways = (scope-start, scope-end, scope-hit, scope-on, needs)
+pub ruleset scope-ways = (meant-name, meant-number, meant-inserted, declares-at, declares-nothing, wanted-out, wanted-named, wanted-declaring, needs)
 
 pub ruleset find-ways = (find-start, find-end, find-close, find-hit, needs)
-
-pub ruleset number-ways = (number-start, number-end, needs)
 
 pub ruleset outward-ways = (outward-start, outward-end, outward-hit, outward-on, needs)

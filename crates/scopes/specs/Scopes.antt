@@ -5,7 +5,8 @@ use Prim.Native.Nat.{ℕ, zero, suc, _+_, _-_}
 use lib.Dec.{eqb}
 use Rattle.kit.specs.Pick.{pick}
 use Rattle.rules.specs.Readings.{isFresh}
-use Rattle.row_parts.specs.Parts.{codeAt, bAt, xAt, rowsIn, countOn}
+use Rattle.row_parts.specs.Parts.{codeAt, xAt, rowsIn}
+unfoldable pub use Rattle.scope_rows.specs.Levels.{levelBehind, levelOn, levelAbove, scopeAbove, scopeOf, declares, numberFrom, numberOf}
 use Rattle.scopes.specs.declared.Key.{Key}
 use Rattle.scopes.specs.declared.Key.the-variants.{Name, Number, Inserted}
 use Rattle.scopes.specs.declared.Found.{Found}
@@ -15,37 +16,7 @@ use Rattle.scopes.specs.declared.Wanted.the-variants.{Out, Named, Declar
 use Rattle.scopes.specs.declared.Outer.{Outer}
 use Rattle.scopes.specs.declared.Outer.the-variants.{At as OuterAt, Nowhere}
 
--- ---- levels: how many scopes lie between a row and the scope that is gone through
-
--- behind a row of that code, going down
-unfoldable pub levelBehind : (level code : ℕ) → ℕ
-levelBehind level code = pick (eqb code 7) (level + 1) (pick (eqb code 8) (level - 1) level)
-
--- the same, where the highest count stays
-unfoldable pub levelOn : (level code : ℕ) → ℕ
-levelOn level code = pick (eqb code 7) (countOn level true) (pick (eqb code 8) (level - 1) level)
-
--- above it, going up
-unfoldable pub levelAbove : (level code : ℕ) → ℕ
-levelAbove level code = pick (eqb code 8) (level + 1) (pick (eqb code 7) (level - 1) level)
-
--- ---- the scope of a row
-
--- the rows above, of which `above` are left
-unfoldable pub scopeAbove : (form : List ℕ) (above level : ℕ) → ℕ
-scopeAbove form zero level = zero
-scopeAbove form (suc above) level =
-    let code = codeAt form above in
-    pick (eqb level 0 && eqb code 7) (suc above) (scopeAbove form above (levelAbove level code))
-
-unfoldable pub scopeOf : (form : List ℕ) (row : ℕ) → ℕ
-scopeOf form row = scopeAbove form row 0
-
 -- ---- declarations
-
--- a DECL of a space in the scope itself
-unfoldable pub declares : (form : List ℕ) (row level space : ℕ) → Bool
-declares form row level space = eqb level 0 && eqb (codeAt form row) 2 && eqb (bAt form row) space
 
 -- 0 is no name
 abbrev pub isMeant : Key → (name number : ℕ) → Bool
@@ -66,18 +37,6 @@ findFrom form space key row (suc left) level number =
 -- the declaration of a space that a scope has by a name or a number, or its first inserted one
 unfoldable pub findIn : (form : List ℕ) (scope space : ℕ) → Key → Found
 findIn form scope space key = findFrom form space key scope (rowsIn form - scope) 0 0
-
-unfoldable pub numberFrom : (form : List ℕ) (space row left level number : ℕ) → ℕ
-numberFrom form space row zero level number = number
-numberFrom form space row (suc left) level number =
-    numberFrom form space (row + 1) left (levelBehind level (codeAt form row))
-    (pick (declares form row level space) (number + 1) number)
-
--- how many declarations of its space its scope has before it
-unfoldable pub numberOf : (form : List ℕ) (decl : ℕ) → ℕ
-numberOf form decl =
-    let scope = scopeOf form decl in
-    numberFrom form (bAt form decl) scope (decl - scope) 0 0
 
 -- ---- outward
 

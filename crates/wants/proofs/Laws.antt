@@ -13,7 +13,7 @@ use Rattle.kit.specs.Pick.{pick}
 use Rattle.kit.proofs.Laws.{lt-or-le, yes!, no!, tests}
 use Rattle.rules.specs.Tools.{_then_}
 use Rattle.rules.specs.Shapes.{Part}
-use Rattle.codes.proofs.Laws.{values, same-table}
+use Rattle.kit.proofs.Tables.{values, same-table}
 use Rattle.wants.specs.States.{states, leftOf, after, entry, Right}
 
 -- is there one?

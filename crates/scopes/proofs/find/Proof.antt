@@ -4,7 +4,8 @@ use Prim.Native.Nat.{_-_, _≤_}
 use Rattle.scopes.specs.Scopes.{findFrom, findIn}
 use borrow.Author.Needs.{needs}
 use Rattle.row_parts.proofs.PartLaws.{count-on}
-use Rattle.scopes.proofs.ScopeLaws.{find-ways, find-on, level-on}
+use Rattle.scope_rows.proofs.LevelLaws.{level-on}
+use Rattle.scopes.proofs.ScopeLaws.{find-ways, find-on}
 use Rattle.scopes.proofs.find.Statement.{statement}
 use Rattle.scopes.proofs.find.Tie as tie
 

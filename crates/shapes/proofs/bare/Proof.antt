@@ -4,7 +4,7 @@ use mathlib.Core.Path.{refl}
 use Rattle.kit.specs.Pick.{pick}
 use Rattle.rules.specs.Tools.{if_then_else_, only}
 use Rattle.rules.specs.Shapes.{declares, enough}
-use Rattle.codes.proofs.Laws.{at-range}
+use Rattle.kit.proofs.Tables.{at-range}
 use Rattle.wants.specs.States.{states, leftOf}
 use Rattle.shapes.specs.Starts.{partsBy, bareParts}
 use Rattle.shapes.proofs.Laws.{bare-not, bare-past}

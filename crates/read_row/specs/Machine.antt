@@ -1,0 +1,185 @@
+-- What a row leads to as the code has it: what the rules' `Reader` holds of a state, without the tree that it makes.
+use mathlib.Core.Bool.{Bool, true, false, _&&_, _||_, not}
+use mathlib.Core.Option.{Option, none, some}
+use mathlib.Core.List.{List}
+use Prim.Native.Nat.{ℕ, _+_, _-_}
+use lib.Dec.{eqb, leb, ltb}
+use lib.ListN.{length, getD, set}
+use Rattle.kit.specs.Pick.{pick}
+use Rattle.kit.specs.Out.{Out, _&_}
+use Rattle.rules.specs.Tools.{_then_}
+use Rattle.rules.specs.Versions.{RuleSet}
+use Rattle.rules.specs.Shapes.{Want, Part, declares, opens, allowed, builtinOk, exports, fitsRef, fitsOuter, isCase, next, mayDeclare}
+use Rattle.rules.specs.Reader.{isComplete, isNone, sameKind}
+use Rattle.wants.specs.States.{leftOf}
+use Rattle.shapes.specs.Starts.{partsBy, bareParts}
+use Rattle.rows.specs.declared.row.Row.{Row}
+use Rattle.rows.specs.declared.row.Row.the-variants as row
+use Rattle.read_row.specs.declared.Field.{Field}
+use Rattle.read_row.specs.declared.State.{State}
+
+-- ---- where a reading stands
+
+-- with what the field wants
+pub data Standing : Type 0 where
+  declaring : Option (List Part) → Standing
+  wanting : Option (List Part) → Standing
+  pathing : (left : ℕ) → Option (List Part) → Standing
+  exported : Standing
+
+pub data Current : Type 0 where
+  between-fields : Current
+  within : Field → Standing → Current
+
+pub data Place : Type 0 where
+  place : (depth kind : ℕ) → Current → Place
+
+pub data Outcome : Type 0 where
+  on : Place → Outcome
+  whole : Outcome
+  wrong : Outcome
+  deep : Outcome
+
+-- ---- what the code's values stand for
+
+-- by the number of the stage
+unfoldable pub standingOf : (stage paths : ℕ) → Option (List Part) → Standing
+standingOf stage paths o = pick (eqb stage 0) (declaring o) (pick (eqb stage 1) (wanting o) (pick (eqb stage 2) (pathing paths o) exported))
+
+unfoldable pub currentIn : State → Current
+currentIn s = pick (leb (s .stage) 3) (within (s .field) (standingOf (s .stage) (s .paths) (leftOf (s .left)))) between-fields
+
+unfoldable pub placeOf : State → Place
+placeOf s = place (s .depth) (s .kind) (currentIn s)
+
+unfoldable pub outcomeOf : State → Outcome
+outcomeOf s = pick (ltb (s .stage) 5) (on (placeOf s)) (pick (eqb (s .stage) 5) whole (pick (eqb (s .stage) 7) deep wrong))
+
+-- ---- a field
+
+unfoldable pub newField : (code builtin : ℕ) → Field
+newField code builtin = record { code = code; builtin = builtin; decls = 0; name = 0 }
+
+unfoldable pub moreT : ℕ → ℕ
+moreT decls = pick (ltb decls 2) (decls + 1) decls
+
+unfoldable pub declaredT : Field → (name : ℕ) → Field
+declaredT f name =
+    pick (eqb (f .decls) 0)
+    (record { code = f .code; builtin = f .builtin; decls = 1; name = name })
+    (record { code = f .code; builtin = f .builtin; decls = moreT (f .decls); name = f .name })
+
+-- what it wants with a DECL of this space more
+unfoldable pub declaredLeft : RuleSet → Field → Option (List Part) → (space : ℕ) → Option (List Part)
+declaredLeft rules f o space = pick (eqb (f .decls) 0) (some (partsBy rules (f .code) (f .builtin) space true)) o
+
+-- what the field wants where it stands
+unfoldable pub wantedT : Current → Option (List Part)
+wantedT between-fields = none
+wantedT (within f (declaring o)) = o
+wantedT (within f (wanting o)) = o
+wantedT (within f (pathing left o)) = none
+wantedT (within f exported) = none
+
+unfoldable pub isExported : Standing → Bool
+isExported (declaring o) = false
+isExported (wanting o) = false
+isExported (pathing left o) = false
+isExported exported = true
+
+-- has the field all that it wants?
+unfoldable pub settledT : Current → Bool
+settledT between-fields = false
+settledT (within f stage) = isComplete (wantedT (within f stage)) && not (exports (f .code)) || isExported stage
+
+-- may a field end here without a scope of its own?
+unfoldable pub mayEndT : Current → Bool
+mayEndT between-fields = true
+mayEndT (within f stage) = settledT (within f stage) && isNone (opens (f .code))
+
+-- ---- what a row leads to
+
+unfoldable pub fieldT : Place → (code builtin : ℕ) → Outcome
+fieldT (place d k c) code builtin =
+    pick (mayEndT c && (allowed k code && builtinOk code builtin)) (on (place d k (within (newField code builtin) (declaring (bareParts code))))) wrong
+
+unfoldable pub declT : RuleSet → Place → (space name : ℕ) → Outcome
+declT rules (place d k between-fields) space name = wrong
+declT rules (place d k (within f (declaring o))) space name =
+    pick (mayDeclare (declares (f .code)) (f .decls) space) (on (place d k (within (declaredT f name) (declaring (declaredLeft rules f o space))))) wrong
+declT rules (place d k (within f (wanting o))) space name = wrong
+declT rules (place d k (within f (pathing left o))) space name = wrong
+declT rules (place d k (within f exported)) space name = wrong
+
+-- a REF of which `paths` PATHs are still to come
+unfoldable pub pathedT : (depth kind : ℕ) → Field → (paths : ℕ) → List Part → Outcome
+pathedT d k f paths ps = pick (eqb paths 0) (on (place d k (within f (wanting (some ps))))) (on (place d k (within f (pathing paths (some ps)))))
+
+unfoldable pub stays : Option (List Part) → (List Part → Outcome) → Outcome
+stays none go = wrong
+stays (some ps) go = go ps
+
+-- a row among the operands: what it `fits`, and what comes of it
+unfoldable pub operandT : Current → (fits : Want → Bool) → (Field → List Part → Outcome) → Outcome
+operandT between-fields fits go = wrong
+operandT (within f stage) fits go = stays (wantedT (within f stage) then λ ps. next fits ps) (go f)
+
+unfoldable pub refT : Place → (space paths : ℕ) → Outcome
+refT (place d k c) space paths = operandT c (λ w. fitsRef w space paths) (λ f. pathedT d k f paths)
+
+unfoldable pub outerT : Place → (space : ℕ) → Outcome
+outerT (place d k c) space = operandT c (λ w. fitsOuter w space) (λ f. pathedT d k f 0)
+
+unfoldable pub caseT : Place → Outcome
+caseT (place d k c) = operandT c isCase (λ f. pathedT d k f 0)
+
+unfoldable pub pathT : Place → Outcome
+pathT (place d k between-fields) = wrong
+pathT (place d k (within f (declaring o))) = wrong
+pathT (place d k (within f (wanting o))) = wrong
+pathT (place d k (within f (pathing left o))) = pick (eqb left 0) wrong (stays o (pathedT d k f (left - 1)))
+pathT (place d k (within f exported)) = wrong
+
+-- may the field's EXPORT stand here?
+unfoldable pub mayExportT : Current → Bool
+mayExportT between-fields = false
+mayExportT (within f stage) = isComplete (wantedT (within f stage)) && exports (f .code)
+
+unfoldable pub exportT : Place → Outcome
+exportT (place d k between-fields) = wrong
+exportT (place d k (within f stage)) = pick (mayExportT (within f stage)) (on (place d k (within f exported))) wrong
+
+-- may a scope of this kind and name be opened here?
+unfoldable pub mayOpenT : Current → (kind name : ℕ) → Bool
+mayOpenT between-fields kind name = false
+mayOpenT (within f stage) kind name = settledT (within f stage) && sameKind (opens (f .code)) kind && eqb name (f .name)
+
+unfoldable pub betweenT : (depth kind : ℕ) → Outcome
+betweenT d k = on (place d k between-fields)
+
+-- `kinds` holds the kind of each scope around the one at hand
+unfoldable pub openT : Place → (kinds : List ℕ) (kind name : ℕ) → Out Outcome (List ℕ)
+openT (place d k c) kinds kind name =
+    pick (mayOpenT c kind name)
+    (pick (leb (length kinds) d) (deep & kinds) (betweenT (d + 1) kind & set kinds d k))
+    (wrong & kinds)
+
+unfoldable pub closeT : Place → (kinds : List ℕ) → Outcome
+closeT (place d k c) kinds =
+    pick (mayEndT c) (pick (leb d 1) whole (betweenT (d - 1) (getD kinds (d - 1) 0))) wrong
+
+unfoldable pub stepT : RuleSet → Place → (kinds : List ℕ) → Row → Out Outcome (List ℕ)
+stepT rules p kinds (row.Field code builtin z) = fieldT p code builtin & kinds
+stepT rules p kinds (row.Decl space name z) = declT rules p space name & kinds
+stepT rules p kinds (row.Ref space at paths z) = refT p space paths & kinds
+stepT rules p kinds (row.Path name) = pathT p & kinds
+stepT rules p kinds (row.Outer space up at z) = outerT p space & kinds
+stepT rules p kinds (row.Case name z) = caseT p & kinds
+stepT rules p kinds (row.Open kind name) = openT p kinds kind name
+stepT rules p kinds row.Close = closeT p kinds & kinds
+stepT rules p kinds (row.Export name) = exportT p & kinds
+stepT rules p kinds row.Broken = wrong & kinds
+
+-- the root is open, and nothing in it is read
+abbrev pub inRoot : Place
+inRoot = place 1 0 between-fields

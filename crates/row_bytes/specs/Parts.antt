@@ -1,0 +1,28 @@
+-- The parts of the rows of a form, by the bytes in which they stand. Any bytes will do: what lies past the end is 0.
+use mathlib.Core.List.{List}
+use Prim.Native.Nat.{ℕ, _+_, _*_}
+use lib.ListN.{getD}
+use Rattle.parts.specs.Apart.{two, four}
+
+-- a row has sixteen bytes, and a header of eight stands before them
+
+abbrev pub startOf : ℕ → ℕ
+startOf row = 8 + 16 * row
+
+unfoldable pub codeAt : (form : List ℕ) (row : ℕ) → ℕ
+codeAt form row = getD form (startOf row) 0
+
+unfoldable pub bAt : (form : List ℕ) (row : ℕ) → ℕ
+bAt form row = getD form (startOf row + 1) 0
+
+unfoldable pub eAt : (form : List ℕ) (row : ℕ) → ℕ
+eAt form row = two form (startOf row + 2)
+
+unfoldable pub xAt : (form : List ℕ) (row : ℕ) → ℕ
+xAt form row = four form (startOf row + 4)
+
+unfoldable pub yAt : (form : List ℕ) (row : ℕ) → ℕ
+yAt form row = four form (startOf row + 8)
+
+unfoldable pub zAt : (form : List ℕ) (row : ℕ) → ℕ
+zAt form row = four form (startOf row + 12)

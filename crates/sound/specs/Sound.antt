@@ -1,0 +1,48 @@
+-- What each kind of row is to be, but for the code: tests on its parts, as the code has them. Names reach to `top`.
+use mathlib.Core.Bool.{Bool, false, _&&_, _||_}
+use Prim.Native.Nat.{ℕ, _/_, _%_}
+use lib.Dec.{eqb, leb}
+use Rattle.kit.specs.Pick.{pick}
+use Rattle.parts.specs.declared.Parts.{Parts}
+
+abbrev pub isIndex : (top flag x : ℕ) → Bool
+isIndex top flag x = eqb flag 0 || eqb flag 1 && (leb 1 x && leb x top)
+
+-- has a row an x and nothing else?
+abbrev pub isLone : Parts → Bool
+isLone p = eqb (p .b) 0 && (eqb (p .e) 0 && (eqb (p .y) 0 && eqb (p .z) 0))
+
+abbrev pub isField : Parts → Bool
+isField p = eqb (p .x) 0 && eqb (p .y) 0
+
+abbrev pub isDecl : (top : ℕ) → Parts → Bool
+isDecl top p = eqb (p .e) 0 && eqb (p .y) 0 && leb (p .x) top
+
+abbrev pub isRef : (top : ℕ) → Parts → Bool
+isRef top p = isIndex top (p .e) (p .x)
+
+abbrev pub isOuter : (top : ℕ) → Parts → Bool
+isOuter top p = isIndex top (p .e % 2) (p .x) && isIndex top (p .e / 2) (p .y)
+
+abbrev pub isCase : (top : ℕ) → Parts → Bool
+isCase top p = eqb (p .b) 0 && (eqb (p .e) 0 && eqb (p .y) 0) && leb (p .x) top
+
+abbrev pub isOpen : (top : ℕ) → Parts → Bool
+isOpen top p = eqb (p .e) 0 && (eqb (p .y) 0 && eqb (p .z) 0) && leb (p .x) top
+
+abbrev pub isClose : Parts → Bool
+isClose p = eqb (p .b) 0 && (eqb (p .e) 0 && (eqb (p .x) 0 && (eqb (p .y) 0 && eqb (p .z) 0)))
+
+-- can the parts be taken apart?
+unfoldable pub isSound : (top : ℕ) → Parts → Bool
+isSound top p =
+    pick (eqb (p .code) 1) (isField p)
+    (pick (eqb (p .code) 2) (isDecl top p)
+    (pick (eqb (p .code) 3) (isRef top p)
+    (pick (eqb (p .code) 4) (isLone p)
+    (pick (eqb (p .code) 5) (isOuter top p)
+    (pick (eqb (p .code) 6) (isCase top p)
+    (pick (eqb (p .code) 7) (isOpen top p)
+    (pick (eqb (p .code) 8) (isClose p)
+    (pick (eqb (p .code) 9) (isLone p)
+    false))))))))
