@@ -16,7 +16,7 @@ use Rattle.rules.specs.Tools.{if_then_else_}
 use Rattle.rules.specs.Tree.{Declaration, Operand, Head, Fields, end, _▸_, headOf, operandRow, itemRows}
 use Rattle.rules.specs.Shapes.{hereOnly}
 use Rattle.rules.specs.Rules.{Outside, onward, Result, refused, ok, find, headsDecls, expandOperand, expandHead}
-use Rattle.names.specs.Table.{Slot, emptySlot, between}
+use Rattle.names.specs.Table.{Slot, rowOf, pastOf, emptySlot, between}
 use Rattle.names.specs.Stands.{count}
 use Rattle.names.proofs.Laws.{any-default, between-cons, between-nil}
 use Rattle.write.specs.State.{followingT}
@@ -112,7 +112,7 @@ find-new (x ∷ before) d after u =
 -- none of the slots has the row
 abbrev pub Apart : (row : ℕ) → List Slot → Type 0
 Apart row [] = Unit {0}
-Apart row (s ∷ slots) = (getD s 3 0 ≡ row → ⊥) × Apart row slots
+Apart row (s ∷ slots) = (rowOf s ≡ row → ⊥) × Apart row slots
 
 pub apart-append : (row : ℕ) (xs ys : List Slot) → Apart row xs → Apart row ys → Apart row (xs ++ ys)
 apart-append row [] ys a b = b
@@ -169,17 +169,17 @@ fields-apart here outside row before k row′ (i ▸ fs) h =
 -- ---- is the next slot a reference's own?
 
 module _ (names : List Slot) (here : List ℕ) (k row : ℕ) where
-  pub not-inserted : (slots : List Slot) → Left names (getD here 2 0) k slots → Apart row slots → isInsertedT names here k row ≡ false
+  pub not-inserted : (slots : List Slot) → Left names (pastOf here) k slots → Apart row slots → isInsertedT names here k row ≡ false
   unfolding isInsertedT
-  not-inserted [] l a = let h = left-none names (getD here 2 0) k l in sym (yes! _ (omega tests) refl)
+  not-inserted [] l a = let h = left-none names (pastOf here) k l in sym (yes! _ (omega tests) refl)
   not-inserted (s ∷ slots) l a =
-      let n = left-next names (getD here 2 0) k s slots l in
+      let n = left-next names (pastOf here) k s slots l in
       let h = n .inside in
-      sym (no! _ (omega tests) (rw (n .is) (sym (ne-eqb (getD s 3 0) row (a .0)))))
+      sym (no! _ (omega tests) (rw (n .is) (sym (ne-eqb (rowOf s) row (a .0)))))
 
-  pub is-inserted : (s : Slot) (slots : List Slot) → Left names (getD here 2 0) k (s ∷ slots) → getD s 3 0 ≡ row → isInsertedT names here k row ≡ true
+  pub is-inserted : (s : Slot) (slots : List Slot) → Left names (pastOf here) k (s ∷ slots) → rowOf s ≡ row → isInsertedT names here k row ≡ true
   unfolding isInsertedT
   is-inserted s slots l e =
-      let n = left-next names (getD here 2 0) k s slots l in
+      let n = left-next names (pastOf here) k s slots l in
       let h = n .inside in
-      sym (no! _ (omega tests) (rw (n .is) (sym (eq-eqb (getD s 3 0) row e))))
+      sym (no! _ (omega tests) (rw (n .is) (sym (eq-eqb (rowOf s) row e))))

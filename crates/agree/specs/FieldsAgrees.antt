@@ -23,7 +23,7 @@ use Rattle.rules.specs.Laws.Meaning.Runs.{head-grown}
 use Rattle.rules.specs.Laws.Output.FourTimes.{inner, item-size, fields-size}
 use Rattle.rules.specs.Laws.Output.Counts.{deep}
 use Rattle.rows.specs.Taken.{codeAt}
-use Rattle.names.specs.Table.{Slot, innermostT}
+use Rattle.names.specs.Table.{Slot, pastOf, innermostT}
 use Rattle.names.specs.Stands.{Envs, Below}
 use Rattle.names.proofs.Storey.{between-kept, envs-kept}
 use Rattle.plan.specs.Enter.{rowNumber}
@@ -31,6 +31,7 @@ use Rattle.write.specs.declared.alias.State.{State}
 use Rattle.write.specs.declared.alias.Walked.the-variants.{Done}
 use Rattle.write.specs.State.{begunT, putThen}
 use Rattle.walk.specs.Walk.{Wrote₃, wroteThen₃, fieldT, closedT, endedT, fieldsT, scopeT}
+use Rattle.agree.specs.Sizes.{Sizes, Fits}
 use Rattle.agree.specs.At.{Is, At, putAll}
 use Rattle.agree.specs.AtLaws.{at-left, at-right, at-head, row-number, code-is}
 use Rattle.form.specs.Ends.{Ends}
@@ -108,12 +109,12 @@ envs-onward names scopes zero env outside i en = absurd en
 envs-onward names scopes (suc depth) env outside i en = (record { name = en .0 .name; order = en .0 .order; room = en .0 .room; stands = en .0 .stands; rows = en .0 .rows }, en .1)
 
 -- the slots of the innermost scope lie below those that are used
-below-innermost : (names : List Slot) (n : ℕ) (scopes : List (List ℕ)) (depth : ℕ) (env : Env) (es : List Env) → Envs names scopes depth (env ∷ es) → Below n scopes depth → getD (innermostT scopes depth) 2 0 ≤ n
+below-innermost : (names : List Slot) (n : ℕ) (scopes : List (List ℕ)) (depth : ℕ) (env : Env) (es : List Env) → Envs names scopes depth (env ∷ es) → Below n scopes depth → pastOf (innermostT scopes depth) ≤ n
 unfolding Envs Below
 below-innermost names n scopes zero env es en b = absurd en
 below-innermost names n scopes (suc depth) env es en b = rw (innermost-is scopes depth) (b .0)
 
-module _ (rows ends : List ℕ) (short : length rows / 16 ≤ 1023) where
+module _ (sizes : Sizes) (rows ends : List ℕ) (short : Fits sizes rows) where
   -- behind a field comes a FIELD or the CLOSE
   next-code : (fs : Fields) (p : ℕ) → At rows p (fieldsRows fs ++ (Close ∷ [])) → eqb (codeAt rows p) 7 ≡ false
   unfolding flatten
@@ -127,7 +128,7 @@ module _ (rows ends : List ℕ) (short : length rows / 16 ≤ 1023) where
   unfolding closedT endedT putThen
   close-is entered names out s to out′ is e = rw (row-copied rows (s .at) Close out (s .to) is, ← put-one out (s .to) Close, e)
 
-  pub fields-end : FieldsGo rows ends end
+  pub fields-end : FieldsGo sizes rows ends end
   unfolding flatten resolveScope fieldsT pick heights deep
   fields-end allowed kind b k here₀ env outside before X entered names scopes out s depth zero any-time at-row h at en good low x ds u l ready t = absurd (omega arith)
   fields-end allowed kind b k here₀ env outside before X entered names scopes out s depth (suc turns) any-time at-row h at en good low x ds u l ready t =
@@ -135,7 +136,7 @@ module _ (rows ends : List ℕ) (short : length rows / 16 ≤ 1023) where
       let there = is .there in
       rw (code-is rows (s .at) Close is) (go (putAll out (s .to) (Close ∷ [])) refl)
     where
-      go : (w : Out ℕ (List ℕ)) → putAll out (s .to) (Close ∷ []) ≡ w → Gone s names out (s .at + 0 + 1) k (Close ∷ []) (endedT rows ends (closedT rows ends out s) entered names) × (k ≤ k + 0)
+      go : (w : Out ℕ (List ℕ)) → putAll out (s .to) (Close ∷ []) ≡ w → Gone sizes s names out (s .at + 0 + 1) k (Close ∷ []) (endedT rows ends (closedT rows ends out s) entered names) × (k ≤ k + 0)
       go (to & out′) e =
           let is = at-head rows (s .at) Close [] at in
           let there = is .there in (
@@ -156,14 +157,14 @@ module _ (rows ends : List ℕ) (short : length rows / 16 ≤ 1023) where
           )
 
   -- the fields behind one that is done
-  fields-later : (i : Item) (fs : Fields) → FieldsGo rows ends fs → (allowed kind b k : ℕ) (here₀ : List Declaration) (env : Env) (outside : Outside) (before : List Declaration) (e : Expanded Head) (r : List Entry × ℕ)
+  fields-later : (i : Item) (fs : Fields) → FieldsGo sizes rows ends fs → (allowed kind b k : ℕ) (here₀ : List Declaration) (env : Env) (outside : Outside) (before : List Declaration) (e : Expanded Head) (r : List Entry × ℕ)
       (entered names : List Slot) (scopes : List (List ℕ)) (out : List ℕ) (s : State) (depth turns : ℕ) (y : List Head × (Item × ℕ)) (w : Wrote₃)
-      (F : FieldGone (begunT s depth) names out (s .at + length (itemRows i)) (s .next + length (e .inserted) + length (headOf i .decls)) (y .1 .1) (headsRows (y .0) ++ itemRows (y .1 .0)) w) → y .1 .1 ≤ k + inner i
+      (F : FieldGone sizes (begunT s depth) names out (s .at + length (itemRows i)) (s .next + length (e .inserted) + length (headOf i .decls)) (y .1 .1) (headsRows (y .0) ++ itemRows (y .1 .0)) w) → y .1 .1 ≤ k + inner i
       → outside .early ≡ false → outside .before .row ≡ s .at → heights fs ≤ allowed → At rows (s .at + length (itemRows i)) (fieldsRows fs ++ (Close ∷ [])) → Ends fs ends (s .at + length (itemRows i)) → GoodFields today fs kind → LowDecls (headOf i .decls) → LowFields fs
       → expandHead here₀ outside b (headOf i) ≡ ok e → expandFields here₀ (onward i outside) (e .k) fs ≡ ok r → tableOf env ≡ before ++ (headsDecls (e .inserted) ++ (headOf i .decls ++ declsIn (r .0))) → Under (fresh b) before
-      → Left names (getD (innermostT scopes depth) 2 0) (s .next) (headSlots here₀ outside before b (s .at) (headOf i) ++ (declSlots (before ++ headsDecls (e .inserted)) (s .at + 1) (headOf i .decls) ++ fieldsSlots here₀ (onward i outside) ((before ++ headsDecls (e .inserted)) ++ headOf i .decls) (e .k) (s .at + length (itemRows i)) fs))
-      → Ready entered names scopes (begunT s depth) (opened env outside) (heights (i ▸ fs)) (deep (i ▸ fs)) k → length (fieldsRows fs) < turns
-      → Says (laterSays fs here₀ env (onward i outside) (e .k) y) (λ v w. Gone s names out (s .at + length (fieldsRows (i ▸ fs)) + 1) (v .1) (fieldsRows (v .0) ++ (Close ∷ [])) w × (v .1 ≤ k + deep (i ▸ fs)))
+      → Left names (pastOf (innermostT scopes depth)) (s .next) (headSlots here₀ outside before b (s .at) (headOf i) ++ (declSlots (before ++ headsDecls (e .inserted)) (s .at + 1) (headOf i .decls) ++ fieldsSlots here₀ (onward i outside) ((before ++ headsDecls (e .inserted)) ++ headOf i .decls) (e .k) (s .at + length (itemRows i)) fs))
+      → Ready sizes entered names scopes (begunT s depth) (opened env outside) (heights (i ▸ fs)) (deep (i ▸ fs)) k → length (fieldsRows fs) < turns
+      → Says (laterSays fs here₀ env (onward i outside) (e .k) y) (λ v w. Gone sizes s names out (s .at + length (fieldsRows (i ▸ fs)) + 1) (v .1) (fieldsRows (v .0) ++ (Close ∷ [])) w × (v .1 ≤ k + deep (i ▸ fs)))
       (fieldsT rows ends (scopeT rows ends allowed) (F .gone .entered′) (F .gone .names′) scopes (F .gone .after) (F .gone .state) depth turns)
   unfolding heights deep laterSays
   fields-later i fs later allowed kind b k here₀ env outside before e r entered names scopes out s depth turns y w F grows any-time at-row h at en good low-decls low x x′ ds u l ready t =
@@ -171,7 +172,7 @@ module _ (rows ends : List ℕ) (short : length rows / 16 ≤ 1023) where
       let v = g .state in
       let h₀ = headOf i in
       let ds₁ = before ++ headsDecls (e .inserted) in
-      let to = getD (innermostT scopes depth) 2 0 in
+      let to = pastOf (innermostT scopes depth) in
       let p = s .at + length (itemRows i) in
       let deep-left = ready .deep in
       let slots-left = ready .slots in
@@ -188,7 +189,7 @@ module _ (rows ends : List ℕ) (short : length rows / 16 ≤ 1023) where
       let gr = holds-of _ _ e (head-grown here₀ outside b h₀) x in
       let u′ = under-append (fresh (e .k)) ds₁ (h₀ .decls) (grown-under b (e .k) before (e .inserted) (gr .0) (gr .1) u) (low-under (e .k) (h₀ .decls) low-decls) in
       let envs′ = envs-onward (g .names′) scopes depth env outside i (envs-kept (s .used) names (g .names′) (sym (g .kept)) scopes depth (opened env outside) (omega arith) (ready .below) (ready .envs)) in
-      let ready′ : Ready (g .entered′) (g .names′) scopes (begunT v depth) (opened env (onward i outside)) (heights fs) (deep fs) (y .1 .1) =
+      let ready′ : Ready sizes (g .entered′) (g .names′) scopes (begunT v depth) (opened env (onward i outside)) (heights fs) (deep fs) (y .1 .1) =
       record { room = g .room; size = size; depths = ready .depths; envs = envs′; below = rw used (ready .below); deep = omega arith; slots = omega arith; numbers = omega arith; fresh = g .fresh } in
       says-map (resolveFields fs here₀ env (onward i outside) (e .k) (y .1 .1)) (λ rs. (Rules._before_ (y .0) (y .1 .0 ▸ rs .0), rs .1)) _ _ _
       (later allowed kind (e .k) (y .1 .1) here₀ env (onward i outside) (ds₁ ++ h₀ .decls) r (g .entered′) (g .names′) scopes (g .after) v depth turns any-time (omega (arith, g .arrived)) h (rw (g .arrived) at) (rw (g .arrived) en) good low x′
@@ -214,7 +215,7 @@ module _ (rows ends : List ℕ) (short : length rows / 16 ≤ 1023) where
         omega arith,
       ))
 
-  pub fields-from : (i : Item) (fs : Fields) → ItemGoes rows ends i → FieldsGo rows ends fs → FieldsGo rows ends (i ▸ fs)
+  pub fields-from : (i : Item) (fs : Fields) → ItemGoes sizes rows ends i → FieldsGo sizes rows ends fs → FieldsGo sizes rows ends (i ▸ fs)
   unfolding fieldsT pick heights deep Ends fieldsSlots ifOk wroteThen₃ laterSays
   fields-from i fs item later allowed kind b k here₀ env outside before X entered names scopes out s depth zero any-time at-row h at en good low x ds u l ready t = absurd (omega arith)
   fields-from i fs item later allowed kind b k here₀ env outside before X entered names scopes out s depth (suc turns) any-time at-row h at en good low x ds u l ready t =
@@ -233,9 +234,9 @@ module _ (rows ends : List ℕ) (short : length rows / 16 ≤ 1023) where
       let spaces = good-spaces (i ▸ fs) kind good in
       let ds₁ = before ++ headsDecls (e .inserted) in
       let slots₁ = fieldsSlots here₀ (onward i outside) (ds₁ ++ h₀ .decls) (e .k) (s .at + length (itemRows i)) fs in
-      let l′ : Left names (getD (innermostT scopes depth) 2 0) (s .next) (headSlots here₀ outside before b (s .at) h₀ ++ (declSlots ds₁ (s .at + 1) (h₀ .decls) ++ slots₁)) = rw (c .2) at l in
+      let l′ : Left names (pastOf (innermostT scopes depth)) (s .next) (headSlots here₀ outside before b (s .at) h₀ ++ (declSlots ds₁ (s .at + 1) (h₀ .decls) ++ slots₁)) = rw (c .2) at l in
       let ds′ : tableOf env ≡ before ++ (headsDecls (e .inserted) ++ (h₀ .decls ++ declsIn (c .1 .0))) = ds ∙ ap (λ (y : List Declaration). before ++ y) (c .4) in
-      let ready₁ : Ready entered names scopes (begunT s depth) (opened env outside) (heightItem i) (inner i) k =
+      let ready₁ : Ready sizes entered names scopes (begunT s depth) (opened env outside) (heightItem i) (inner i) k =
       record { room = ready .room; size = ready .size; depths = ready .depths; envs = ready .envs; below = ready .below; deep = omega arith; slots = omega arith; numbers = omega arith; fresh = ready .fresh } in
       rw (code, fields-says i fs here₀ env outside b k e (c .2))
       (says-then₃ (itemSays i env outside k e) (laterSays fs here₀ env (onward i outside) (e .k)) _ _ (fieldT rows ends (scopeT rows ends allowed) entered names scopes out (begunT s depth)) _

@@ -17,7 +17,7 @@ use Rattle.rules.specs.Rules.{tableOf, Outside, ok, Env, find, fresh, Expanded,
 use Rattle.rules.specs.Laws.Results.{ok-same, holds-of}
 use Rattle.rules.specs.Laws.Meaning.Runs.{operand-grown}
 use Rattle.rows.specs.Taken.{asIndex}
-use Rattle.names.specs.Table.{Slot, slotsIn}
+use Rattle.names.specs.Table.{Slot, numberOf, pastOf, slotsIn}
 use Rattle.names.specs.Stands.{foundOf, Opens}
 use Rattle.names.proofs.Storey.{find-stands}
 use Rattle.write.specs.declared.own.Numbered.{Numbered}
@@ -44,15 +44,15 @@ module _ (ds : List Declaration) (names : List Slot) (here : List ℕ) where
     pub index : Index
     pub is : ref space index [] z ≡ now
     pub after : ℕ
-    pub numbers : (alias : ℕ) → Left names (getD here 2 0) alias slots
-        → Left names (getD here 2 0) (alias + after) rest × (refNumberT names here alias (referTo space at paths z row) ≡ answered (indexIn ds space index) (alias + after))
+    pub numbers : (alias : ℕ) → Left names (pastOf here) alias slots
+        → Left names (pastOf here) (alias + after) rest × (refNumberT names here alias (referTo space at paths z row) ≡ answered (indexIn ds space index) (alias + after))
 
 -- the slots of a chain: the last has the number that its fresh name has
 module _ (ds : List Declaration) (names : List Slot) (to row space z : ℕ) where
   pub path-number : (ps : List ℕ) (p : ℕ) (at : Index) (k alias : ℕ) (before after : List Declaration) (rest : List Slot) → (0 < length ps → 7 ≤ space)
       → Left names to alias (insertedSlots before row (pathAliases space at p ps z k) ++ rest)
       → ds ≡ before ++ (headsDecls (pathAliases space at p ps z k) ++ after) → Under (fresh k) before
-      → (find ds space (fresh (k + length ps)) ≡ some (getD (slotAt names (alias + length ps)) 2 0)) × (alias + length ps < to)
+      → (find ds space (fresh (k + length ps)) ≡ some (numberOf (slotAt names (alias + length ps)))) × (alias + length ps < to)
   unfolding insertedSlots insertedSlot exportAlias declared headsDecls
   path-number [] p at k alias before after rest far st e u =
       let q = left-next names to alias _ _ (rw (path-last space at p z k) at st) in
@@ -108,7 +108,7 @@ module _ (env : Env) (names : List Slot) (here : List ℕ) (opens : Opens names 
         is = refl;
         after = 1;
         numbers = λ alias l.
-            let q = left-next names (getD here 2 0) alias _ rest l in
+            let q = left-next names (pastOf here) alias _ rest l in
             (q .rest, rw (is-inserted names here alias row _ rest l refl, q .is, q .follows, e, find-new before (newDecl space k z) after u));
       }
 
@@ -122,11 +122,11 @@ module _ (env : Env) (names : List Slot) (here : List ℕ) (opens : Opens names 
         is = refl;
         after = suc (length ps);
         numbers = λ alias l.
-            let c = path-number (tableOf env) names (getD here 2 0) row space z ps p at k alias before after rest far l e u in
+            let c = path-number (tableOf env) names (pastOf here) row space z ps p at k alias before after rest far l e u in
             let inside = c .1 in
             let room = l .room in
             let m : suc (length ps) - 1 ≡ length ps = omega arith in (
-              rw (inserted-length before row (pathAliases space at p ps z k), aliases-length space at p ps z k) at (left-past names (getD here 2 0) alias (insertedSlots before row (pathAliases space at p ps z k)) rest l),
+              rw (inserted-length before row (pathAliases space at p ps z k), aliases-length space at p ps z k) at (left-past names (pastOf here) alias (insertedSlots before row (pathAliases space at p ps z k)) rest l),
               rw (lt-ltb 0 (suc (length ps)) (omega arith), m, ahead-is names alias (length ps) (omega arith), follows-is names alias (length ps) (omega arith), c .0),
             );
       }

@@ -163,7 +163,7 @@ unfolding flatten
 rows-some (scope kind name fs) = omega arith
 
 -- the header of an output is that of its input's setting
-claimed-header : (s : Setting) (input : List ℕ) → hasHeader s input ≡ true → hasHeader (asClaimed s) input ≡ true
+pub claimed-header : (s : Setting) (input : List ℕ) → hasHeader s input ≡ true → hasHeader (asClaimed s) input ≡ true
 unfolding hasHeader mark
 claimed-header s input e = e
 

@@ -1,0 +1,266 @@
+// The run on a form, in working areas that are lent.
+use crate::areas::least;
+use crate::areas::links_for;
+use crate::areas::slots_for;
+use crate::areas::zero_ends;
+use crate::areas::zero_links;
+use crate::areas::zero_slots;
+use form::ends::mark_ends_to;
+use form::header::Header;
+use form::header::header_to;
+use limits::most_scopes;
+use limits::of_input;
+use names::Scope;
+use names::Slot;
+use refusal::ROOM;
+use refusal::Refusal;
+use resolver::run::Answer;
+use resolver::run::admitted;
+use resolver::run::blank;
+use resolver::run::finish;
+use resolver::run::header_size;
+use walk::walk::scope_walk;
+use walk::walk::starting;
+use whole_form::read::Form;
+use write::alias::Walked;
+ghost use mathlib.Core.Path.{_≡_};
+ghost use Prim.Native.Nat.{_<_};
+ghost use lib.ListN.{length};
+ghost use Rattle.kit.specs.Out.{_&_};
+ghost use Rattle.rules.specs.Tools.{if_then_else_};
+ghost use Rattle.limits.specs.Held.{setting};
+ghost use Rattle.resolver.specs.Meaning.{meaning, ruled};
+ghost use Rattle.resolver.specs.Run.{walkIn, fillT};
+ghost use Rattle.resolver_with.specs.Served.{asked};
+ghost use Rattle.resolver_with.specs.Areas.{lentOf, Cleared};
+ghost use Rattle.resolver_with.specs.With.{answerWith, outputWith, Ran};
+ghost use Rattle.resolver_with.specs.Exact.{Suits, exactly, Zeroed};
+
+// How many of all settings are in force here: the first ones.
+const SERVED: usize = 2;
+
+// The place of the setting that the header asks for, of those in force; the first where it asks for none of them.
+fn asked_for(form: &[u8]) -> usize
+    ensures { λ r. ⌜ (setting r ≡ asked (now (form .entry))) × (r < 2) ⌝ }
+{
+    let mut next = 0;
+    while next < SERVED {
+        let i = next;
+        next += 1;
+        match header_to(form, of_input(i)) {
+            Header::Rows(_) => return i,
+            Header::Count => return i,
+            Header::Wrong => {}
+        }
+    }
+    0
+}
+
+// The walk over the rows of a form. The tables may hold anything: their indexes start empty.
+fn walk_in(
+    rows: &[u8],
+    out: &mut [u8],
+    i: usize,
+    entered: &mut [Slot],
+    names: &mut [Slot],
+    known: &mut [u16],
+    chains: &mut [u16],
+    ends: &mut [u32],
+) -> Walked
+    requires { ⌜ Suits i (now entered) (now names) (now known) (now chains) (now ends) ⌝ }
+    ensures { λ r. ⌜ (r & now (out .exit)) ≡ walkIn (setting i) (now (rows .entry)) (now (ends .entry)) (now (entered .entry)) (now (names .entry)) (now (out .entry)) ⌝ }
+{
+    mark_ends_to(rows, ends, of_input(i));
+    zero_links(known);
+    zero_links(chains);
+    let mut scopes: [Scope; 64] = [[0usize; 3]; 64];
+    let most = most_scopes(of_input(i));
+    scope_walk(
+        rows,
+        ends,
+        entered,
+        known,
+        names,
+        chains,
+        &mut scopes[..most],
+        out,
+        starting(0, 0),
+    )
+}
+
+// Fills the form's share of the output.
+fn fill_in(
+    rows: &[u8],
+    front: &mut [u8],
+    i: usize,
+    entered: &mut [Slot],
+    names: &mut [Slot],
+    known: &mut [u16],
+    chains: &mut [u16],
+    ends: &mut [u32],
+) -> Answer
+    requires { ⌜ Suits i (now entered) (now names) (now known) (now chains) (now ends) ⌝ }
+    ensures { λ r. ⌜ (r & now (front .exit)) ≡ fillT (setting i) (walkIn (setting i) (now (rows .entry)) (now (ends .entry)) (now (entered .entry)) (now (names .entry))) (now (front .entry)) ⌝ }
+{
+    let header = header_size(i);
+    if front.len() < header {
+        return Answer::Refused(Refusal {
+            number: ROOM,
+            place: 0,
+        });
+    }
+    match walk_in(
+        rows,
+        &mut front[header..],
+        i,
+        entered,
+        names,
+        known,
+        chains,
+        ends,
+    ) {
+        Walked::Refused(number, place) => blank(front, number, place),
+        Walked::Done(s) => finish(front, i, s.to),
+    }
+}
+
+// Whether areas of these lengths have the sizes for a form of the setting at place i.
+fn is_exact(
+    i: usize,
+    entered: usize,
+    names: usize,
+    known: usize,
+    chains: usize,
+    ends: usize,
+) -> bool
+    ensures { λ r. ⌜ r ≡ exactly (setting i .version) (record { entered = entered; names = names; known = known; chains = chains; ends = ends }) ⌝ }
+{
+    let slots = slots_for(i);
+    let links = links_for(i);
+    (entered == slots)
+        & ((names == slots) & ((known == links) & ((chains == links) & (ends == slots))))
+}
+
+// The output's room, or none where an area is too small.
+fn room_if(enough: bool, room: usize) -> usize
+    ensures { λ r. ⌜ r ≡ (if enough then room else 0) ⌝ }
+{
+    if enough { room } else { 0 }
+}
+
+// Resolves the form under the setting at place i, in areas of which none is larger than its size.
+fn run_in(
+    form: &[u8],
+    out: &mut [u8],
+    i: usize,
+    entered: &mut [Slot],
+    names: &mut [Slot],
+    known: &mut [u16],
+    chains: &mut [u16],
+    ends: &mut [u32],
+) -> Answer
+    requires { ⌜ i < 2 ⌝ }
+    ensures { λ r. ⌜ Ran (setting i) (exactly (setting i .version) (lentOf (now (entered .entry)) (now (names .entry)) (now (known .entry)) (now (chains .entry)) (now (ends .entry)))) (now (form .entry)) (now (out .entry)) (now (out .exit)) r ⌝ }
+{
+    let enough = is_exact(
+        i,
+        entered.len(),
+        names.len(),
+        known.len(),
+        chains.len(),
+        ends.len(),
+    );
+    match admitted(form, i, room_if(enough, out.len())) {
+        Form::Refused(why) => Answer::Refused(why),
+        Form::Whole(rows) => {
+            let header = header_size(i);
+            let size = header + 64 * rows;
+            fill_in(
+                &form[header..],
+                &mut out[..size],
+                i,
+                entered,
+                names,
+                known,
+                chains,
+                ends,
+            )
+        }
+    }
+}
+
+// Zeroes all areas.
+fn clear(
+    entered: &mut [Slot],
+    names: &mut [Slot],
+    known: &mut [u16],
+    chains: &mut [u16],
+    ends: &mut [u32],
+)
+    ensures { λ _. ⌜ Zeroed (now (entered .entry)) (now (entered .exit)) (now (names .entry)) (now (names .exit)) (now (known .entry)) (now (known .exit)) (now (chains .entry)) (now (chains .exit)) (now (ends .entry)) (now (ends .exit)) ⌝ }
+{
+    zero_slots(entered);
+    zero_slots(names);
+    zero_links(known);
+    zero_links(chains);
+    zero_ends(ends);
+}
+
+// The same run, after which all areas are zero.
+fn run_cleared(
+    form: &[u8],
+    out: &mut [u8],
+    i: usize,
+    entered: &mut [Slot],
+    names: &mut [Slot],
+    known: &mut [u16],
+    chains: &mut [u16],
+    ends: &mut [u32],
+) -> Answer
+    requires { ⌜ i < 2 ⌝ }
+    ensures { λ r. ⌜ Ran (setting i) (exactly (setting i .version) (lentOf (now (entered .entry)) (now (names .entry)) (now (known .entry)) (now (chains .entry)) (now (ends .entry)))) (now (form .entry)) (now (out .entry)) (now (out .exit)) r × Zeroed (now (entered .entry)) (now (entered .exit)) (now (names .entry)) (now (names .exit)) (now (known .entry)) (now (known .exit)) (now (chains .entry)) (now (chains .exit)) (now (ends .entry)) (now (ends .exit)) ⌝ }
+{
+    match run_in(form, out, i, entered, names, known, chains, ends) {
+        Answer::Accepted(rows) => {
+            clear(entered, names, known, chains, ends);
+            Answer::Accepted(rows)
+        }
+        Answer::Refused(why) => {
+            clear(entered, names, known, chains, ends);
+            Answer::Refused(why)
+        }
+    }
+}
+
+// Resolves a form of any setting in force: its names become numbers, in the form that `out` holds then. The working areas are two
+// tables, the index of each, and the ends of fields; their sizes go by the form's version.
+pub fn resolve_with(
+    form: &[u8],
+    out: &mut [u8],
+    entered: &mut [Slot],
+    names: &mut [Slot],
+    known: &mut [u16],
+    chains: &mut [u16],
+    ends: &mut [u32],
+) -> Answer
+    ensures { λ r. ⌜ (meaning r ≡ ruled (answerWith (now (form .entry)) (length (now (out .entry))) (lentOf (now (entered .entry)) (now (names .entry)) (now (known .entry)) (now (chains .entry)) (now (ends .entry))))) × (now (out .exit) ≡ outputWith (now (form .entry)) (now (out .entry)) (lentOf (now (entered .entry)) (now (names .entry)) (now (known .entry)) (now (chains .entry)) (now (ends .entry)))) × Cleared (asked (now (form .entry)) .version) (now (entered .entry)) (now (entered .exit)) (now (names .entry)) (now (names .exit)) (now (known .entry)) (now (known .exit)) (now (chains .entry)) (now (chains .exit)) (now (ends .entry)) (now (ends .exit)) ⌝ }
+{
+    let i = asked_for(form);
+    let slots = slots_for(i);
+    let links = links_for(i);
+    let a = least(slots, entered.len());
+    let b = least(slots, names.len());
+    let c = least(links, known.len());
+    let d = least(links, chains.len());
+    let e = least(slots, ends.len());
+    run_cleared(
+        form,
+        out,
+        i,
+        &mut entered[..a],
+        &mut names[..b],
+        &mut known[..c],
+        &mut chains[..d],
+        &mut ends[..e],
+    )
+}
