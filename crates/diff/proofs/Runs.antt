@@ -202,9 +202,9 @@ module _ (c : Choice) (l r : List ℕ) (same : Bool) (m : Rest) (p : same ≡ sa
     long : o + n ≡ length (listT c l r)
     long = both-long l r same m o n k po pn ∙ ap length both-is
 
-    pub rows-short : (list : List ℕ) → length list < o + n → refusing 3 0 & list ≡ rowsT c l r list
+    pub rows-short : (list : List ℕ) (a : Answer) → length list < o + n → a ≡ refusing 3 0 → a & list ≡ rowsT c l r list
     unfolding rowsT pick
-    rows-short list h = let w : length list < length (listT c l r) = omega (arith, long) in rw (lt-ltb _ _ w)
+    rows-short list a h e = let w : length list < length (listT c l r) = omega (arith, long) in rw (lt-ltb _ _ w, e)
 
     pub rows-room : (list : List ℕ) → o + n ≤ length list → length (bothBytes l r same m) ≤ length list
     rows-room list h = omega (arith, long, ap length both-is)
@@ -215,11 +215,11 @@ module _ (c : Choice) (l r : List ℕ) (same : Bool) (m : Rest) (p : same ≡ sa
         let w : length (listT c l r) ≤ length list = omega (arith, long) in
         rw (le-ltb _ _ w, e, both-is, long)
 
-pub all-behind : (l : List ℕ) → take (length l - 8) (drop 8 l) ≡ drop 8 l
-all-behind l = take-all (length l - 8) (drop 8 l) (omega (arith, length-drop 8 l))
+all-behind : (l : List ℕ) (h : ℕ) → take (length l - h) (drop h l) ≡ drop h l
+all-behind l h = take-all (length l - h) (drop h l) (omega (arith, length-drop h l))
 
-pub forms-listed : (c : Choice) (l r list list′ : List ℕ) (a : Answer) → (a & list′) ≡ rowsT c (take (length l - 8) (drop 8 l)) (take (length r - 8) (drop 8 r)) list → (a & list′) ≡ rowsT c (drop 8 l) (drop 8 r) list
-forms-listed c l r list list′ a e = rw (all-behind l, all-behind r) at e
+pub forms-listed : (c : Choice) (l r list list′ : List ℕ) (h : ℕ) (a : Answer) → (a & list′) ≡ rowsT c (take (length l - h) (drop h l)) (take (length r - h) (drop h r)) list → (a & list′) ≡ rowsT c (drop h l) (drop h r) list
+forms-listed c l r list list′ h a e = rw (all-behind l h, all-behind r h) at e
 
 -- ---- open_size
 

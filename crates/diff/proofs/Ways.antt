@@ -19,17 +19,6 @@ use Rattle.diff.specs.Written.{entrySize, sizeT, twoT, entryT, fieldsT, 
 
 -- ---- numbers
 
-number-bytes : (v : ℕ) → (v % 256 ∷ v / 256 % 256 ∷ v / 65536 % 256 ∷ v / 16777216 % 256 ∷ []) ≡ bytes 4 v
-unfolding bytes
-number-bytes v =
-    let p : v / 65536 % 256 ≡ v / 256 / 256 % 256 = omega arith in
-    let q : v / 16777216 % 256 ≡ v / 256 / 256 / 256 % 256 = omega arith in
-    cc
-
--- what `put_number` leaves
-pub number-put : (l l₁ : List ℕ) (a v : ℕ) → l₁ ≡ sets l a (v % 256 ∷ v / 256 % 256 ∷ v / 65536 % 256 ∷ v / 16777216 % 256 ∷ []) → l₁ ≡ sets l a (bytes 4 v)
-number-put l l₁ a v e = e ∙ ap (sets l a) (number-bytes v)
-
 length-number : (v : ℕ) → length (bytes 4 v) ≡ 4
 unfolding bytes
 length-number v = refl

@@ -3,16 +3,10 @@ use mathlib.Core.Bool.{Bool}
 use mathlib.Core.List.{List, [], _++_}
 use Prim.Native.Nat.{ℕ, _-_}
 use lib.Dec.{ltb}
-use lib.ListN.{length, drop}
+use lib.ListN.{length}
 use lib.Seq.{sets}
 use Rattle.kit.specs.Pick.{pick}
 use Rattle.kit.specs.Out.{Out, _&_}
-use Rattle.rules.specs.Versions.{Setting, asClaimed}
-use Rattle.read_form.specs.ReadForm.{readForm}
-use Rattle.limits.specs.Held.{setting}
-use Rattle.whole_form.specs.Whole.{formOf}
-use Rattle.whole_form.specs.declared.read.Form.{Form}
-use Rattle.whole_form.specs.declared.read.Form.the-variants as form
 use Rattle.parts.specs.Apart.{partsAt}
 use Rattle.comparing.specs.Compare.{Choice}
 use Rattle.matched.specs.Counted.{sameT}
@@ -21,12 +15,6 @@ use Rattle.matched.specs.declared.fields.Rest.{Rest}
 use Rattle.diff.specs.Written.{entryT, rowsHeld, leftT, rightT, pairT}
 use Rattle.diff.specs.declared.run.Answer.{Answer}
 use Rattle.diff.specs.declared.run.Answer.the-variants.{Listed, Refused}
-
--- ---- reading
-
--- the setting that both forms are held to
-abbrev pub held : Setting
-held = asClaimed (setting 0)
 
 -- ---- the list
 
@@ -62,14 +50,3 @@ refusing number place = Refused (record { number = number; place = place })
 unfoldable pub rowsT : Choice → (l r list : List ℕ) → Ran
 rowsT c l r list =
     pick (ltb (length list) (length (listT c l r))) (refusing 3 0 & list) (Listed (length (listT c l r)) & sets list 0 (listT c l r))
-
-unfoldable pub secondT : Form → Choice → (left right list : List ℕ) → Ran
-secondT (form.Refused refusal) c left right list = Refused refusal & list
-secondT (form.Whole rows) c left right list = rowsT c (drop 8 left) (drop 8 right) list
-
-unfoldable pub firstT : Form → Choice → (left right list : List ℕ) → Ran
-firstT (form.Refused refusal) c left right list = Refused refusal & list
-firstT (form.Whole rows) c left right list = secondT (formOf (readForm held right)) c left right list
-
-unfoldable pub runT : Choice → (left right list : List ℕ) → Ran
-runT c left right list = firstT (formOf (readForm held left)) c left right list

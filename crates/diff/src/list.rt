@@ -3,20 +3,19 @@
 use copy::copy;
 use matched::fields::field_end;
 use parts::parts_at;
+use stores::put_word;
 ghost use mathlib.Core.Path.{_≡_};
-ghost use mathlib.Core.List.{[], _∷_};
 ghost use Prim.Native.Nat.{_+_, _*_, _-_, _/_, _≤_};
 ghost use lib.ListN.{length};
 ghost use lib.Seq.{sets};
 ghost use Rattle.kit.specs.Pick.{pick};
-ghost use Rattle.rules.specs.Rows.{bytes};
 ghost use Rattle.diff.specs.Written.{sizeT, twoT, entryT, leftT, rightEntry, rightT, loneT, codeT, pairT};
 
 // ---- how many bytes
 
 // The bytes of an entry: its numbers, and its rows where it carries them.
 fn entry_size(rows: usize, carried: bool) -> usize
-    requires { ⌜ rows ≤ 4096 ⌝ }
+    requires { ⌜ rows ≤ 65536 ⌝ }
     ensures { λ r. ⌜ (r ≡ 20 + pick carried (16 * rows) 0) × (r ≤ 20 + 16 * rows) ⌝ }
 {
     if carried { 20 + 16 * rows } else { 20 }
@@ -24,8 +23,8 @@ fn entry_size(rows: usize, carried: bool) -> usize
 
 // The bytes of the entries of the fields from one row up to another.
 pub(crate) fn fields_size(rows: &[u8], from: usize, to: usize, carried: bool) -> usize
-    requires { ⌜ length (now rows) ≤ 65536 ⌝ }
-    ensures { λ r. ⌜ (r ≡ sizeT (now (rows .entry)) carried to from (length (now (rows .entry)) / 16)) × (r ≤ 147456) ⌝ }
+    requires { ⌜ length (now rows) ≤ 1048576 ⌝ }
+    ensures { λ r. ⌜ (r ≡ sizeT (now (rows .entry)) carried to from (length (now (rows .entry)) / 16)) × (r ≤ 2359296) ⌝ }
 {
     let mut size = 0;
     let mut i = from;
@@ -42,39 +41,13 @@ pub(crate) fn fields_size(rows: &[u8], from: usize, to: usize, carried: bool) ->
 
 // ---- their bytes
 
-// Writes four bytes.
-fn put_four(list: &mut [u8], a: usize, b0: u8, b1: u8, b2: u8, b3: u8)
-    requires { ⌜ a + 4 ≤ length (now list) ⌝ }
-    ensures { λ _. ⌜ now (list .exit) ≡ sets (now (list .entry)) a (b0 ∷ b1 ∷ b2 ∷ b3 ∷ []) ⌝ }
-{
-    list[a] = b0;
-    list[a + 1] = b1;
-    list[a + 2] = b2;
-    list[a + 3] = b3;
-}
-
-// Writes a number into the four bytes from a.
-fn put_number(list: &mut [u8], a: usize, v: usize)
-    requires { ⌜ a + 4 ≤ length (now list) ⌝ }
-    ensures { λ _. ⌜ now (list .exit) ≡ sets (now (list .entry)) a (bytes 4 v) ⌝ }
-{
-    put_four(
-        list,
-        a,
-        (v % 256) as u8,
-        (v / 256 % 256) as u8,
-        (v / 65536 % 256) as u8,
-        (v / 16777216 % 256) as u8,
-    );
-}
-
 // Writes two numbers.
 fn put_two(list: &mut [u8], a: usize, v: usize, w: usize)
     requires { ⌜ a + 8 ≤ length (now list) ⌝ }
     ensures { λ _. ⌜ now (list .exit) ≡ sets (now (list .entry)) a (twoT v w) ⌝ }
 {
-    put_number(list, a, v);
-    put_number(list, a + 4, w);
+    put_word(list, a, v);
+    put_word(list, a + 4, w);
 }
 
 // Writes the five numbers of an entry: the rows of the left from i, m of them, and those of the right from j, n of them.
@@ -90,7 +63,7 @@ pub(crate) fn put_entry(
     requires { ⌜ at + 20 ≤ length (now list) ⌝ }
     ensures { λ _. ⌜ now (list .exit) ≡ sets (now (list .entry)) at (entryT kind i m j n) ⌝ }
 {
-    put_number(list, at, kind);
+    put_word(list, at, kind);
     put_two(list, at + 4, i, m);
     put_two(list, at + 12, j, n);
 }

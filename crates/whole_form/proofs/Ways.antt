@@ -10,6 +10,7 @@ use lib.ListN.{length, take, drop, length-drop, length-map, drop-of-length-le}
 use lib.Seq.{take-all}
 use borrow.Author.Needs.{needs}
 use borrow.Author.Tests.{leb-true, eqb-true}
+use Rattle.kit.specs.Pick.{pick}
 use Rattle.kit.proofs.Laws.{drop-next}
 use Rattle.rules.specs.Tools.{if_then_else_, between, only}
 use Rattle.rules.specs.Versions.{Setting, version1, today, all, asClaimed}
@@ -32,7 +33,7 @@ use Rattle.form.specs.declared.header.Header.the-variants.{Rows, Wrong, Count}
 use Rattle.reader.specs.Readings.{answerOf, readTo}
 use Rattle.reader.specs.declared.read.Reading.{Reading}
 use Rattle.reader.specs.declared.read.Reading.the-variants as reading
-use Rattle.whole_form.specs.Asked.{orNext, askedFrom, askedOf}
+use Rattle.whole_form.specs.Asked.{orNext, heldAs, askedFrom, askedOf, claimedOf}
 use Rattle.whole_form.specs.Whole.{refusedT, formOf, readT, bodyT, headT, heldT}
 use Rattle.whole_form.specs.declared.asked.Asked.{Asked}
 use Rattle.whole_form.specs.declared.asked.Asked.the-variants as asked
@@ -76,20 +77,31 @@ header-rows s input rows e =
 
 -- ---- which setting
 
-pub asked-start : (input : List ℕ) → askedFrom 0 (drop 0 all) input ≡ askedOf input
-unfolding askedOf
-asked-start input = refl
+-- the limits at a place stand for the setting there
+held-at : (claim : Bool) (i : ℕ) → settingIn (limitsOf (heldAs claim (setting i))) ≡ heldAs claim (setting i)
+unfolding heldAs pick
+held-at true i = stand-claimed i
+held-at false i = stand-for i
 
-module _ (input : List ℕ) (i : ℕ) (T : Asked) (inv : askedFrom i (drop i all) input ≡ T) where
+module _ (claim : Bool) (i : ℕ) (l : Limits) where
+  pub limits-claim : claim ≡ true → l ≡ limitsOf (asClaimed (setting i)) → l ≡ limitsOf (heldAs claim (setting i))
+  unfolding heldAs pick
+  limits-claim h e = rw h e
+
+  pub limits-input : claim ≡ false → l ≡ limitsOf (setting i) → l ≡ limitsOf (heldAs claim (setting i))
+  unfolding heldAs pick
+  limits-input h e = rw h e
+
+module _ (claim : Bool) (input : List ℕ) (i : ℕ) (T : Asked) (inv : askedFrom claim i (drop i all) input ≡ T) where
   pub asked-end : 3 ≤ i → asked.Wrong ≡ T
   unfolding askedFrom
   asked-end h = rw (drop-of-length-le all h) at inv
 
-  module _ (h : i < 3) (l : Limits) (e : l ≡ limitsOf (setting i)) (said : Header) (q : said ≡ headerTo l input) where
-    turn : orNext i said (askedFrom (i + 1) (drop (i + 1) all) input) ≡ T
+  module _ (h : i < 3) (l : Limits) (e : l ≡ limitsOf (heldAs claim (setting i))) (said : Header) (q : said ≡ headerTo l input) where
+    turn : orNext i said (askedFrom claim (i + 1) (drop (i + 1) all) input) ≡ T
     unfolding askedFrom
     turn =
-        let is : said ≡ headerFor (only (hasHeader (setting i) input) (setting i)) input = q ∙ rw e (unfold headerTo in rw (stand-for i)) in
+        let is : said ≡ headerFor (only (hasHeader (heldAs claim (setting i)) input) (heldAs claim (setting i))) input = q ∙ rw e (unfold headerTo in rw (held-at claim i)) in
         rw is (rw (drop-next all i (record { version = version1; rules = today }) h) at inv)
 
     pub asked-rows : (rows : ℕ) → said ≡ Rows rows → asked.For i rows ≡ T
@@ -100,11 +112,20 @@ module _ (input : List ℕ) (i : ℕ) (T : Asked) (inv : askedFrom i (drop i all
     unfolding orNext
     asked-count w = rw w at turn
 
-    pub asked-on : said ≡ Wrong → askedFrom (i + 1) (drop (i + 1) all) input ≡ T
+    pub asked-on : said ≡ Wrong → askedFrom claim (i + 1) (drop (i + 1) all) input ≡ T
     unfolding orNext
     asked-on w = rw w at turn
 
-pub ruleset asked-ways = (asked-start, asked-end, asked-rows, asked-count, asked-on, needs)
+pub ruleset asked-ways = (limits-claim, limits-input, asked-end, asked-rows, asked-count, asked-on, needs)
+
+module _ (a : Asked) (input : List ℕ) where
+  pub asked-input : a ≡ askedFrom false 0 all input → a ≡ askedOf input
+  unfolding askedOf
+  asked-input e = e
+
+  pub asked-claim : a ≡ askedFrom true 0 all input → a ≡ claimedOf input
+  unfolding claimedOf
+  asked-claim e = e
 
 -- ---- a form by itself
 

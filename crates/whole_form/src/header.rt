@@ -1,19 +1,28 @@
 // The header of a form written: `WNT`, the version, the rule set, the row count, and zeros.
 use form::header::behind_count;
 use limits::Limits;
+use limits::of_input;
 ghost use mathlib.Core.Path.{_≡_};
 ghost use Prim.Native.Nat.{_%_, _≤_, _<_};
 ghost use lib.ListN.{length, getD};
 ghost use lib.Seq.{sets};
 ghost use Rattle.kit.specs.Pick.{pick};
 ghost use Rattle.rules.specs.Answer.{headerBytes};
-ghost use Rattle.limits.specs.Held.{settingIn};
+ghost use Rattle.limits.specs.Held.{settingIn, setting};
 
 // A byte as a number.
 fn wide(byte: u8) -> usize
     ensures { λ r. ⌜ r ≡ byte ⌝ }
 {
     byte as usize
+}
+
+// How many bytes a header has, by its setting's place in the list of all.
+pub fn header_at(i: usize) -> usize
+    ensures { λ r. ⌜ r ≡ setting i .version .header ⌝ }
+{
+    let limits = of_input(i);
+    wide(limits.header)
 }
 
 // A byte of a row count that only a long header has.

@@ -42,11 +42,11 @@ module _ (s t : Setting) (ps : Plain s) (pt : Plain t) (input : List ℕ) (few :
   countable : count < 256 ^ t .version .counting
   countable = omega (arith, few, pt .usual .countable)
 
-  recast-header : hasHeader t (recast s t input) ≡ true
+  pub recast-header : hasHeader t (recast s t input) ≡ true
   unfolding recast
   recast-header = written-header t count rest (pt .usual .header)
 
-  recast-count : rowCount (t .version) (recast s t input) ≡ count
+  pub recast-count : rowCount (t .version) (recast s t input) ≡ count
   unfolding recast rowCount
   recast-count = header-count t count rest countable
 
@@ -54,7 +54,7 @@ module _ (s t : Setting) (ps : Plain s) (pt : Plain t) (input : List ℕ) (few :
   unfolding recast
   recast-rest = header-drop t count rest (pt .usual .header)
 
-  recast-length : length input ≡ s .version .header + 16 * count → length (recast s t input) ≡ t .version .header + 16 * count
+  pub recast-length : length input ≡ s .version .header + 16 * count → length (recast s t input) ≡ t .version .header + 16 * count
   unfolding recast
   recast-length e = omega (arith, length-append (headerBytes t count) rest, header-length t count rest (pt .usual .header), length-drop (s .version .header) input, e)
 
@@ -313,7 +313,8 @@ module _ (settings : List Setting) (w : Coherent settings) where
           let fits : ltb room (t .version .header + 16 * rowCount (s .version) input) ≡ false = leb-false (suc room) (t .version .header + 16 * rowCount (s .version) input) (omega (arith, roomy)) in
           rw (own, version-is settings t w a, get, sound .counted, sound .long, fits, tree-read, leb-true many)
 
-      limited : rowCount (s .version) input ≤ t .version .rows → t .version .header + 16 * rowCount (s .version) input ≤ room
+      -- what the reading by its limits says
+      pub limited : rowCount (s .version) input ≤ t .version .rows → t .version .header + 16 * rowCount (s .version) input ≤ room
           → converted settings (t .version .number) input room ≡ withinScopes s t input (read (t .rules) (t .version .scopes) (rowsIn s input))
       unfolding converted convertedFor convertedIn ifForm withinLimits if_then_else_
       limited few roomy =

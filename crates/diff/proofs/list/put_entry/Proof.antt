@@ -8,7 +8,7 @@ pub put-entry-spec : {M : Type 1} → statement M
 put-entry-spec =
     tie.close
     (tie.spec
-    (λ c κs. search needs)  -- put-number-requires
+    (λ c κs. search needs)  -- put-word-requires
     (λ c. search needs)  -- add-put-two
     (λ c κs. search needs)  -- put-two-requires
     (λ c. search needs)  -- add-put-two-2

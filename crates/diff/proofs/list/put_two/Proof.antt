@@ -8,8 +8,8 @@ pub put-two-spec : {M : Type 1} → statement M
 put-two-spec =
     tie.close
     (tie.spec
-    (λ c κs. search needs)  -- put-number-requires
-    (λ c. search needs)  -- add-put-number
-    (λ c κs. search needs)  -- put-number-requires-2
+    (λ c κs. search needs)  -- put-word-requires
+    (λ c. search needs)  -- add-put-word
+    (λ c κs. search needs)  -- put-word-requires-2
     (λ c. search needs)  -- same-length
     (λ c. search (two-put, needs)))  -- returns

@@ -13,6 +13,7 @@ list-rows-spec =
     (λ c κs. search needs)  -- open-size-requires
     (λ c κs. search needs)  -- rest-size-requires
     (λ c. search needs)  -- add-size
+    (λ c κs. search needs)  -- refused-requires
     (λ c. search (rows-short, needs))  -- returns
     (λ c κs. (search needs, search (rows-room, needs)))  -- put-list-requires
     (λ c. search needs)  -- cast-t19

@@ -1,35 +1,10 @@
--- `whole_form::asked::setting_of` meets its contract. The invariant: what is asked for from here on is what is asked for.
-use mathlib.Core.Path.{_≡_}
-use Prim.Native.Nat.{_-_}
-use lib.ListN.{drop}
-use Rattle.rules.specs.Versions.{all}
-use Rattle.whole_form.specs.Asked.{askedFrom, askedOf}
+-- `whole_form::asked::setting_of` meets its contract.
 use borrow.Author.Needs.{needs}
-use Rattle.whole_form.proofs.Ways.{asked-ways}
+use Rattle.whole_form.proofs.Ways.{asked-input}
 use Rattle.whole_form.proofs.asked.setting_of.Statement.{statement}
 use Rattle.whole_form.proofs.asked.setting_of.Tie as tie
 
-abbrev Inv-loop : tie.InvT-loop
-Inv-loop form next₀ next = askedFrom next (drop next all) form ≡ askedOf form
-
-abbrev μ-loop : tie.MeasureT-loop
-μ-loop form next₀ next = 3 - next
-
 pub setting-of-spec : {M : Type 1} → statement M
-setting-of-spec =
-    tie.close
-    (tie.spec
-    Inv-loop
-    μ-loop
-    (λ c. search asked-ways)  -- loop-holds
-    (λ c. search needs)  -- add-next
-    (λ c κs. search needs)  -- of-input-requires
-    (λ c κs. search needs)  -- header-to-requires
-    (λ c. search needs)  -- enum-known-rows
-    (λ c. search asked-ways)  -- returns
-    (λ c. search needs)  -- enum-told
-    (λ c. search asked-ways)  -- returns-2
-    (λ c. search needs)  -- enum-told-2
-    (λ c. search needs)  -- loop-less
-    (λ c. search asked-ways)  -- loop-again
-    (λ c. search asked-ways))  -- returns-3
+setting-of-spec = tie.close (tie.spec
+    (λ c κs. search needs)  -- asked-as-requires
+    (λ c. search (asked-input, needs)))  -- returns

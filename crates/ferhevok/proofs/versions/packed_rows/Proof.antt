@@ -1,0 +1,19 @@
+-- `ferhevok::versions::packed_rows` meets its contract.
+use borrow.Author.Needs.{needs}
+use Rattle.ferhevok.proofs.Conversions.{rows}
+use Rattle.ferhevok.proofs.versions.packed_rows.Statement.{statement}
+use Rattle.ferhevok.proofs.versions.packed_rows.Tie as tie
+
+pub packed-rows-spec : {M : Type 1} → statement M
+packed-rows-spec =
+    tie.close
+    (tie.spec
+    (λ c. search needs)  -- enum-known-rows
+    (λ c. search needs)  -- cast-result
+    (λ c. search needs)  -- enum-known-refusal
+    (λ c. search needs)  -- cast-result-2
+    (λ c. search needs)  -- mul-result
+    (λ c. search needs)  -- cast-result-3
+    (λ c. search needs)  -- add-result
+    (λ c. search rows)  -- returns
+    (λ c. search rows))  -- returns-2
