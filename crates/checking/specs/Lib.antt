@@ -1,5 +1,6 @@
 -- What must be believed.
 pub mod Check
+pub mod CheckAnswer
 -- Runs that antt computes.
 pub mod CheckRuns
 -- What is proved of it.

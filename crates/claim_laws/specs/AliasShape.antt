@@ -3,19 +3,24 @@ use mathlib.Core.Path.{_≡_, refl, sym, ap, _∙_}
 use mathlib.Core.Bool.{Bool, true, false, _&&_}
 use mathlib.Core.Option.{Option, none, some}
 use mathlib.Core.List.{List, [], _∷_}
-use Prim.Native.Nat.{ℕ, zero, suc, _<_}
+use Prim.Native.Nat.{ℕ, zero, suc, _<_, _≤_}
 use native.Mathlib.Omega.{arith}
 use lib.Dec.{eqb}
 use lib.ListN.{length}
 use Rattle.rules.specs.Tools.{isIn, isJust, only, _then_}
 use Rattle.rules.specs.Versions.{RuleSet}
 use Rattle.rules.specs.Rows.{Index}
-use Rattle.rules.specs.Tree.{Declaration, Operand, ref, outer, case, Head}
+use Rattle.rules.specs.Tree.{Declaration, Operand, ref, outer, case, Head, Item, plain, holds, headOf, declRows, operandRow, operandRows, headRows}
 use Rattle.rules.specs.Shapes
 use Rattle.rules.specs.Shapes.{Part, one, Want, p, out, complete, FIVE, SIX, FOUR}
-use Rattle.rules.specs.Good.{MayDeclare, afterOperand, afterOperands, GoodHead}
+use Rattle.rules.specs.Good.{MayDeclare, afterOperand, afterOperands, GoodHead, GoodItem}
 use Rattle.rules.specs.Laws.ToolLaws.{or-cases, or-false, eqb-true, and-left, and-right, false-not}
 use Rattle.rules.specs.Laws.Results.{no-option, some-same}
+
+pub good-head : (rules : RuleSet) (i : Item) (kind : ℕ) → GoodItem rules i kind → GoodHead rules kind (headOf i)
+unfolding headOf
+good-head rules (plain h) kind g = g .0
+good-head rules (holds h s) kind g = g .0
 
 -- its DECL, of one of thirteen spaces
 pub record OneDecl (h : Head) : Type 0 where
@@ -27,6 +32,12 @@ pub record OneDecl (h : Head) : Type 0 where
 pub data AliasOf (h : Head) : Type 0 where
   of-export : (from : ℕ) (at : Index) (z name : ℕ) → h .operands ≡ ref from at [] z ∷ [] → h .export ≡ some name → (h .code ≡ 11 → ⊥) → AliasOf h
   of-outer : (space : ℕ) (up at : Index) (z : ℕ) → h .operands ≡ outer space up at z ∷ [] → h .export ≡ none → h .code ≡ 11 → AliasOf h
+
+-- its rows
+pub alias-size : (h : Head) (d : Declaration) → h .decls ≡ d ∷ [] → AliasOf h → 3 ≤ length (headRows h)
+unfolding headRows declRows operandRows operandRow
+alias-size h d a (of-export from at z name o x c) = rw (a, o) (omega arith)
+alias-size h d a (of-outer space up at z o x c) = rw (a, o) (omega arith)
 
 -- ---- its DECL
 

@@ -55,8 +55,8 @@ other-last xs ys key name p = find-append xs ys key name ∙ rw (find-other ys k
 
 -- slots of the scopes whose OPEN is one of the rows from `lo` on and before `hi`
 pub record Of (lo hi : ℕ) (s : Slot) : Type 0 where
-  pub low : 13 * lo ≤ spaceOf s
-  pub high : spaceOf s < 13 * hi
+  pub low : 257 * lo ≤ spaceOf s
+  pub high : spaceOf s < 257 * hi
 
 abbrev pub Within : (lo hi : ℕ) → List Slot → Type 0
 Within lo hi ss = All (Of lo hi) ss
@@ -65,15 +65,15 @@ pub wider : (lo hi lo′ hi′ : ℕ) (ss : List Slot) → lo′ ≤ lo → hi �
 wider lo hi lo′ hi′ ss l h p =
     all-map ss (λ s o. let a = o .low in let b = o .high in record { low = omega arith; high = omega arith }) p
 
-pub key-is : (k space : ℕ) → k < 65536 → keyT k space ≡ 13 * k + space
+pub key-is : (k space : ℕ) → k < 65536 → keyT k space ≡ 257 * k + space
 unfolding keyT
 key-is k space l = let e : k % 65536 ≡ k = omega arith in rw e (omega arith)
 
-pub key-within : (k space : ℕ) → k < 65536 → space < 13 → (13 * k ≤ keyT k space) × (keyT k space < 13 * (k + 1))
+pub key-within : (k space : ℕ) → k < 65536 → space < 256 → (257 * k ≤ keyT k space) × (keyT k space < 257 * (k + 1))
 key-within k space l h = let e = key-is k space l in (omega arith, omega arith)
 
 -- none of them is of a scope outside of these rows
-pub outside : (lo hi k space : ℕ) (ss : List Slot) → k < 65536 → space < 13 → Within lo hi ss → (k < lo → All (Other (keyT k space)) ss) × (hi ≤ k → All (Other (keyT k space)) ss)
+pub outside : (lo hi k space : ℕ) (ss : List Slot) → k < 65536 → space < 256 → Within lo hi ss → (k < lo → All (Other (keyT k space)) ss) × (hi ≤ k → All (Other (keyT k space)) ss)
 outside lo hi k space ss l h p =
     let w = key-within k space l h in
     let a = w .0 in

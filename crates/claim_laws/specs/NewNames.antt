@@ -40,7 +40,8 @@ use Rattle.claim_scopes.specs.declared.entries.Entry.{Entry}
 use Rattle.claim_aliases.specs.Aliases.{isAlias, newT, isValue, isKnown, breaksT, nameSlot, namesT, Names, aliasesT}
 use Rattle.claim_laws.specs.RowParts.{asParts, allParts, codeIn, NoDecl, behindField, operands-no-decl, any-fresh, fields-no-decl, scope-no-decl, Inner, inner, inner-behind, scope-size, fields-size, holds-size, head-size, item-size}
 use Rattle.claim_laws.specs.Keys.{orFound, find-append, find-other, other-last, Other, Of, Within, wider, key-is, key-within, outside}
-use Rattle.claim_laws.specs.AliasShape.{OneDecl, AliasOf, of-export, of-outer, one-declared, alias-of}
+use Rattle.claim_laws.specs.AliasShape.{good-head, alias-size, OneDecl, AliasOf, of-export, of-outer, one-declared, alias-of}
+use Rattle.claim_laws.specs.Marks.{inner-added, inner-open, field-added, field-open}
 use Rattle.claim_laws.specs.SameRows.{tried}
 
 -- ---- the names that are entered
@@ -65,6 +66,9 @@ unfoldable mutual
   itemNames n (plain h) = []
   itemNames n (holds h s) = scopeNames n s
 
+few : {h : Head} (D : OneDecl h) → D .decl .space < 256
+few D = let l = D .space in omega arith
+
 -- ---- what is known of names
 
 isFound : Found → Bool
@@ -83,7 +87,7 @@ found-or found.Nothing g = refl
 
 -- of the scope whose OPEN is row k: its DECLs so far are `past`, and the slots that are used are `ss`
 record Known (k : ℕ) (past : List Declaration) (ss : List Slot) : Type 0 where
-  known : (space name : ℕ) → space < 13 → isFresh name ≡ true → isFound (findIn ss (keyT k space) (newT name)) ≡ has past space name
+  known : (space name : ℕ) → space < 256 → isFresh name ≡ true → isFound (findIn ss (keyT k space) (newT name)) ≡ has past space name
 
 known-none : (k : ℕ) (ss : List Slot) → k < 65536 → Within 0 k ss → Known k [] ss
 unfolding has isFound
@@ -130,11 +134,11 @@ found-one true true v = refl
 found-one true false v = refl
 found-one false u v = refl
 
-known-new : (k : ℕ) (past : List Declaration) (d : Declaration) (ss : List Slot) → k < 65536 → d .space < 13 → isFresh (d .name) ≡ true → Known k past ss → Known k (past ++ (d ∷ [])) (ss ++ (declSlot k d ∷ []))
+known-new : (k : ℕ) (past : List Declaration) (d : Declaration) (ss : List Slot) → k < 65536 → d .space < 256 → isFresh (d .name) ≡ true → Known k past ss → Known k (past ++ (d ∷ [])) (ss ++ (declSlot k d ∷ []))
 unfolding has isFresh declSlot slotT findIn
 known-new k past d ss l s e g = record { known = go }
   where
-    go : (space name : ℕ) → space < 13 → leb 2147483648 name ≡ true → isFound (findIn (ss ++ (declSlot k d ∷ [])) (keyT k space) (newT name)) ≡ has (past ++ (d ∷ [])) space name
+    go : (space name : ℕ) → space < 256 → leb 2147483648 name ≡ true → isFound (findIn (ss ++ (declSlot k d ∷ [])) (keyT k space) (newT name)) ≡ has (past ++ (d ∷ [])) space name
     go space name h f =
         let a = leb-le 2147483648 (d .name) e in
         let b = leb-le 2147483648 name f in
@@ -150,11 +154,11 @@ abbrev pub answerIn : Names → Tried
 answerIn (a & ss) = a
 
 -- a row that breaks the condition, or what comes after
-unfoldable orTried : Option ℕ → Tried → Tried
+unfoldable pub orTried : Option ℕ → Tried → Tried
 orTried none t = t
 orTried (some row) t = Breaks row
 
-or-tried : (a b : Option ℕ) (t : Tried) → orTried (a orElse b) t ≡ orTried a (orTried b t)
+pub or-tried : (a b : Option ℕ) (t : Tried) → orTried (a orElse b) t ≡ orTried a (orTried b t)
 unfolding orTried _orElse_
 or-tried none b t = refl
 or-tried (some row) b t = refl
@@ -175,14 +179,6 @@ module _ (room : ℕ) where
   run-row n b a st ss r rs e = rw (e, add-one n) (pick-answer (breaksT a ss (hereT st) (asParts r)) (Breaks n) ss _)
 
   -- rows of a field behind its FIELD, which is not added
-  inner-added : (b : Bool) (r : Row) (ps : List Parts) → Inner r → isAddedT b (codeIn r) ps ≡ b
-  unfolding isAddedT pick
-  inner-added b r ps i = rw (ne-eqb (codeIn r) 1 (i .no-field), ne-eqb (codeIn r) 8 (i .no-close))
-
-  inner-open : (st : List (List ℕ)) (r : Row) (n : ℕ) → Inner r → openT 64 st (asParts r) n ≡ st
-  unfolding openT pick
-  inner-open st r n i = rw (ne-eqb (codeIn r) 7 (i .no-open), ne-eqb (codeIn r) 8 (i .no-close))
-
   own-inner : (xs ys : List Row) (n : ℕ) (st : List (List ℕ)) (ss : List Slot) → All Inner xs → run n false st ss (xs ++ ys) ≡ run (n + length xs) false st ss ys
   unfolding breaksT namesT pick
   own-inner [] ys n st ss done = let e : n + 0 ≡ n = omega arith in rw e
@@ -191,19 +187,6 @@ module _ (room : ℕ) where
       run-row n false false st ss r (xs ++ ys) (inner-added false r (allParts (xs ++ ys)) i) ∙ rw (inner-open st r n i) (own-inner xs ys (suc n) st ss p ∙ rw e)
 
   -- ---- a field of the input
-
-  field-added : (b : Bool) (h : Head) (ys : List Row) → NoDecl ys → isAddedT b (codeIn (Field (h .code) (h .builtin) (h .z))) (allParts (behindField h ++ ys)) ≡ isInserted h
-  unfolding isAddedT asParts encode pick behindField isInserted
-  field-added b h ys d =
-      rw (
-        append-assoc (declRows (h .decls)) (operandRows (h .operands) ++ exportRows (h .export)) ys,
-        append-assoc (operandRows (h .operands)) (exportRows (h .export)) ys,
-        any-fresh (h .decls) _ (operands-no-decl (h .operands) (h .export) ys d),
-      )
-
-  field-open : (st : List (List ℕ)) (code builtin z n : ℕ) → openT 64 st (asParts (Field code builtin z)) n ≡ st
-  unfolding openT asParts encode pick
-  field-open st code builtin z n = refl
 
   own-head : (n : ℕ) (b : Bool) (st : List (List ℕ)) (ss : List Slot) (h : Head) (ys : List Row) → isInserted h ≡ false → NoDecl ys → run n b st ss (headRows h ++ ys) ≡ run (n + length (headRows h)) false st ss ys
   unfolding headRows behindField breaksT namesT pick
@@ -234,7 +217,7 @@ module _ (room : ℕ) where
       ∙ rw (field-breaks (hereT st) ss (h .code) (h .builtin) (h .z), c) (unfold pick in refl)
 
   -- its DECL
-  decl-breaks : (k : ℕ) (past : List Declaration) (ss : List Slot) (d : Declaration) → d .space < 13 → isFresh (d .name) ≡ true → Known k past ss → breaksT true ss k (asParts (Decl (d .space) (d .name) (d .z))) ≡ isJust (find past (d .space) (d .name))
+  decl-breaks : (k : ℕ) (past : List Declaration) (ss : List Slot) (d : Declaration) → d .space < 256 → isFresh (d .name) ≡ true → Known k past ss → breaksT true ss k (asParts (Decl (d .space) (d .name) (d .z))) ≡ isJust (find past (d .space) (d .name))
   unfolding breaksT asParts encode pick isKnown lookT
   decl-breaks k past ss d l f g = value-found (findIn ss (keyT k (d .space)) (newT (d .name))) ∙ (g .known (d .space) (d .name) l f ∙ sym (find-has past (d .space) (d .name)))
 
@@ -319,7 +302,7 @@ module _ (room : ℕ) where
   new-turn true m t = refl
   new-turn false m t = refl
 
-  decl-run : (n : ℕ) (st : List (List ℕ)) (past : List Declaration) (ss : List Slot) (d : Declaration) (rs : List Row) → d .space < 13 → isFresh (d .name) ≡ true → Known (hereT st) past ss → length ss < room
+  decl-run : (n : ℕ) (st : List (List ℕ)) (past : List Declaration) (ss : List Slot) (d : Declaration) (rs : List Row) → d .space < 256 → isFresh (d .name) ≡ true → Known (hereT st) past ss → length ss < room
       → run n true st ss (declRows (d ∷ []) ++ rs) ≡ orTried (notNew n past (d ∷ [])) (run (suc n) true st (ss ++ (declSlot (hereT st) d ∷ [])) rs)
   unfolding declRows notNew
   decl-run n st past ss d rs l f g roomy =
@@ -328,7 +311,7 @@ module _ (room : ℕ) where
       run-row n true true st ss r rs (inner-added true r (allParts rs) i)
       ∙ rw (decl-breaks (hereT st) past ss d l f g, inner-open st r n i, decl-names (hereT st) ss d roomy) (new-turn (isJust (find past (d .space) (d .name))) n _)
 
-  alias-rest : (n : ℕ) (st : List (List ℕ)) (past : List Declaration) (ss : List Slot) (h : Head) (ys : List Row) (d : Declaration) → h .decls ≡ d ∷ [] → d .space < 13 → isFresh (d .name) ≡ true → AliasOf h → Known (hereT st) past ss → length ss < room
+  alias-rest : (n : ℕ) (st : List (List ℕ)) (past : List Declaration) (ss : List Slot) (h : Head) (ys : List Row) (d : Declaration) → h .decls ≡ d ∷ [] → d .space < 256 → isFresh (d .name) ≡ true → AliasOf h → Known (hereT st) past ss → length ss < room
       → run n true st ss (behindField h ++ ys) ≡ orTried (notNew n past (h .decls) orElse notNumber (n + length (h .decls)) (h .operands)) (run (n + length (behindField h)) true st (ss ++ map (declSlot (hereT st)) (h .decls)) ys)
   unfolding behindField
   alias-rest n st past ss h ys d a l f o g roomy =
@@ -354,7 +337,7 @@ module _ (room : ℕ) where
       let q : suc n + length (behindField h) ≡ n + suc (length (behindField h)) = omega arith in
       run-row n b true st ss (Field (h .code) (h .builtin) (h .z)) (behindField h ++ ys) (field-added b h ys nd ∙ e)
       ∙ rw (field-breaks (hereT st) ss (h .code) (h .builtin) (h .z), c, field-open st (h .code) (h .builtin) (h .z) n, field-names (hereT st) ss (h .code) (h .builtin) (h .z), names-alias (hereT st) h e c)
-      (alias-rest (suc n) st past ss h ys (D .decl) (D .alone) (D .space) (any-one (D .decl) (h .decls) (D .alone) e) (alias-of rules kind h good c) g roomy ∙ rw q)
+      (alias-rest (suc n) st past ss h ys (D .decl) (D .alone) (few D) (any-one (D .decl) (h .decls) (D .alone) e) (alias-of rules kind h good c) g roomy ∙ rw q)
 
   -- ---- what is known behind a field
 
@@ -368,14 +351,14 @@ module _ (room : ℕ) where
       go : (b : Bool) → isInserted h ≡ b → Known k (past ++ h .decls) (ss ++ headNames k h)
       go true e =
           let D = one-declared rules kind h good (c e) in
-          rw (names-alias k h e (c e), D .alone) (known-new k past (D .decl) ss l (D .space) (any-one (D .decl) (h .decls) (D .alone) (unfold isInserted in e)) g)
+          rw (names-alias k h e (c e), D .alone) (known-new k past (D .decl) ss l (few D) (any-one (D .decl) (h .decls) (D .alone) (unfold isInserted in e)) g)
       go false e = rw (names-own k h e, append-nil ss) (known-own k past (h .decls) ss (unfold isInserted in e) g)
 
   names-other : (k : ℕ) (h : Head) → isIn (h .code) (9 ∷ 10 ∷ 11 ∷ []) ≡ false → headNames k h ≡ []
   unfolding headNames if_then_else_
   names-other k h c = rw (c, and-false (isInserted h))
 
-  slot-within : (k : ℕ) (d : Declaration) → k < 65536 → d .space < 13 → Of k (k + 1) (declSlot k d)
+  slot-within : (k : ℕ) (d : Declaration) → k < 65536 → d .space < 256 → Of k (k + 1) (declSlot k d)
   unfolding declSlot slotT
   slot-within k d l h = let w = key-within k (d .space) l h in record { low = w .0; high = w .1 }
 
@@ -386,14 +369,9 @@ module _ (room : ℕ) where
       go : (b c : Bool) → isInserted h ≡ b → isIn (h .code) (9 ∷ 10 ∷ 11 ∷ []) ≡ c → Within k (k + 1) (headNames k h)
       go true true e c =
           let D = one-declared rules kind h good c in
-          rw (names-alias k h e c, D .alone) (slot-within k (D .decl) l (D .space) also done)
+          rw (names-alias k h e c, D .alone) (slot-within k (D .decl) l (few D) also done)
       go true false e c = rw (names-other k h c) done
       go false c e d = rw (names-own k h e) done
-
-  good-head : (rules : RuleSet) (i : Item) (kind : ℕ) → GoodItem rules i kind → GoodHead rules kind (headOf i)
-  unfolding headOf
-  good-head rules (plain h) kind g = g .0
-  good-head rules (holds h s) kind g = g .0
 
   -- the slots of a scope are of it and of those inside
   fields-within-next : (rules : RuleSet) (i : Item) (fs : Fields) (kind k n : ℕ) → GoodItem rules i kind → k < n → n + length (fieldsRows (i ▸ fs)) ≤ 65536 → Within (n + length (headRows (headOf i))) (n + length (itemRows i)) (itemNames (n + length (headRows (headOf i))) i)
@@ -642,11 +620,6 @@ module _ (room : ℕ) where
 
   -- ---- there is room
 
-  alias-rows : (h : Head) (d : Declaration) → h .decls ≡ d ∷ [] → AliasOf h → 3 ≤ length (headRows h)
-  unfolding headRows declRows operandRows operandRow
-  alias-rows h d a (of-export from at z name o x c) = rw (a, o) (omega arith)
-  alias-rows h d a (of-outer space up at z o x c) = rw (a, o) (omega arith)
-
   head-few : (rules : RuleSet) (kind k : ℕ) (h : Head) → GoodHead rules kind h → 3 * length (headNames k h) ≤ length (headRows h)
   head-few rules kind k h good = go (isInserted h) (isIn (h .code) (9 ∷ 10 ∷ 11 ∷ [])) refl refl
     where
@@ -659,7 +632,7 @@ module _ (room : ℕ) where
       go : (t c : Bool) → isInserted h ≡ t → isIn (h .code) (9 ∷ 10 ∷ 11 ∷ []) ≡ c → 3 * length (headNames k h) ≤ length (headRows h)
       go true true e c =
           let D = one-declared rules kind h good c in
-          let l = alias-rows h (D .decl) (D .alone) (alias-of rules kind h good c) in
+          let l = alias-size h (D .decl) (D .alone) (alias-of rules kind h good c) in
           let o = one D in
           let m = ap length (names-alias k h e c) in
           omega arith
@@ -689,7 +662,7 @@ module _ (room : ℕ) where
         let e = holds-size h s in
         omega arith
 
-last-tried : (o : Option ℕ) → orTried o Passes ≡ tried o
+pub last-tried : (o : Option ℕ) → orTried o Passes ≡ tried o
 unfolding orTried
 last-tried none = refl
 last-tried (some n) = refl

@@ -1,9 +1,9 @@
 -- The rows of a tree as the code sees them: by their parts.
-use mathlib.Core.Path.{_≡_, refl}
+use mathlib.Core.Path.{_≡_, refl, ap}
 use mathlib.Core.Bool.{Bool, true, false, _||_}
 use mathlib.Core.Option.{Option, none, some}
 use mathlib.Core.List.{List, [], _∷_, _++_, map}
-use Prim.Native.Nat.{ℕ, suc, _+_, _≤_}
+use Prim.Native.Nat.{ℕ, suc, _+_, _<_, _≤_}
 use native.Mathlib.Omega.{arith}
 use lib.ListN.{length, length-append}
 use lib.Dec.{eqb, leb}
@@ -128,7 +128,31 @@ pub head-size : (h : Head) → length (headRows h) ≡ suc (length (behindField 
 unfolding headRows behindField
 head-size h = refl
 
+pub decls-size : (ds : List Declaration) → length (declRows ds) ≡ length ds
+unfolding declRows
+decls-size [] = refl
+decls-size (d ∷ ds) = ap suc (decls-size ds)
+
+-- at least one for each DECL
+pub head-decls-size : (h : Head) → length (h .decls) < length (headRows h)
+unfolding headRows
+head-decls-size h = omega (arith, length-append (declRows (h .decls)) (operandRows (h .operands) ++ exportRows (h .export)), decls-size (h .decls))
+
 pub item-size : (i : Item) → length (headRows (headOf i)) ≤ length (itemRows i)
 unfolding flatten headOf
 item-size (plain h) = omega arith
 item-size (holds h s) = let e = holds-size h s in omega arith
+
+-- ---- rows that stand from row n on
+
+abbrev pub Stands : (at : ℕ → Parts) (n : ℕ) → List Row → Type 0
+Stands at n [] = Unit {0}
+Stands at n (r ∷ rs) = (at n ≡ asParts r) × Stands at (suc n) rs
+
+pub stands-first : (at : ℕ → Parts) (n : ℕ) (xs ys : List Row) → Stands at n (xs ++ ys) → Stands at n xs
+stands-first at n [] ys s = tt
+stands-first at n (x ∷ xs) ys s = (s .0, stands-first at (suc n) xs ys (s .1))
+
+pub stands-second : (at : ℕ → Parts) (n : ℕ) (xs ys : List Row) → Stands at n (xs ++ ys) → Stands at (n + length xs) ys
+stands-second at n [] ys s = let e : n + 0 ≡ n = omega arith in rw e s
+stands-second at n (x ∷ xs) ys s = let e : suc n + length xs ≡ n + suc (length xs) = omega arith in rw e at (stands-second at (suc n) xs ys (s .1))

@@ -91,7 +91,7 @@ same-row r r′ = same-raw (encode r) (encode r′)
 
 -- ---- the input's rows without PATHs
 
-abbrev Settled : List Row → Type 0
+abbrev pub Settled : List Row → Type 0
 Settled [] = Unit {0}
 Settled (r ∷ rs) = isPath (encode r) ≡ false
 
@@ -117,6 +117,12 @@ onward-parts (r ∷ rs) = go (eqb (codeIn r) 4) (isPath (encode r)) (is-path r) 
     go : (t u : Bool) → t ≡ u → pastPaths (allParts rs) ≡ allParts (onward rs) → pick t (pastPaths (allParts rs)) (asParts r ∷ allParts rs) ≡ allParts (if u then onward rs else r ∷ rs)
     go t true h e = rw h e
     go t false h e = rw h
+
+-- where none comes first
+pub settled-parts : (rs : List Row) → Settled rs → pastPaths (allParts rs) ≡ allParts rs
+unfolding pastPaths allParts pick
+settled-parts [] s = refl
+settled-parts (r ∷ rs) s = rw (is-path r, s)
 
 onward-without : (rs : List Row) → withoutPaths (onward rs) ≡ withoutPaths rs
 unfolding withoutPaths onward if_then_else_

@@ -23,7 +23,7 @@ use Rattle.claim_scopes.specs.Open.{behindT, openIn, hereT, openT}
 use Rattle.claim_scopes.specs.Entries.{slotT, enterT, laidT}
 use Rattle.claim_scopes.proofs.Held.{Behind, open-length, open-behind, Laid, laid-none, Entered, slot-enters, laid-is}
 use Rattle.claim_numbers.specs.Count.{noCounts, countsAt, moreT, bumpT, countT, countsIn, numberIn, moreIn, lessIn, numberT, countsT}
-use Rattle.claim_numbers.specs.Enter.{isWanted, wantedT, declSlot, enteredT, atT, Went, wentT, countedT, onT, turnT, entryT, entriesT, laidBy}
+use Rattle.claim_numbers.specs.Enter.{declSlot, enteredT, atT, Went, wentT, countedT, onT, turnT, entryT, entriesT, laidBy}
 use Rattle.claim_numbers.specs.declared.enter.Cursor.{Cursor}
 
 -- ---- bump, count
@@ -70,19 +70,19 @@ pub ruleset counting = (count-open, count-full, count-other, count-none, count-d
 
 -- ---- enter_decl
 
-module _ (table : List Slot) (scope : ℕ) (p : Parts) (number i : ℕ) (c : Cursor) (b : Bool) (e : b ≡ wantedT (p .code) c) where
-  pub enters-none : not b ≡ true → (c .used & table) ≡ enteredT table scope p number i c
+module _ (table : List Slot) (scope : ℕ) (p : Parts) (number i : ℕ) (c : Cursor) where
+  pub enters-none : (p .code ≡ 2 → ⊥) → (c .used & table) ≡ enteredT table scope p number i c
   unfolding enteredT pick
-  enters-none h = rw (← e, is-false b h)
+  enters-none h = rw (ne-eqb _ _ h)
 
-  module _ (h : not b ≡ false) (r : ℕ) (table′ : List Slot) where
-    pub enters-alias : c .aliases ≡ true → (r & table′) ≡ pushed table (c .used) (slotT scope (p .b) (number % 65536 + 1) (i % 65536)) → (r & table′) ≡ enteredT table scope p number i c
+  module _ (h : p .code ≡ 2) (r : ℕ) (table′ : List Slot) where
+    pub enters-alias : c .added ≡ true → (r & table′) ≡ pushed table (c .used) (slotT (scope % 65536 + 1) (p .b) (number % 65536 + 1) (i % 65536)) → (r & table′) ≡ enteredT table scope p number i c
     unfolding enteredT declSlot pick
-    enters-alias a q = rw (← e, is-true b h, a) q
+    enters-alias a q = rw (eq-eqb _ _ h, a) q
 
-    pub enters-own : c .aliases ≡ false → (r & table′) ≡ pushed table (c .used) (slotT scope (p .b) (p .x) number) → (r & table′) ≡ enteredT table scope p number i c
+    pub enters-own : c .added ≡ false → (r & table′) ≡ pushed table (c .used) (slotT scope (p .b) (p .x) number) → (r & table′) ≡ enteredT table scope p number i c
     unfolding enteredT declSlot pick
-    enters-own a q = rw (← e, is-true b h, a) q
+    enters-own a q = rw (eq-eqb _ _ h, a) q
 
 pub ruleset entering = (enters-none, enters-alias, enters-own, needs)
 
@@ -90,11 +90,11 @@ pub ruleset entering = (enters-none, enters-alias, enters-own, needs)
 
 pub on-is : (p : Parts) (i : ℕ) (table : List Slot) (scopes counts : List (List ℕ)) (c : Cursor) (number : ℕ) (counts′ : List (List ℕ)) (scope r d : ℕ) (table′ : List Slot) (scopes′ : List (List ℕ))
     → (number & counts′) ≡ countT counts (c .depth) p → scope ≡ hereT (openIn scopes (c .depth)) → (r & table′) ≡ enteredT table scope p number i c → (d & scopes′) ≡ behindT scopes (c .depth) p i
-    → (record { depth = d; used = r; added = c .added; aliases = c .aliases } & table′ & scopes′ & counts′) ≡ onT p i table scopes counts c
+    → (record { depth = d; used = r; added = c .added } & table′ & scopes′ & counts′) ≡ onT p i table scopes counts c
 unfolding onT countedT wentT
 on-is p i table scopes counts c number counts′ scope r d table′ scopes′ n w q o = rw (← n, ← w, ← q, ← o)
 
-pub at-is : (p : Parts) (ps : List Parts) (c : Cursor) (a : Bool) → a ≡ isAddedT (c .added) (p .code) ps → record { depth = c .depth; used = c .used; added = a; aliases = c .aliases } ≡ atT p ps c
+pub at-is : (p : Parts) (ps : List Parts) (c : Cursor) (a : Bool) → a ≡ isAddedT (c .added) (p .code) ps → record { depth = c .depth; used = c .used; added = a } ≡ atT p ps c
 unfolding atT
 at-is p ps c a e = rw e
 
@@ -197,14 +197,14 @@ module _ (scopes counts : List (List ℕ)) (d : ℕ) (p : Parts) (i : ℕ) (l : 
 
 -- behind a row the slots are those of the twin
 pub record Listed (before table table′ : List Slot) (scope : ℕ) (p : Parts) (number i r : ℕ) (c : Cursor) : Type 0 where
-  pub are : take r table′ ≡ entryT (length before) (c .aliases) (c .added) (take (c .used) table) scope p number i
+  pub are : take r table′ ≡ entryT (length before) (c .added) (take (c .used) table) scope p number i
   pub laid : Laid before table′ r
 
 module _ (before table : List Slot) (scope : ℕ) (p : Parts) (number i : ℕ) (c : Cursor) (h : Laid before table (c .used)) where
-  by-want : (t : Bool) → wantedT (p .code) c ≡ t → (table′ : List Slot) (r : ℕ) → (r & table′) ≡ enteredT table scope p number i c → Listed before table table′ scope p number i r c
+  by-want : (t : Bool) → eqb (p .code) 2 ≡ t → (table′ : List Slot) (r : ℕ) → (r & table′) ≡ enteredT table scope p number i c → Listed before table table′ scope p number i r c
   unfolding enteredT entryT pick
   by-want true t table′ r e =
-      let n = slot-enters before table (c .used) (declSlot (c .aliases) scope p number i) h table′ r (rw t at e) in
+      let n = slot-enters before table (c .used) (declSlot (c .added) scope p number i) h table′ r (rw t at e) in
       record { are = rw t (n .are); laid = n .laid }
   by-want false t table′ r e =
       let q : (r & table′) ≡ (c .used & table) = rw t at e in
@@ -213,20 +213,20 @@ module _ (before table : List Slot) (scope : ℕ) (p : Parts) (number i : ℕ) (
       record { are = rw (t, r-is, t-is); laid = rw (r-is, t-is) h }
 
   pub entries-listed : (table′ : List Slot) (r : ℕ) → (r & table′) ≡ enteredT table scope p number i c → Listed before table table′ scope p number i r c
-  entries-listed = by-want (wantedT (p .code) c) refl
+  entries-listed = by-want (eqb (p .code) 2) refl
 
 -- what a turn of the loop keeps
 pub record Goes (claim : List ℕ) (before table : List Slot) (scopes counts : List (List ℕ)) (c : Cursor) (i : ℕ) (T : List Slot) : Type 0 where
-  pub goes : entriesT (length before) (c .aliases) i (c .added) (openIn scopes (c .depth)) (countsIn counts (c .depth)) (take (c .used) table) (rowsAt claim i) ≡ T
+  pub goes : entriesT (length before) i (c .added) (openIn scopes (c .depth)) (countsIn counts (c .depth)) (take (c .used) table) (rowsAt claim i) ≡ T
   pub laid : Laid before table (c .used)
   pub deep : c .depth ≤ 64
   pub long : length scopes ≡ 64
   pub counted : length counts ≡ 64
 
 module _ (claim : List ℕ) (before : List Slot) where
-  pub goes-start : (aliases : Bool) → Goes claim before before (replicate 64 noScope) (replicate 64 noCounts) (record { depth = 0; used = 0; added = false; aliases = aliases }) 0 (entriesT (length before) aliases 0 false [] [] [] (rowsAt claim 0))
+  pub goes-start : Goes claim before before (replicate 64 noScope) (replicate 64 noCounts) (record { depth = 0; used = 0; added = false }) 0 (entriesT (length before) 0 false [] [] [] (rowsAt claim 0))
   unfolding openIn countsIn
-  goes-start aliases = record { goes = refl; laid = laid-none before; deep = omega arith; long = length-replicate 64 noScope; counted = length-replicate 64 noCounts }
+  goes-start = record { goes = refl; laid = laid-none before; deep = omega arith; long = length-replicate 64 noScope; counted = length-replicate 64 noCounts }
 
   module _ (table : List Slot) (scopes counts : List (List ℕ)) (c : Cursor) (i : ℕ) (T : List Slot) (g : Goes claim before table scopes counts c i T) where
     pub goes-end : length claim / 16 ≤ i → (c .used & table) ≡ laidBy T before
@@ -243,13 +243,13 @@ module _ (claim : List ℕ) (before : List Slot) where
       a = isAddedT (c .added) (p .code) (rowsAt claim (i + 1))
 
       abbrev at : Cursor
-      at = record { depth = c .depth; used = c .used; added = a; aliases = c .aliases }
+      at = record { depth = c .depth; used = c .used; added = a }
 
       abbrev scope : ℕ
       scope = hereT (openIn scopes (c .depth))
 
-      twin : entriesT (length before) (c .aliases) (i + 1) a (openT 64 (openIn scopes (c .depth)) p i) (countsT 64 (countsIn counts (c .depth)) p)
-          (entryT (length before) (c .aliases) a (take (c .used) table) scope p (numberT (countsIn counts (c .depth)) p) i) (rowsAt claim (i + 1)) ≡ T
+      twin : entriesT (length before) (i + 1) a (openT 64 (openIn scopes (c .depth)) p i) (countsT 64 (countsIn counts (c .depth)) p)
+          (entryT (length before) a (take (c .used) table) scope p (numberT (countsIn counts (c .depth)) p) i) (rowsAt claim (i + 1)) ≡ T
       unfolding entriesT
       twin = rw (rows-there claim i h) at (g .goes)
 
@@ -257,7 +257,7 @@ module _ (claim : List ℕ) (before : List Slot) where
           → (n : Cursor) (table′ : List Slot) (scopes′ counts′ : List (List ℕ)) → (n & table′ & scopes′ & counts′) ≡ wentT at E B (leftOf C) → Goes claim before table′ scopes′ counts′ n (i + 1) T
       unfolding wentT
       after (number & ct) k (r & tb) m (d & sc) o n table′ scopes′ counts′ q =
-          let n-is : n ≡ record { depth = d; used = r; added = a; aliases = c .aliases } = ap outOf q in
+          let n-is : n ≡ record { depth = d; used = r; added = a } = ap outOf q in
           let t-is : table′ ≡ tb = ap (λ (x : Went). outOf (leftOf x)) q in
           let s-is : scopes′ ≡ sc = ap (λ (x : Went). outOf (leftOf (leftOf x))) q in
           let c-is : counts′ ≡ ct = ap (λ (x : Went). leftOf (leftOf (leftOf x))) q in

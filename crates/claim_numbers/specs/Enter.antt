@@ -1,5 +1,5 @@
 -- All declarations of a claim, as the code enters them.
-use mathlib.Core.Bool.{Bool, _&&_, _||_, not}
+use mathlib.Core.Bool.{Bool}
 use mathlib.Core.List.{List, [], _∷_}
 use Prim.Native.Nat.{ℕ, _+_, _%_}
 use lib.Dec.{eqb}
@@ -16,30 +16,23 @@ use Rattle.claim_numbers.specs.declared.enter.Cursor.{Cursor}
 
 -- ---- one row
 
--- is a row of this code a DECL that is to be entered: of an added field, or of another?
-unfoldable pub isWanted : (code : ℕ) (added aliases : Bool) → Bool
-isWanted code added aliases = eqb code 2 && (added && aliases || not added && not aliases)
-
-abbrev pub wantedT : (code : ℕ) → Cursor → Bool
-wantedT code c = isWanted code (c .added) (c .aliases)
-
 -- the slot of a DECL with this number, which is row i
-unfoldable pub declSlot : (aliases : Bool) (scope : ℕ) → Parts → (number i : ℕ) → Slot
-declSlot aliases scope p number i = pick aliases (slotT scope (p .b) (number % 65536 + 1) (i % 65536)) (slotT scope (p .b) (p .x) number)
+unfoldable pub declSlot : (added : Bool) (scope : ℕ) → Parts → (number i : ℕ) → Slot
+declSlot added scope p number i = pick added (slotT (scope % 65536 + 1) (p .b) (number % 65536 + 1) (i % 65536)) (slotT scope (p .b) (p .x) number)
 
 unfoldable pub enteredT : List Slot → (scope : ℕ) → Parts → (number i : ℕ) → Cursor → Out ℕ (List Slot)
-enteredT table scope p number i c = pick (wantedT (p .code) c) (pushed table (c .used) (declSlot (c .aliases) scope p number i)) (c .used & table)
+enteredT table scope p number i c = pick (eqb (p .code) 2) (pushed table (c .used) (declSlot (c .added) scope p number i)) (c .used & table)
 
 -- at a row, with these behind it: whether its field is added
 unfoldable pub atT : Parts → List Parts → Cursor → Cursor
-atT p ps c = record { depth = c .depth; used = c .used; added = isAddedT (c .added) (p .code) ps; aliases = c .aliases }
+atT p ps c = record { depth = c .depth; used = c .used; added = isAddedT (c .added) (p .code) ps }
 
 -- the cursor, the table, the scopes and their counts behind a row
 abbrev pub Went : Type 0
 Went = Out Cursor (Out (List Slot) (Out (List (List ℕ)) (List (List ℕ))))
 
 unfoldable pub wentT : Cursor → Out ℕ (List Slot) → Out ℕ (List (List ℕ)) → (counts : List (List ℕ)) → Went
-wentT c (used & table) (depth & scopes) counts = record { depth = depth; used = used; added = c .added; aliases = c .aliases } & table & scopes & counts
+wentT c (used & table) (depth & scopes) counts = record { depth = depth; used = used; added = c .added } & table & scopes & counts
 
 unfoldable pub countedT : Out ℕ (List (List ℕ)) → Parts → (i : ℕ) (table : List Slot) (scopes : List (List ℕ)) → Cursor → Went
 countedT (number & counts) p i table scopes c = wentT c (enteredT table (hereT (openIn scopes (c .depth))) p number i c) (behindT scopes (c .depth) p i) counts
@@ -55,16 +48,16 @@ turnT (p ∷ ps) i table scopes counts c = onT p i table scopes counts (atT p ps
 -- ---- all rows, from row i on
 
 -- the slots that are used behind a row
-unfoldable pub entryT : (room : ℕ) (aliases added : Bool) → List Slot → (scope : ℕ) → Parts → (number i : ℕ) → List Slot
-entryT room aliases added ss scope p number i = pick (isWanted (p .code) added aliases) (enterT room ss (declSlot aliases scope p number i)) ss
+unfoldable pub entryT : (room : ℕ) (added : Bool) → List Slot → (scope : ℕ) → Parts → (number i : ℕ) → List Slot
+entryT room added ss scope p number i = pick (eqb (p .code) 2) (enterT room ss (declSlot added scope p number i)) ss
 
 -- `added`: whether the field of the row before is; `st`: the scopes that are open; `cs`: how many declarations they have;
 -- `ss`: the slots that are used, of `room`
-unfoldable pub entriesT : (room : ℕ) (aliases : Bool) (i : ℕ) (added : Bool) (st cs : List (List ℕ)) (ss : List Slot) → List Parts → List Slot
-entriesT room aliases i added st cs ss [] = ss
-entriesT room aliases i added st cs ss (p ∷ ps) =
+unfoldable pub entriesT : (room i : ℕ) (added : Bool) (st cs : List (List ℕ)) (ss : List Slot) → List Parts → List Slot
+entriesT room i added st cs ss [] = ss
+entriesT room i added st cs ss (p ∷ ps) =
     let a = isAddedT added (p .code) ps in
-    entriesT room aliases (i + 1) a (openT 64 st p i) (countsT 64 cs p) (entryT room aliases a ss (hereT st) p (numberT cs p) i) ps
+    entriesT room (i + 1) a (openT 64 st p i) (countsT 64 cs p) (entryT room a ss (hereT st) p (numberT cs p) i) ps
 
 -- how many they are, and the whole table
 unfoldable pub laidBy : (ss table : List Slot) → Out ℕ (List Slot)

@@ -7,7 +7,7 @@ ghost use Rattle.kit.specs.Out.{_&_};
 ghost use Rattle.claim_numbers.specs.Count.{bumpT, countT};
 
 // How many declarations of each space a scope has so far.
-pub(crate) type Counts = [u32; 13];
+pub type Counts = [u32; 13];
 
 // How many spaces there are.
 const SPACES: usize = 13;
@@ -30,7 +30,7 @@ fn bump(counts: &mut [Counts], level: usize, space: usize) -> u32
 }
 
 // Counts a row where so many scopes are open: an OPEN begins to count, a DECL is counted, and its number is the answer.
-pub(crate) fn count(counts: &mut [Counts], depth: usize, p: Parts) -> u32
+pub fn count(counts: &mut [Counts], depth: usize, p: Parts) -> u32
     ensures { λ r. ⌜ (r & now (counts .exit)) ≡ countT (now (counts .entry)) depth p ⌝ }
 {
     if p.code == OPEN {

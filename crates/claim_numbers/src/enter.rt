@@ -1,4 +1,5 @@
-// All declarations of a claim, entered in the order of their rows.
+// All declarations of a claim, entered in the order of their rows: those of the input's fields under their names, those of
+// added aliases under their numbers, so that one table serves both.
 use crate::count::Counts;
 use crate::count::count;
 use claim_rows::added::is_added;
@@ -18,29 +19,21 @@ ghost use lib.ListN.{length};
 ghost use Rattle.kit.specs.Out.{_&_};
 ghost use Rattle.index.specs.Indexed.{Holds};
 ghost use Rattle.claim_rows.specs.Left.{rowsAt};
-ghost use Rattle.claim_numbers.specs.Enter.{wantedT, enteredT, atT, onT, turnT, laidBy, entriesT};
+ghost use Rattle.claim_numbers.specs.Enter.{enteredT, atT, onT, turnT, laidBy, entriesT};
 
 // The most scopes that are open one in another, in any version.
 const SCOPES: usize = 64;
 
-// Where the rows are gone through: how many scopes are open and how many slots are used, whether the row's field is added,
-// and whether added aliases are entered or the input's declarations.
+// Where the rows are gone through: how many scopes are open and how many slots are used, and whether the row's field is
+// added.
 struct Cursor {
     depth: usize,
     used: usize,
     added: bool,
-    aliases: bool,
-}
-
-// Whether a row of this code is a DECL that is to be entered.
-fn is_wanted(code: u8, c: Cursor) -> bool
-    ensures { λ r. ⌜ r ≡ wantedT code c ⌝ }
-{
-    (code == DECL) & ((c.added & c.aliases) | (!c.added & !c.aliases))
 }
 
 // Enters a DECL that is row i: an alias under its number counted from 1, with its row; one of the input under its name, with
-// its number.
+// its number. For aliases the row behind the scope's OPEN stands for the scope, which is no OPEN itself.
 fn enter_decl(
     table: &mut [Slot],
     index: &mut [u16],
@@ -53,14 +46,14 @@ fn enter_decl(
     requires { ⌜ Holds (now table) (now index) (c .used) ⌝ }
     ensures { λ r. ⌜ ((r & now (table .exit)) ≡ enteredT (now (table .entry)) scope p number i c) × Holds (now (table .exit)) (now (index .exit)) r ⌝ }
 {
-    if !is_wanted(p.code, c) {
-        return c.used;
-    }
     let used = c.used;
-    if c.aliases {
+    if p.code != DECL {
+        return used;
+    }
+    if c.added {
         let name = number % 65536 + 1;
         let row = (i % 65536) as u32;
-        return enter(table, index, used, scope, p.b, name, row);
+        return enter(table, index, used, scope % 65536 + 1, p.b, name, row);
     }
     enter(table, index, used, scope, p.b, p.x, number)
 }
@@ -85,7 +78,6 @@ fn go_on(
         depth,
         used,
         added: c.added,
-        aliases: c.aliases,
     }
 }
 
@@ -97,7 +89,6 @@ fn at_row(p: Parts, claim: &[u8], next: usize, c: Cursor) -> Cursor
         depth: c.depth,
         used: c.used,
         added: is_added(c.added, p.code, claim, next),
-        aliases: c.aliases,
     }
 }
 
@@ -126,10 +117,10 @@ fn go_over(
     )
 }
 
-// Enters the added aliases of a claim, or the declarations of the input's fields, and answers how many slots are used then.
-pub fn enter_all(claim: &[u8], table: &mut [Slot], index: &mut [u16], aliases: bool) -> usize
+// Enters all declarations of a claim, and answers how many slots are used then.
+pub fn enter_all(claim: &[u8], table: &mut [Slot], index: &mut [u16]) -> usize
     requires { ⌜ Holds (now table) (now index) 0 ⌝ }
-    ensures { λ r. ⌜ ((r & now (table .exit)) ≡ laidBy (entriesT (length (now (table .entry))) aliases 0 false [] [] [] (rowsAt (now (claim .entry)) 0)) (now (table .entry))) × Holds (now (table .exit)) (now (index .exit)) r ⌝ }
+    ensures { λ r. ⌜ ((r & now (table .exit)) ≡ laidBy (entriesT (length (now (table .entry))) 0 false [] [] [] (rowsAt (now (claim .entry)) 0)) (now (table .entry))) × Holds (now (table .exit)) (now (index .exit)) r ⌝ }
 {
     let n = claim.len() / 16;
     let mut scopes: [Scope; SCOPES] = [[0usize; 3]; SCOPES];
@@ -138,7 +129,6 @@ pub fn enter_all(claim: &[u8], table: &mut [Slot], index: &mut [u16], aliases: b
         depth: 0,
         used: 0,
         added: false,
-        aliases,
     };
     let mut i = 0;
     while i < n {

@@ -1,4 +1,4 @@
 // The declarations of a claimed output with their numbers, entered once for all scopes: those of the input's fields under
 // their names, those of added aliases under their numbers.
-mod count;
+pub mod count;
 pub mod enter;

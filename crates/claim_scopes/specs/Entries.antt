@@ -12,7 +12,7 @@ use Rattle.claim_scopes.specs.declared.entries.Entry.the-variants.{Value
 
 -- a space of a scope, by the row of its OPEN
 unfoldable pub keyT : (scope space : ℕ) → ℕ
-keyT scope space = scope % 65536 * 13 + space
+keyT scope space = scope % 65536 * 257 + space
 
 unfoldable pub slotT : (scope space name value : ℕ) → Slot
 slotT scope space name value = keyT scope space ∷ name ∷ value ∷ 0 ∷ 0 ∷ 0 ∷ []

@@ -12,8 +12,9 @@ ghost use Rattle.names.specs.Table.{pushed};
 ghost use Rattle.index.specs.Indexed.{Holds};
 ghost use Rattle.claim_scopes.specs.Entries.{keyT, slotT, lookT};
 
-// How many spaces there are.
-const SPACES: u32 = 13;
+// More than a byte can say, so that no two scopes have a space in common, whatever stands for a space. It is odd, so that the
+// chains of one name in several scopes differ.
+const SPACES: u32 = 257;
 
 // What was entered.
 pub enum Entry {

@@ -1,4 +1,4 @@
--- The added fields of a claim that passes condition 3: each holds no scope and has one DECL, of a fresh name; its operands are numbers; and the
+-- The added fields of a claim that passes condition 3: each is an alias, holds no scope and has one DECL, of a fresh name; its operands are numbers; and the
 -- OUTER of an outer alias has its space.
 use mathlib.Core.Path.{_≡_, refl, ap, sym, _∙_}
 use mathlib.Core.Bool.{Bool, true, false}
@@ -30,6 +30,7 @@ FirstOf space (outer s up at z ∷ os) = s ≡ space
 FirstOf space (case name z ∷ os) = Unit {0}
 
 pub record Added (h : Head) : Type 0 where
+  pub coded : isIn (h .code) (9 ∷ 10 ∷ 11 ∷ []) ≡ true
   pub decl : Declaration
   pub alone : h .decls ≡ decl ∷ []
   pub new : isFresh (decl .name) ≡ true
@@ -109,6 +110,7 @@ module _ (rules : RuleSet) where
   alias-added kind h g i (c, row, numbers) =
       let D = one-decl (h .decls) (enough-one (h .code) (h .decls) c (g .enough-declared)) in
       record {
+        coded = c;
         decl = D .0;
         alone = D .1;
         new = any-one (D .0) (ap anyFresh (sym (D .1)) ∙ i);

@@ -76,9 +76,13 @@ pub same-operands : (h h′ : Head) → blankHead h ≡ blankHead h′ → map b
 unfolding blankHead withOperands
 same-operands h h′ e = ap (λ (x : Head). x .operands) e
 
-same-decls : (h h′ : Head) → blankHead h ≡ blankHead h′ → h .decls ≡ h′ .decls
+pub same-decls : (h h′ : Head) → blankHead h ≡ blankHead h′ → h .decls ≡ h′ .decls
 unfolding blankHead withOperands
 same-decls h h′ e = ap (λ (x : Head). x .decls) e
+
+pub same-export : (h h′ : Head) → blankHead h ≡ blankHead h′ → h .export ≡ h′ .export
+unfolding blankHead withOperands
+same-export h h′ e = ap (λ (x : Head). x .export) e
 
 -- ---- a name of the input has the same first declaration in the claim
 

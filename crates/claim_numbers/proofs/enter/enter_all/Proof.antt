@@ -13,10 +13,10 @@ use Rattle.claim_numbers.proofs.enter.enter_all.Statement.{statement}
 use Rattle.claim_numbers.proofs.enter.enter_all.Tie as tie
 
 abbrev Inv-loop : tie.InvT-loop
-Inv-loop claim table₀ index₀ aliases n scopes₀ counts₀ c₀ i₀ table index scopes counts c i = Goes claim table₀ table scopes counts c i (entriesT (length table₀) aliases 0 false [] [] [] (rowsAt claim 0)) × Holds table index (c .used) × (length table ≡ length table₀) × (length index ≡ length index₀)
+Inv-loop claim table₀ index₀ n scopes₀ counts₀ c₀ i₀ table index scopes counts c i = Goes claim table₀ table scopes counts c i (entriesT (length table₀) 0 false [] [] [] (rowsAt claim 0)) × Holds table index (c .used) × (length table ≡ length table₀) × (length index ≡ length index₀)
 
 abbrev μ-loop : tie.MeasureT-loop
-μ-loop claim table₀ index₀ aliases n scopes₀ counts₀ c₀ i₀ table index scopes counts c i = n - i
+μ-loop claim table₀ index₀ n scopes₀ counts₀ c₀ i₀ table index scopes counts c i = n - i
 
 pub enter-all-spec : {M : Type 1} → statement M
 enter-all-spec =

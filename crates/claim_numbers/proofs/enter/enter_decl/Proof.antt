@@ -8,10 +8,10 @@ pub enter-decl-spec : {M : Type 1} → statement M
 enter-decl-spec =
     tie.close
     (tie.spec
-    (λ c κs. search needs)  -- is-wanted-requires
     (λ c. (search entering, search needs))  -- returns
     (λ c. search needs)  -- add-name
     (λ c. search needs)  -- cast-row
+    (λ c. search needs)  -- add-enter
     (λ c κs. search needs)  -- enter-requires
     (λ c. search needs)  -- same-length
     (λ c. search needs)  -- same-length-2

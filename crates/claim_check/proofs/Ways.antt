@@ -1,0 +1,138 @@
+-- Each way through the code that clears an area or tries a condition.
+use mathlib.Core.Path.{_≡_, refl, sym, ap, _∙_}
+use mathlib.Core.List.{List, [], _∷_, _++_, append-nil}
+use Prim.Native.Nat.{ℕ, zero, suc, _+_, _*_, _%_, _<_, _≤_}
+use native.Mathlib.Omega.{arith}
+use native.Mathlib.Numerals.{add-one}
+use mathlib.Core.Bool.{false}
+use lib.ListN.{length, take, drop, set, replicate, length-set, length-replicate}
+use lib.Seq.{take-all, take-at, length-take-le}
+use borrow.Author.Needs.{needs}
+use Rattle.kit.specs.Out.{Out, _&_}
+use Rattle.kit.proofs.Laws.{take-next-set}
+use Rattle.names.specs.Table.{Slot, emptySlot}
+use Rattle.index.specs.Indexed.{Holds}
+use Rattle.index.proofs.Storey.{holds-none}
+use Rattle.checking.specs.CheckAnswer.{cleared}
+use Rattle.claim_rows.specs.Left.{rowsAt}
+use Rattle.claim_rows.specs.Same.{differsT}
+use Rattle.claim_rows.specs.declared.Tried.{Tried}
+use Rattle.claim_rows.specs.declared.Tried.the-variants.{Passes, Breaks}
+use Rattle.claim_scopes.specs.Entries.{laidT}
+use Rattle.claim_aliases.specs.Aliases.{Names, aliasesT}
+use Rattle.claim_aliases.specs.Aliases as aliases
+use Rattle.claim_numbers.specs.Enter.{entriesT}
+use Rattle.claim_numbers.specs.Enter as numbers
+use Rattle.claim_operands.specs.Operands.{operandsT}
+use Rattle.claim_check.specs.Run.{Fit, noT, unlessT, triedIn, fourthT, thirdT, conditionsT}
+use Rattle.claim_check.specs.declared.Verdict.{Verdict}
+use Rattle.claim_check.specs.declared.Verdict.the-variants.{Yes}
+
+-- ---- the areas
+
+module _ {A : Type 0} where
+  copies-snoc : (n : ℕ) (z : A) → replicate n z ++ (z ∷ []) ≡ replicate (suc n) z
+  copies-snoc zero z = refl
+  copies-snoc (suc n) z = ap (λ (l : List A). z ∷ l) (copies-snoc n z)
+
+  module _ (l : List A) (i : ℕ) (z : A) (h : take i l ≡ replicate i z) where
+    pub clear-turn : i < length l → take (i + 1) (set l i z) ≡ replicate (i + 1) z
+    clear-turn g = take-next-set l i z g ∙ rw (h, add-one i) (copies-snoc i z)
+
+    pub clear-end : (n : ℕ) → length l ≤ i → i ≤ n → length l ≡ n → l ≡ replicate n z
+    clear-end n g k e = let q : i ≡ n = omega arith in sym (take-all i l (omega arith)) ∙ rw q (rw q at h)
+
+  -- the whole of a short one, and the front of a long one
+  pub cleared-all : (l l′ : List A) (size : ℕ) (z : A) → length l < size → l′ ≡ replicate (length l) z → l′ ≡ cleared size z l
+  unfolding cleared
+  cleared-all l l′ size z h e = rw (take-all size l (omega arith), drop-all l size (omega arith), append-nil) e
+    where
+      drop-all : (l : List A) (size : ℕ) → length l ≤ size → drop size l ≡ []
+      drop-all [] zero g = refl
+      drop-all [] (suc n) g = refl
+      drop-all (a ∷ l) zero g = absurd (omega arith)
+      drop-all (a ∷ l) (suc n) g = drop-all l n (omega arith)
+
+  pub cleared-front : (l l′ : List A) (size : ℕ) (z : A) → l′ ≡ replicate (length (take size l)) z → l′ ++ drop size l ≡ cleared size z l
+  unfolding cleared
+  cleared-front l l′ size z e = rw e
+
+pub start-none : {A : Type 0} (l : List A) (z : A) → take 0 l ≡ replicate 0 z
+start-none l z = refl
+
+pub ruleset clearing = (clear-turn, clear-end, start-none, needs)
+
+pub ruleset fronts = (cleared-all, cleared-front, needs)
+
+-- ---- an index that was cleared
+
+pub starts : (table : List Slot) (index index₀ : List ℕ) → index ≡ replicate (length index₀) 0 → Fit (length table) (length index₀) → Holds table index 0
+starts table index index₀ e f = rw (e, f .links-are) (holds-none table index₀ (f .few))
+
+-- ---- the conditions
+
+module _ (input claim : List ℕ) (room : ℕ) where
+  pub second-breaks : (t : Tried) (row : ℕ) (v : Verdict) → t ≡ differsT 0 0 (rowsAt claim 0) (rowsAt input 0) → t ≡ Breaks row → v ≡ noT 2 row → v ≡ conditionsT input claim room
+  unfolding conditionsT unlessT
+  second-breaks t row v e b n = rw (← e, b) n
+
+  pub second-passes : (t : Tried) (v : Verdict) → t ≡ differsT 0 0 (rowsAt claim 0) (rowsAt input 0) → t ≡ Passes → v ≡ thirdT input claim room → v ≡ conditionsT input claim room
+  unfolding conditionsT unlessT
+  second-passes t v e b n = rw (← e, b) n
+
+pub ruleset seconds = (second-breaks, second-passes, needs)
+
+-- what was tried, without the table
+tried-laid : (t : Tried) (table table′ : List Slot) (N : Names) → (t & table′) ≡ aliases.laidBy N table → t ≡ triedIn N
+unfolding aliases.laidBy triedIn
+tried-laid t table table′ (a & ss) e = ap first e
+  where
+    first : Out Tried (List Slot) → Tried
+    first (a & b) = a
+
+module _ (input claim : List ℕ) (table table′ : List Slot) (t : Tried) (e : (t & table′) ≡ aliases.laidBy (aliasesT (length table) 0 false [] [] (rowsAt claim 0)) table) where
+  tried-is : t ≡ triedIn (aliasesT (length table) 0 false [] [] (rowsAt claim 0))
+  tried-is = tried-laid t table table′ (aliasesT (length table) 0 false [] [] (rowsAt claim 0)) e
+
+  pub third-breaks : (row : ℕ) (v : Verdict) → t ≡ Breaks row → v ≡ noT 3 row → v ≡ thirdT input claim (length table)
+  unfolding thirdT unlessT
+  third-breaks row v b n = rw (← tried-is, b) n
+
+  pub third-passes : (v : Verdict) (n : ℕ) → t ≡ Passes → n ≡ length table → v ≡ fourthT input claim n → v ≡ thirdT input claim (length table)
+  unfolding thirdT unlessT
+  third-passes v n b l f = rw (← tried-is, b) (rw l at f)
+
+pub ruleset thirds = (third-breaks, third-passes, starts, needs)
+
+-- the slots that are used
+module _ (ss table table′ : List Slot) (used : ℕ) (e : (used & table′) ≡ numbers.laidBy ss table) where
+  used-is : used ≡ length ss
+  unfolding numbers.laidBy
+  used-is = ap first e
+    where
+      first : Out ℕ (List Slot) → ℕ
+      first (a & b) = a
+
+  slots-are : take used table′ ≡ ss
+  unfolding numbers.laidBy laidT
+  slots-are = let t : table′ ≡ ss ++ drop (length ss) table = ap second e in rw (t, used-is) (take-at ss (drop (length ss) table) (length ss) refl)
+    where
+      second : Out ℕ (List Slot) → List Slot
+      second (a & b) = b
+
+module _ (input claim : List ℕ) (table table′ : List Slot) (used : ℕ) (e : (used & table′) ≡ numbers.laidBy (entriesT (length table) 0 false [] [] [] (rowsAt claim 0)) table) (t : Tried) (w : t ≡ operandsT (take used table′) claim used 0 false [] (rowsAt claim 0) (rowsAt input 0)) where
+  abbrev ss : List Slot
+  ss = entriesT (length table) 0 false [] [] [] (rowsAt claim 0)
+
+  fourth-is : t ≡ operandsT ss claim (length ss) 0 false [] (rowsAt claim 0) (rowsAt input 0)
+  fourth-is = w ∙ ap (λ (l : List Slot). operandsT l claim used 0 false [] (rowsAt claim 0) (rowsAt input 0)) (slots-are ss table table′ used e) ∙ ap (λ (n : ℕ). operandsT ss claim n 0 false [] (rowsAt claim 0) (rowsAt input 0)) (used-is ss table table′ used e)
+
+  pub fourth-breaks : (row : ℕ) (v : Verdict) → t ≡ Breaks row → v ≡ noT 4 row → v ≡ fourthT input claim (length table)
+  unfolding fourthT unlessT
+  fourth-breaks row v b n = rw (← fourth-is, b) n
+
+  pub fourth-passes : t ≡ Passes → Yes ≡ fourthT input claim (length table)
+  unfolding fourthT unlessT
+  fourth-passes b = rw (← fourth-is, b)
+
+pub ruleset fourths = (fourth-breaks, fourth-passes, starts, needs)

@@ -1,0 +1,21 @@
+-- `claim_check::area::clear_table` meets its contract.
+use mathlib.Core.Path.{sym}
+use native.Mathlib.Omega.{arith}
+use lib.Seq.{length-take-le}
+use Rattle.claim_check.proofs.Ways.{fronts}
+use borrow.Author.Needs.{needs}
+use Rattle.claim_check.proofs.area.clear_table.Statement.{statement}
+use Rattle.claim_check.proofs.area.clear_table.Tie as tie
+
+pub clear-table-spec : {M : Type 1} → statement M
+clear-table-spec =
+    tie.close
+    (tie.spec
+    (λ c κs. search needs)  -- clear-slots-requires
+    (λ c. search needs)  -- same-length
+    (λ c. search fronts)  -- returns
+    (λ c. search needs)  -- slice-relend-prefix-clear-slots
+    (λ c. sym (length-take-le _ _ (omega arith)))  -- slice-aggregate-clear-slots
+    (λ c κs. search needs)  -- clear-slots-requires-2
+    (λ c. search needs)  -- same-length-2
+    (λ c. search fronts))  -- returns-2
