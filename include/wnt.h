@@ -146,6 +146,21 @@ enum wnt_kind {
 uint64_t wnt_compare(const uint8_t *left, size_t left_len, const uint8_t *right, size_t right_len, uint32_t choice,
                      uint8_t *list, size_t list_len);
 
+/* Which declaration the name in a row of a member means, where the member's root lies inside the root of a prelude. Both
+ * are inputs, not resolved forms. A walked name is looked for in the scopes of the member around it and then in the
+ * prelude's root; a here-only name and the instance where a path begins in their own scope alone; a named index of an
+ * OUTER in the scope that is asked for, and the prelude's root is one scope behind the member's.
+ *
+ * The answer's upper half is one of the three below, its lower half the row of the DECL in that form, counted from 0. A
+ * row that holds no such name, or is not there, means nothing. Nothing is written and nothing is refused: of bytes that
+ * are no forms the rows are looked at as they stand. For version 2, whose header has 16 bytes, rows are counted behind
+ * those. */
+#define WNT_NOTHING_MEANT 0u
+#define WNT_MEANT_IN_MEMBER 1u
+#define WNT_MEANT_IN_PRELUDE 2u
+
+uint64_t wnt_meant(const uint8_t *prelude, size_t prelude_len, const uint8_t *member, size_t member_len, uint32_t row);
+
 #ifdef __cplusplus
 }
 #endif

@@ -12,6 +12,7 @@ unsafe extern "C" {
         list: *mut u8,
         list_len: usize,
     ) -> u64;
+    fn wnt_meant(prelude: *const u8, prelude_len: usize, member: *const u8, member_len: usize, row: u32) -> u64;
 }
 
 /// The answer of `wnt_resolve`, which may write into `out`.
@@ -33,4 +34,10 @@ pub fn compare(left: &[u8], right: &[u8], choice: u32, list: &mut [u8]) -> u64 {
     unsafe {
         wnt_compare(left.as_ptr(), left.len(), right.as_ptr(), right.len(), choice, list.as_mut_ptr(), list.len())
     }
+}
+
+/// The answer of `wnt_meant`.
+pub fn meant(prelude: &[u8], member: &[u8], row: u32) -> u64 {
+    // SAFETY: both parts are valid for their lengths for as long as the call lasts.
+    unsafe { wnt_meant(prelude.as_ptr(), prelude.len(), member.as_ptr(), member.len(), row) }
 }

@@ -9,6 +9,7 @@ mod compare;
 mod damage;
 mod generate;
 mod library;
+mod meant;
 mod mend;
 mod oracle;
 mod recognise;
@@ -49,7 +50,8 @@ compare --renaming N [--seed S]                resolve N random forms again with
 compare --bench FILE [--repetitions N]         time both sides; the picture goes to FILE as SVG
 compare --shapes FOLDER                        write the benchmark's forms of about 1,000 rows, for a profiler
 compare --samples FOLDER [--forms N]           write accepted random forms and their outputs, for readings.py
-compare --mend N [--seed S]                    mend N spoilt forms, and compare with a mender written for it";
+compare --mend N [--seed S]                    mend N spoilt forms, and compare with a mender written for it
+compare --meant N [--seed S]                   ask what the names of N members mean, and compare with a second reading";
 
 /// The value after `--name`, read as a number.
 fn number(arguments: &[String], name: &str) -> Option<u64> {
@@ -138,6 +140,8 @@ fn main() -> ExitCode {
         renaming::run(&comparison(), number(&arguments, "--seed").unwrap_or(1), forms)
     } else if let Some(count) = number(&arguments, "--mend") {
         spoil::run(number(&arguments, "--seed").unwrap_or(1), count)
+    } else if let Some(pairs) = number(&arguments, "--meant") {
+        meant::run(number(&arguments, "--seed").unwrap_or(1), pairs)
     } else if let Some(pairs) = number(&arguments, "--builds") {
         builds::run(pairs, number(&arguments, "--seed").unwrap_or(1))
     } else if has("--sensitivity") {

@@ -19,10 +19,12 @@
 #![warn(missing_docs)]
 
 mod builds;
+mod members;
 mod mending;
 mod refusal;
 
 pub use builds::{compare, Choice, Entry, Kind};
+pub use members::{meant, Meant, Of};
 pub use mending::{mend, Change};
 pub use refusal::Refusal;
 

@@ -6,10 +6,14 @@ use mathlib.Core.Option.{Option, none, some, Option·map}
 use mathlib.Core.List.{List, [], _∷_}
 use Prim.Native.Nat.{ℕ}
 use lib.ListN.{length, getElem?}
-use Rattle.rules.specs.Tools.{_then_}
-use Rattle.rules.specs.Tree.{Declaration, Scope, headOf}
-use Rattle.rules.specs.Readings.{originals, Place, Level, fieldsOf, root, around, outwardInside, isEarlier, countingInside}
-use Rattle.rules.specs.Explainer.{items, Standing, standingInside, Definition, explained, amongInside}
+use Rattle.rules.specs.Tools.{if_then_else_, _then_}
+use Rattle.rules.specs.Rows.{Index, Num, Id}
+use Rattle.rules.specs.Tree.{Declaration, Operand, ref, outer, case, Scope, headOf}
+use Rattle.rules.specs.Shapes.{hereOnly}
+use Rattle.rules.specs.Good.{nameOf}
+use Rattle.rules.specs.Readings.{originals, Place, Level, fieldsOf, root, around, useInside, declared, outward, outwardInside, isEarlier, countingInside}
+use Rattle.moving.specs.Moved.{namesTo, nearestNamed, instanceSpace}
+use Rattle.rules.specs.Explainer.{items, Standing, standingInside, explained, amongInside}
 
 -- where a declaration stands: in the prelude, or in the member itself
 pub data Meant : Type 0 where
@@ -40,6 +44,34 @@ meantEarlier (inMember d) p = isEarlier d p
 -- counting, in the two outputs
 unfoldable pub memberCounting : (prelude member : Scope) → (p : Place) → Option Meant
 memberCounting prelude member p = Option·map meantBy (countingInside (seat prelude) (root prelude ∷ []) member p)
+
+-- ---- any name of a member: a walked one, or one that is looked up in one scope
+
+-- how far out an OUTER goes
+unfoldable pub outTo : (names : List ℕ) → Index → Option ℕ
+outTo names (Num d) = some d
+outTo names (Id name) = nearestNamed names name
+
+-- what the scope declares that is so far out
+unfoldable pub declaredOut : List Level → (d space name : ℕ) → Option Place
+declaredOut ls d space name = getElem? ls d then λ l. declared l space name
+
+-- What the name in an operand means, where its field has this code and the scopes around it are `ls`, with these names: outward, if it is
+-- walked; in its own scope, if it is here-only or the instance of a path; and the index of an OUTER in the scope that is asked for.
+unfoldable pub nameIn : (code : ℕ) (names : List ℕ) (ls : List Level) → Operand → Option Place
+nameIn code names ls (ref space (Num n) paths z) = none
+nameIn code names ls (ref space (Id name) [] z) = if hereOnly code then declaredOut ls 0 space name else outward ls space name
+nameIn code names ls (ref space (Id name) (p ∷ ps) z) = declaredOut ls 0 (instanceSpace space) name
+nameIn code names ls (outer space up (Num n) z) = none
+nameIn code names ls (outer space up (Id name) z) = outTo names up then λ d. declaredOut ls d space name
+nameIn code names ls (case name z) = none
+
+-- the name in the operand at a place of the member
+unfoldable pub memberMeans : (prelude member : Scope) → (p : Place) → Option Meant
+memberMeans prelude member p =
+    Option·map meantBy
+    (useInside (seat prelude) (root prelude ∷ []) member p then λ u. namesTo (p .way) member (nameOf prelude ∷ []) then λ names.
+    nameIn (u .head .code) names (u .levels) (u .operand))
 
 -- ---- the row itself
 
@@ -76,5 +108,5 @@ memberDenotes prelude member u = Option·map meantBy (explained u then λ d. amo
 
 -- Unfolds all of this module: for a claim that antt computes.
 unfoldable pub computes : Unit {0}
-unfolding seat placed meantBy memberOutward meantEarlier memberCounting declIn declAt meantDecl fullSeat memberStanding amongBoth memberDenotes
+unfolding seat placed meantBy memberOutward meantEarlier memberCounting outTo declaredOut nameIn memberMeans declIn declAt meantDecl fullSeat memberStanding amongBoth memberDenotes
 computes = tt

@@ -1,6 +1,7 @@
 -- Runs of batches: which members see what, where the fresh names and the shares begin, and who is refused with whom.
 use mathlib.Core.Path.{_≡_, refl}
 use mathlib.Core.Bool.{Bool, true, false, _&&_}
+use mathlib.Core.Option.{Option, none, some}
 use mathlib.Core.List.{List, [], _∷_, _++_, map}
 use Prim.Native.Nat.{ℕ, _+_, _*_}
 use lib.Dec.{eqb}
@@ -10,15 +11,24 @@ use Rattle.rules.specs.Versions.{Setting, version1, version2, today, newer, bas
 use Rattle.rules.specs.Rows
 use Rattle.rules.specs.Rows.{Row, Raw, raw}
 use Rattle.rules.specs.Tree
+use Rattle.rules.specs.Tree.{Scope}
 use Rattle.rules.specs.Shapes
 use Rattle.rules.specs.Reader
 use Rattle.rules.specs.Rules
 use Rattle.rules.specs.Answer
-use Rattle.rules.specs.Answer.{Answer, accepted, answer, sameNumbers, rowsBytes, formBytes}
+use Rattle.rules.specs.Answer.{AnswerOf, Answer, accepted, answer, sameNumbers, rowsBytes, formBytes}
+use Rattle.rules.specs.Readings
+use Rattle.read_form.specs.ReadForm
+use Rattle.read_form.specs.ReadForm.{readForm}
+use Rattle.moving.specs.Moved
 use Rattle.batching.specs.Batch
 use Rattle.batching.specs.Batch.{BatchAnswer, refused, done, memberAnswer, memberOutput, batchAnswer, batchOutputs}
 use Rattle.batching.specs.BatchBytes
 use Rattle.batching.specs.BatchBytes.{Buffers, packedBatch, bytesAnswer, bytesBuffers}
+use Rattle.batching.specs.BatchCalls
+use Rattle.batching.specs.BatchCalls.{cleared, memberCall, memberLeaves, batchCall, batchLeaves}
+use Rattle.batching.specs.BatchReadings
+use Rattle.batching.specs.BatchReadings.{Meant, inPrelude, inMember, memberMeans}
 use Rattle.rules.specs.Examples
 use Rattle.rules.specs.Examples.{Expected, refusal, rows, rawsBytes, inputBytes, agrees}
 use Rattle.rules.specs.FurtherRuns.{nested}
@@ -163,6 +173,41 @@ depth-right : doneWith (root (nested 31)) (rows (root (nested 30)) ∷ refusal 5
 unfolding doneWith allAgree run forms root nested agrees inputBytes rawsBytes Tools.computes Rows.computes Tree.computes Shapes.computes Reader.computes Rules.computes Answer.computes Batch.computes
 depth-right = refl
 
+-- ---- what a name means
+
+unfoldable meansOf : AnswerOf Scope → AnswerOf Scope → Option Meant
+meansOf (accepted s) (accepted m) = memberMeans s m (record { way = []; field = 0; at = 0 })
+meansOf (accepted s) (AnswerOf.refused number place carried) = none
+meansOf (AnswerOf.refused number place carried) m = none
+
+-- what the first operand of the member's first field means, with `decoders` around it
+unfoldable means : (member : List Raw) → Option Meant
+means member = meansOf (readForm one (inputBytes one decoders)) (readForm one (inputBytes one member))
+
+-- as a number: nothing, a field of the member's root, or one of the prelude's
+unfoldable fieldMeant : Option Meant → ℕ
+fieldMeant none = 0
+fieldMeant (some (inMember d)) = 10 + d .field
+fieldMeant (some (inPrelude d)) = 20 + d .field
+
+-- the type `7` of the instance `name`, exported
+unfoldable along : (name : ℕ) → List Raw
+along name = root (raw 1 22 0 0 0 0 ∷ raw 2 9 0 3 0 0 ∷ raw 3 9 1 name 1 40 ∷ raw 4 0 0 7 0 0 ∷ raw 1 21 0 0 0 0 ∷ raw 2 10 0 2 0 0 ∷ raw 3 9 0 0 0 0 ∷ [])
+
+-- a core type 1 that names the core type `name`
+unfoldable here : (name : ℕ) → List Raw
+here name = root (raw 1 4 0 0 0 0 ∷ raw 2 4 0 1 0 0 ∷ raw 3 4 1 name 0 0 ∷ [])
+
+-- A walked name is the member's own before the prelude's. The instance of a path and a here-only name are the member's or nobody's. An OUTER goes
+-- to the member's root by 0, to the prelude's by 1 or by its name, and no further.
+names-right :
+    sameNumbers
+    (map (λ (member : List Raw). fieldMeant (means member))
+    (naming 4 ∷ naming 1 ∷ naming 8 ∷ along 2 ∷ along 5 ∷ here 1 ∷ here 4 ∷ outward 2 0 2 ∷ outward 2 0 4 ∷ outward 2 1 4 ∷ outward 3 9 4 ∷ outward 2 2 4 ∷ outward 3 8 4 ∷ []))
+    (23 ∷ 10 ∷ 0 ∷ 11 ∷ 0 ∷ 10 ∷ 0 ∷ 10 ∷ 0 ∷ 23 ∷ 23 ∷ 0 ∷ 0 ∷ []) ≡ true
+unfolding fieldMeant means meansOf decoders naming along here outward root inputBytes rawsBytes Tools.computes Rows.computes Tree.computes Shapes.computes Reader.computes Rules.computes Answer.computes ReadForm.computes Readings.computes Moved.computes BatchReadings.computes
+names-right = refl
+
 -- ---- the whole batch is refused
 
 -- No member, or nine, ahead of all else; a prelude with its number and place.
@@ -250,3 +295,27 @@ bytes-refused :
     && bytesAre 38654705734 (replicate 328 0 ++ replicate 513 7) (replicate 987 6) (replicate 16 5) (inBytes (naming 8) two (88 ∷ 88 ∷ []) 16)))) ≡ true
 unfolding bytesAre inBytes held two naming inputBytes rawsBytes Tools.computes Rows.computes Tree.computes Shapes.computes Reader.computes Rules.computes Answer.computes Batch.computes BatchBytes.computes
 bytes-refused = refl
+
+-- ---- calls with working areas
+
+-- One member: its rows; a prelude that the steps refuse, by 200 more; an area that is too short, behind a header of another version.
+calls-right :
+    sameNumbers
+    (memberCall base false (inputBytes one decoders) 840 (inputBytes one (naming 4)) 328
+    ∷ memberCall base false (inputBytes one (naming 8)) 840 (inputBytes one (naming 4)) 328
+    ∷ memberCall base true (inputBytes one decoders) 840 (inputBytes one (naming 4)) 328
+    ∷ memberCall base true (inputBytes other decoders) 848 (inputBytes one (naming 4)) 328
+    ∷ batchCall base true (inputBytes one decoders) two (88 ∷ 88 ∷ []) (held 16)
+    ∷ batchCall base true (inputBytes one decoders) two (88 ∷ 87 ∷ []) (held 16)
+    ∷ [])
+    (8 ∷ 897648164934 ∷ 871878361088 ∷ 863288426496 ∷ 12884901888 ∷ 8589934592 ∷ []) ≡ true
+unfolding two held decoders naming inputBytes rawsBytes Tools.computes Rows.computes Tree.computes Shapes.computes Reader.computes Rules.computes Answer.computes Batch.computes BatchBytes.computes BatchCalls.computes
+calls-right = refl
+
+-- An area is zero up to its size, or all of it, and stays beyond; one that is too short leaves every buffer.
+areas-right :
+    (sameNumbers (cleared 0 3 (7 ∷ 7 ∷ 7 ∷ 7 ∷ [])) (0 ∷ 0 ∷ 0 ∷ 7 ∷ []) && (sameNumbers (cleared 0 3 (7 ∷ 7 ∷ [])) (0 ∷ 0 ∷ [])
+    && (sameNumbers (memberLeaves base true (inputBytes one decoders) 840 (inputBytes one (naming 4)) (replicate 330 6)) (replicate 330 6)
+    && sameNumbers (batchLeaves base true (inputBytes one decoders) two (88 ∷ 88 ∷ []) (held 16) .prelude) (replicate 841 7)))) ≡ true
+unfolding two held decoders naming inputBytes rawsBytes Tools.computes Rows.computes Tree.computes Shapes.computes Reader.computes Rules.computes Answer.computes Batch.computes BatchBytes.computes BatchCalls.computes
+areas-right = refl

@@ -1,2 +1,4 @@
+pub mod Conversions
+pub mod Declarations
 pub mod Lists
 pub mod Packs

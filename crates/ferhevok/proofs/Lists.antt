@@ -11,9 +11,11 @@ use Rattle.ferhevok.specs.Packed.{packedAnswer}
 
 module _ (a : Answer) where
   pub packs-listed : (n : ℕ) → a ≡ Listed n → n ≡ packedAnswer (meaning a)
+  unfolding meaning
   packs-listed n e = rw e
 
   pub packs-refusal : (r : Refusal) → a ≡ Refused r → r .number * 4294967296 + r .place ≡ packedAnswer (meaning a)
+  unfolding meaning
   packs-refusal r e = rw e
 
 pub ruleset lists = (packs-listed, packs-refusal, needs)

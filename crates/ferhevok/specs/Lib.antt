@@ -1,2 +1,4 @@
 -- `Packed` is the number that a C function answers.
 pub mod Packed
+-- `Meant` is the number for a declaration.
+pub mod Meant

@@ -4,7 +4,7 @@ use diff::run::compare;
 ghost use mathlib.Core.Path.{_≡_};
 ghost use lib.ListN.{length};
 ghost use Rattle.rules.specs.Answer.{mapAnswer};
-ghost use Rattle.rules.specs.Versions.{base};
+ghost use Rattle.rules.specs.Versions.{all};
 ghost use Rattle.comparing.specs.Compare.{listed, listOutput};
 ghost use Rattle.matched.specs.Counted.{choiceOf};
 ghost use Rattle.diff.specs.Meaning.{meaning, bytesOf};
@@ -23,7 +23,7 @@ fn packed_list(answer: Answer) -> u64
 // Compares two resolved forms: `list` then holds what differs.
 #[no_mangle]
 pub extern "C" fn wnt_compare(left: &[u8], right: &[u8], choice: u32, list: &mut [u8]) -> u64
-    ensures { λ r. ⌜ (r ≡ packedAnswer (mapAnswer bytesOf (listed base (choiceOf choice) (now (left .entry)) (now (right .entry)) (length (now (list .entry)))))) × (now (list .exit) ≡ listOutput base (choiceOf choice) (now (left .entry)) (now (right .entry)) (now (list .entry))) ⌝ }
+    ensures { λ r. ⌜ (r ≡ packedAnswer (mapAnswer bytesOf (listed all (choiceOf choice) (now (left .entry)) (now (right .entry)) (length (now (list .entry)))))) × (now (list .exit) ≡ listOutput all (choiceOf choice) (now (left .entry)) (now (right .entry)) (now (list .entry))) ⌝ }
 {
     packed_list(compare(left, right, choice, list))
 }

@@ -1,7 +1,10 @@
 // What other languages link: the library's C functions, each a thin one over a function of the crates below.
 pub mod builds;
 pub mod in_place;
+pub mod lent;
+pub mod members;
 pub mod numbers;
+pub mod versions;
 
 use resolver::run::Answer;
 use resolver::run::resolve;
@@ -13,7 +16,7 @@ ghost use Rattle.resolver.specs.Meaning.{meaning, ruled};
 ghost use Rattle.ferhevok.specs.Packed.{packed};
 
 // The refusal's number times 2^32 plus its place; on acceptance the number of rows written.
-fn packed_in(answer: Answer) -> u64
+pub(crate) fn packed_in(answer: Answer) -> u64
     ensures { λ r. ⌜ r ≡ packed (meaning answer) ⌝ }
 {
     match answer {

@@ -4,7 +4,7 @@ use mathlib.Core.Option.{some}
 use mathlib.Core.List.{List, [], _∷_, _++_, append-nil}
 use native.Mathlib.Omega.{arith}
 use Prim.Native.Nat.{ℕ, suc, _+_, _<_}
-use lib.ListN.{length, getElem?, length-append}
+use lib.ListN.{length, length-append}
 use Rattle.rules.specs.Versions.{RuleSet}
 use Rattle.rules.specs.Rows.{Open, Close, encode}
 use Rattle.rules.specs.Tree.{Scope, scope, Fields, flatten, fieldsRows}
@@ -12,9 +12,9 @@ use Rattle.rules.specs.Rules.{ok, resolve}
 use Rattle.rules.specs.Readings
 use Rattle.rules.specs.Readings.{fieldsOf}
 use Rattle.rules.specs.Laws.Meaning.Names.{LowScope}
-use Rattle.places.specs.PlaceRows.{originalsFrom, Floor, floor, floors, floorsAt}
+use Rattle.places.specs.PlaceRows.{Floor, floor}
 use Rattle.moving.specs.Moved.{placesIn, placesOf, places, MovedNumber, NoItem, movedAt, apartAt, collect, moved, apart}
-use Rattle.moving.specs.Laws.RowOrder.{Rest}
+use Rattle.moving.specs.Laws.RowOrder.{all-fields}
 use Rattle.row_parts.specs.Parts.{rowsIn}
 use Rattle.scopes.specs.Scopes.{scopeOf, scopeAbove}
 use Rattle.numbers.specs.declared.Entry.{Entry}
@@ -25,11 +25,6 @@ use Rattle.reading_laws.specs.Meant.{Rows}
 use Rattle.moved_laws.specs.Pairs.{PairedFields, run-pairs}
 use Rattle.moved_laws.specs.Span.{Span, span-append, bound-row, next-is}
 use Rattle.moved_laws.specs.Walk.{span-is, Here, Gone, fields-go}
-
--- the fields of a whole tree
-all-fields : (s : Scope) → Rest s (floor (Readings.root s) 1) 0 1 (fieldsOf s)
-unfolding floorsAt floors Readings.root
-all-fields s = record { own = ([], refl); same = λ m. ap (getElem? (originalsFrom 1 (fieldsOf s))) (omega arith) }
 
 module _ (form out : List ℕ) (rules : RuleSet) where
   -- the root's fields and its CLOSE

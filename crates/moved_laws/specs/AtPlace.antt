@@ -110,7 +110,7 @@ unfolding flag
 flag-low (Num n) = refl
 flag-low (Id n) = refl
 
-instance-space : (space paths : ℕ) → pick (eqb (suc paths) 0) space (pick (ltb space 7) 6 10) ≡ instanceSpace space
+pub instance-space : (space paths : ℕ) → pick (eqb (suc paths) 0) space (pick (ltb space 7) 6 10) ≡ instanceSpace space
 unfolding instanceSpace pick if_then_else_
 instance-space space paths = let past : eqb (suc paths) 0 ≡ false = omega tests in rw past (go (leb space 6) refl)
   where

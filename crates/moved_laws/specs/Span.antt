@@ -16,7 +16,7 @@ use Rattle.rules.specs.Tree.{Declaration, Operand, ref, outer, case, declRows, 
 use Rattle.rules.specs.Laws.ToolLaws.{All, done, _&_}
 use Rattle.rules.specs.Laws.Results.{some-same, no-option}
 use Rattle.places.specs.RowAt.{operandRowOf}
-use Rattle.moving.specs.Moved.{MovedNumber, NoItem, ifAny, collect}
+use Rattle.moving.specs.Moved.{MovedNumber, NoItem, ifAny}
 use Rattle.row_parts.specs.Parts.{codeAt, eAt, rowsIn}
 use Rattle.numbers.specs.declared.Entry.{Entry}
 use Rattle.numbers.specs.declared.Entry.the-variants.{Moved, Apart, Nothing}
@@ -26,21 +26,6 @@ use Rattle.moved_list.proofs.Ways.{moved-append, apart-append}
 use Rattle.reading_laws.specs.Stand.{Is, At, codePart, behind, behind-length, at-left, at-right}
 use Rattle.reading_laws.specs.Even.{codeOf, Flat}
 use Rattle.moved_laws.specs.AtPlace.{Says, says-nothing}
-
--- ---- lists of what there is
-
-pub any-append : {A : Type 0} (o : Option A) (xs : List A) → ifAny o xs ≡ ifAny o [] ++ xs
-unfolding ifAny
-any-append none xs = refl
-any-append (some x) xs = refl
-
-pub collect-append : {A B : Type 0} (f : A → Option B) (xs ys : List A) → collect f (xs ++ ys) ≡ collect f xs ++ collect f ys
-unfolding collect
-collect-append f [] ys = refl
-collect-append f (x ∷ xs) ys =
-    any-append (f x) (collect f (xs ++ ys))
-    ∙ (ap (λ l. ifAny (f x) [] ++ l) (collect-append f xs ys)
-    ∙ (sym (append-assoc (ifAny (f x) []) (collect f xs) (collect f ys)) ∙ ap (λ l. l ++ collect f ys) (sym (any-append (f x) (collect f xs)))))
 
 -- ---- rows without numbers
 

@@ -21,7 +21,8 @@ use Rattle.places.specs.PlaceRows
 use Rattle.places.specs.PlaceRows.{Placed, originalsFrom, Floor, floor, floorsAt, fieldAt, operandRowAt}
 use Rattle.places.specs.RowAt.{decls-length, operandRowOf}
 use Rattle.moving.specs.Moved.{placesAt, placesIn, placesInside, placesOf, MovedNumber, NoItem, movedAt, apartAt, ifAny, collect}
-use Rattle.moving.specs.Laws.RowOrder.{row-is, take-next, Rest, place-field, rest-inserted, rest-original, first-is, held-rest}
+use Rattle.moving.specs.Laws.Lists.{any-append, collect-append}
+use Rattle.moving.specs.Laws.RowOrder.{row-is, operand-on, Rest, place-field, rest-inserted, rest-original, first-is, held-rest}
 use Rattle.row_parts.specs.Parts.{rowsIn}
 use Rattle.scopes.specs.Scopes.{scopeOf, scopeAbove}
 use Rattle.moved_list.specs.Listing.{behindNext}
@@ -31,7 +32,7 @@ use Rattle.reading_laws.specs.Floors.{firstRow}
 use Rattle.reading_laws.specs.Meant.{Rows}
 use Rattle.moved_laws.specs.AtPlace.{Says, says-place}
 use Rattle.moved_laws.specs.Pairs.{PairedFields, ends, comes, stays, PairedItems, plains, hold}
-use Rattle.moved_laws.specs.Span.{any-append, collect-append, Silent, Quiet, Span, no-rows, span-append, quiet-rows, bound-row, listed-row, field-quiet, decls-quiet, export-quiet, operand-flat, operand-rows, next-behind, next-is}
+use Rattle.moved_laws.specs.Span.{Silent, Quiet, Span, no-rows, span-append, quiet-rows, bound-row, listed-row, field-quiet, decls-quiet, export-quiet, operand-flat, operand-rows, next-behind, next-is}
 
 pub span-is : {form out : List ℕ} {row n m at to : ℕ} {ms ms′ : List MovedNumber} {ns ns′ : List NoItem} → Span form out row n at ms ns to → n ≡ m → ms ≡ ms′ → ns ≡ ns′ → Span form out row m at ms′ ns′ to
 span-is S e₁ e₂ e₃ = rw (← e₁, ← e₂, ← e₃) S
@@ -40,11 +41,6 @@ operands-flat : (os : List Operand) → All Flat (operandRows os)
 unfolding operandRows
 operands-flat [] = done
 operands-flat (o ∷ os) = let O = operand-rows o in all-append (operandRow o) _ (subst (All Flat) (sym (O .1)) (operand-flat o & all-map _ (λ r q. q .flat) (O .2))) (operands-flat os)
-
--- the row behind an operand's is that of the next
-operand-on : (x : Placed) (k : ℕ) (o : Operand) (row m : ℕ) → getElem? (headOf (x .item) .operands) k ≡ some o → row ≡ operandRowAt x k → length (operandRow o) ≡ suc m → row + 1 + m ≡ operandRowAt x (suc k)
-unfolding operandRowAt
-operand-on x k o row m e there long = let t = take-next (headOf (x .item) .operands) k o e in omega (arith, t, there, long)
 
 module _ (form out : List ℕ) (before : Scope) (run : Scope × ℕ) (rules : RuleSet) (low : LowScope before) (resolves : resolve rules before ≡ ok run) (R : Rows form before) (R′ : Rows out (run .0)) where
   abbrev after : Scope

@@ -217,8 +217,8 @@ module _ (form : List ℕ) (s : Scope) (rules : RuleSet) (good : GoodScope rules
       → (rowMeant (finalMeaning form r) ≡ some row → countingReading s p ≡ some d) × (countingReading s p ≡ some d → rowMeant (finalMeaning form r) ≡ some row)
   counting-exactly counts space n z o = exactly form s rules good R (p .way) fs fs-are (countingReading s p) (finalMeaning form r) (counting-whole counts space n z o)
 
-  -- the operand is a number without PATHs, if the reading gives a place
-  operand-numbered : NumberedScope s → Numbered (U .operand)
+  -- the operand holds numbers only
+  pub operand-numbered : NumberedScope s → Numbered (U .operand)
   operand-numbered m =
       let fields : NumberedFields (U .f .level .fields) = first-of (numbered-floors s m (p .way) fs fs-are) in
       let item = of-original NumberedFields NumberedItem (λ i fs p. p .0) (λ i fs p. p .1) numbered-held (U .f .row) (U .f .level .fields) (p .field) (U .x) fields (U .field-there) in

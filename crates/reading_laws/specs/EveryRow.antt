@@ -21,10 +21,10 @@ use Rattle.reading_laws.specs.Even.{codeOf}
 
 -- ---- rows of a field
 
-abbrev NotRef : Row → Type 0
+abbrev pub NotRef : Row → Type 0
 NotRef r = codeOf r ≡ 3 → ⊥
 
-decls-not : (ds : List Declaration) → All NotRef (declRows ds)
+pub decls-not : (ds : List Declaration) → All NotRef (declRows ds)
 unfolding declRows encode
 decls-not [] = done
 decls-not (d ∷ ds) = two & decls-not ds
@@ -32,7 +32,7 @@ decls-not (d ∷ ds) = two & decls-not ds
     two : _≡_ {A = ℕ} 2 3 → ⊥
     two e = omega arith
 
-paths-not : (ps : List ℕ) → All NotRef (pathRows ps)
+pub paths-not : (ps : List ℕ) → All NotRef (pathRows ps)
 unfolding pathRows encode
 paths-not [] = done
 paths-not (p ∷ ps) = four & paths-not ps
@@ -40,7 +40,7 @@ paths-not (p ∷ ps) = four & paths-not ps
     four : _≡_ {A = ℕ} 4 3 → ⊥
     four e = omega arith
 
-export-not : (o : Option ℕ) → All NotRef (exportRows o)
+pub export-not : (o : Option ℕ) → All NotRef (exportRows o)
 unfolding exportRows encode
 export-not none = done
 export-not (some n) = nine & done

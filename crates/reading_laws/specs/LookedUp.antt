@@ -171,7 +171,8 @@ module _ (form : List ℕ) where
 
   -- ---- rows
 
-  here-meaning : (r space name paths z : ℕ) → Is form r (Ref space (Id name) paths z) → (eqb paths 0 && not (hereOnly (bAt form (fieldOf form r)))) ≡ false
+  -- a name in its own scope
+  pub here-meaning : (r space name paths z : ℕ) → Is form r (Ref space (Id name) paths z) → (eqb paths 0 && not (hereOnly (bAt form (fieldOf form r)))) ≡ false
       → meaningOf form r ≡ inScope form (scopeOf form r) 0 (sought space paths) (Name name)
   unfolding meaningOf readingOf isWalked spaceSought sought keyOf encode flag number pick
   here-meaning r space name paths z is here =

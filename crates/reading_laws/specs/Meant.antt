@@ -118,15 +118,23 @@ module _ (form : List ℕ) (s : Scope) (R : Rows form s) (p : Place) (r : ℕ) (
   unfolding Readings.outwardInside _then_
   outward-use w e = rw (use-there .used-as, e)
 
+  -- the operand has an input's names
+  pub low-use : LowScope s → LowOperand (use-there .operand)
+  low-use low =
+      let U = use-there in
+      let head = of-original LowFields (λ (i : Item). LowHead (headOf i) × LowItem i) low-first low-rest low-held (U .f .row) (U .f .level .fields) (p .field) (U .x) (low-here U) (U .field-there) .0 in
+      low-operand (headOf (U .x .item) .operands) (p .at) (U .operand) (head .operands) (U .operand-there)
+    where
+      low-here : (U : Used form s p r) → LowFields (U .f .level .fields)
+      low-here U = first-of (low-floors s low (p .way) (U .f ∷ U .rest) (U .are))
+
   both : LowScope s → (w : ℕ × ℕ) → walkedAt s p ≡ some w
       → (rowMeant (meaningOf form r) ≡ (outwardReading s p then rowOfDecl s)) × ((d : Place) → outwardReading s p ≡ some d → Declared s around d (meaningOf form r))
   both low w e =
       let U = use-there in
       let x = walked-use w e in
       let W = walked-ref (headOf (U .x .item)) (U .operand) w x in
-      let head : LowHead (headOf (U .x .item)) =
-      of-original LowFields (λ (i : Item). LowHead (headOf i) × LowItem i) low-first low-rest low-held (U .f .row) (U .f .level .fields) (p .field) (U .x) (low-here U) (U .field-there) .0 in
-      let operand : LowOperand (ref (w .0) (Id (w .1)) [] (W .0)) = subst LowOperand (W .1) (low-operand (headOf (U .x .item) .operands) (p .at) (U .operand) (head .operands) (U .operand-there)) in
+      let operand : LowOperand (ref (w .0) (Id (w .1)) [] (W .0)) = subst LowOperand (W .1) (low-use low) in
       let is-name : eqb (w .1) 0 ≡ false = omega (tests, operand .0) in
       let is : Is form r (Ref (w .0) (Id (w .1)) 0 (W .0)) = subst (λ (o : Operand). Is form r (operandRowOf o)) (W .1) (U .is) in
       let own = all-at-own-way s (p .way) (U .f ∷ U .rest) (U .are) in
@@ -138,12 +146,6 @@ module _ (form : List ℕ) (s : Scope) (R : Rows form s) (p : Place) (r : ℕ) (
         λ d q. subst (Declared s (U .f ∷ U .rest) d) (sym means)
             (outward-declared form s (w .0) (w .1) is-name (U .f ∷ U .rest) (U .f ∷ U .rest) 0 (λ k. (let same : 0 + k ≡ k = omega arith in ap (getElem? (U .f ∷ U .rest)) same)) (U .chain) own originals decls d (sym out ∙ q)),
       )
-    where
-      floors-low : (U : Used form s p r) → All (λ (f : Floor). LowFields (f .level .fields)) (U .f ∷ U .rest)
-      floors-low U = low-floors s low (p .way) (U .f ∷ U .rest) (U .are)
-
-      low-here : (U : Used form s p r) → LowFields (U .f .level .fields)
-      low-here U = first-of (floors-low U)
 
   -- The outward reading of a walked name: on rows as in the tree, found or not.
   pub outward-row : LowScope s → (w : ℕ × ℕ) → walkedAt s p ≡ some w → rowMeant (meaningOf form r) ≡ (outwardReading s p then rowOfDecl s)

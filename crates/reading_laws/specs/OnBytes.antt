@@ -45,7 +45,7 @@ base-within = (record { header = omega arith; rows = omega arith }, tt)
 pub all-within : AllWithin all
 all-within = (record { header = omega arith; rows = omega arith }, (record { header = omega arith; rows = omega arith }, (record { header = omega arith; rows = omega arith }, tt)))
 
-setting-within : (settings : List Setting) (input : List ℕ) → AllWithin settings → Ok Within (settingOf settings input)
+pub setting-within : (settings : List Setting) (input : List ℕ) → AllWithin settings → Ok Within (settingOf settings input)
 unfolding settingOf only _orElse_
 setting-within [] input l = tt
 setting-within (v ∷ vs) input l = go (Answer.hasHeader v input) (setting-within vs input (l .1))
@@ -61,7 +61,7 @@ abbrev pub body : Setting → List ℕ → List ℕ
 body v bs = drop (v .version .header - 8) bs
 
 -- as many rows as stand behind the header, if there is room for them
-rows-fit : (form : List ℕ) (n : ℕ) → 8 + 16 * n ≤ length form → n ≤ 65535 → n ≤ parts.rowsIn form
+pub rows-fit : (form : List ℕ) (n : ℕ) → 8 + 16 * n ≤ length form → n ≤ 65535 → n ≤ parts.rowsIn form
 unfolding parts.rowsIn
 rows-fit form n long low = least ((length form - 8) / 16) (omega (arith, long))
   where
@@ -69,7 +69,7 @@ rows-fit form n long low = least ((length form - 8) / 16) (omega (arith, long))
     least m h = pick-has (λ (k : ℕ). n ≤ k) (ltb m 65535) h low
 
 -- just as many
-rows-just : (form : List ℕ) (n : ℕ) → length form ≡ 8 + 16 * n → n ≤ 65535 → parts.rowsIn form ≡ n
+pub rows-just : (form : List ℕ) (n : ℕ) → length form ≡ 8 + 16 * n → n ≤ 65535 → parts.rowsIn form ≡ n
 unfolding parts.rowsIn
 rows-just form n long low = picked ((length form - 8) / 16) (omega (arith, long)) (ltb ((length form - 8) / 16) 65535) refl
   where
@@ -105,7 +105,7 @@ long-enough v input room t e = go (between 1 (v .version .rows) (rowCount (v .ve
     go false b q rest e = let no-way : _≡_ {A = ℕ} 0 1 = cc in absurd (omega arith)
 
 -- rows that are read behind a header stand there
-body-stands : (v : Setting) (bs : List ℕ) (top count : ℕ) (rs : List Row) → 8 ≤ v .version .header → Answer.rowsOf top count (drop (v .version .header) bs) ≡ map some rs → At (body v bs) 0 rs
+pub body-stands : (v : Setting) (bs : List ℕ) (top count : ℕ) (rs : List Row) → 8 ≤ v .version .header → Answer.rowsOf top count (drop (v .version .header) bs) ≡ map some rs → At (body v bs) 0 rs
 body-stands v bs top count rs h e =
     let to-rows : v .version .header - 8 + 8 ≡ v .version .header = omega (arith, h) in
     rows-stand (body v bs) 0 top count rs (ap (Answer.rowsOf top count) (drop-drop 8 (v .version .header - 8) bs ∙ ap (λ (n : ℕ). drop n bs) to-rows) ∙ e)

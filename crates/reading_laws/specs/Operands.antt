@@ -137,7 +137,7 @@ pub record Used (form : List ℕ) (s : Scope) (p : Place) (r : ℕ) : Type 0 whe
   pub of-field : bAt form (fieldOf form r) ≡ headOf (x .item) .code
 
 module _ (form : List ℕ) (s : Scope) (p : Place) where
-  use-is : (f : Floor) (rest : List Floor) (x : Placed) (o : Operand) → floorsAt s (p .way) ≡ some (f ∷ rest) → getElem? (originalsFrom (f .row) (f .level .fields)) (p .field) ≡ some x
+  pub use-is : (f : Floor) (rest : List Floor) (x : Placed) (o : Operand) → floorsAt s (p .way) ≡ some (f ∷ rest) → getElem? (originalsFrom (f .row) (f .level .fields)) (p .field) ≡ some x
       → getElem? (headOf (x .item) .operands) (p .at) ≡ some o → useAt s p ≡ some (record { levels = levels (f ∷ rest); head = headOf (x .item); operand = o })
   unfolding useInside useIn _then_ Readings.root
   use-is f rest x o e₁ e₂ e₃ =

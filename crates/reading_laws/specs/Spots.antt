@@ -71,7 +71,7 @@ abbrev pub SpotIs : (form : List ℕ) (base : ℕ) → Spot → Declaration → 
 SpotIs form base (original field at) d r = isFresh (d .name) ≡ false
 SpotIs form base (inserted h) d r = Inserted form base h d r
 
-or-none : (a b : Bool) → a || b ≡ false → (a ≡ false) × (b ≡ false)
+pub or-none : (a b : Bool) → a || b ≡ false → (a ≡ false) × (b ≡ false)
 or-none true b e = (e, go b e)
   where
     go : (b : Bool) → true ≡ false → b ≡ false

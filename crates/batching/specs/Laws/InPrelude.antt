@@ -145,7 +145,7 @@ module _ (rules : RuleSet) (s : Scope) (r : Scope × ℕ) (low : LowScope s) (e 
 
 -- ---- its declarations are those of the table that steps A and B of the prelude leave
 
-prepared-name : (name : ℕ) (fs : Fields) (outside : Outside) (k : ℕ) (p : Env × ℕ) → prepare name fs outside k ≡ ok p → p .0 .name ≡ name
+pub prepared-name : (name : ℕ) (fs : Fields) (outside : Outside) (k : ℕ) (p : Env × ℕ) → prepare name fs outside k ≡ ok p → p .0 .name ≡ name
 unfolding prepare
 prepared-name name fs outside k p e =
     let s₁ = bind-inv (distinct [] (declarations fs)) _ p e in

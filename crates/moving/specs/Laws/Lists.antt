@@ -75,6 +75,19 @@ collects {A} {B} f x y (later {y = z} {xs = xs} i) q = go (f z) (collects f x y 
     go none j = j
     go (some w) j = later j
 
+pub any-append : {A : Type 0} (o : Option A) (xs : List A) → ifAny o xs ≡ ifAny o [] ++ xs
+unfolding ifAny
+any-append none xs = refl
+any-append (some x) xs = refl
+
+pub collect-append : {A B : Type 0} (f : A → Option B) (xs ys : List A) → collect f (xs ++ ys) ≡ collect f xs ++ collect f ys
+unfolding collect
+collect-append f [] ys = refl
+collect-append f (x ∷ xs) ys =
+    any-append (f x) (collect f (xs ++ ys))
+    ∙ (ap (λ l. ifAny (f x) [] ++ l) (collect-append f xs ys)
+    ∙ (sym (append-assoc (ifAny (f x) []) (collect f xs) (collect f ys)) ∙ ap (λ l. l ++ collect f ys) (sym (any-append (f x) (collect f xs)))))
+
 -- ---- every operand is at one of the places
 
 places-has : (w : List ℕ) (f at : ℕ) (os : List Operand) (k : ℕ) (o : Operand) → getElem? os k ≡ some o → In (record { way = w; field = f; at = at + k }) (placesAt w f at os)

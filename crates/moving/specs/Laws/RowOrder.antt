@@ -72,7 +72,7 @@ pub row-is : (s : Scope) (p : Place) (x : Placed) (o : Operand) → fieldAt s p 
 unfolding rowOfOperand _then_
 row-is s p x o e₁ e₂ = rw (e₁, e₂)
 
-pub take-next : (os : List Operand) (k : ℕ) (o : Operand) → getElem? os k ≡ some o → length (operandRows (take (suc k) os)) ≡ length (operandRows (take k os)) + length (operandRow o)
+take-next : (os : List Operand) (k : ℕ) (o : Operand) → getElem? os k ≡ some o → length (operandRows (take (suc k) os)) ≡ length (operandRows (take k os)) + length (operandRow o)
 unfolding operandRows
 take-next [] k o e = no-option o e
 take-next (x ∷ os) zero o e = let a = length-append (operandRow x) [] in let b = ap (λ (y : Operand). length (operandRow y)) (some-same x o e) in omega (arith, a, b)
@@ -81,6 +81,11 @@ take-next (x ∷ os) (suc k) o e =
     let b = length-append (operandRow x) (operandRows (take (suc k) os)) in
     let c = length-append (operandRow x) (operandRows (take k os)) in
     omega (arith, a, b, c)
+
+-- the row behind an operand's is that of the next
+pub operand-on : (x : Placed) (k : ℕ) (o : Operand) (row m : ℕ) → getElem? (headOf (x .item) .operands) k ≡ some o → row ≡ operandRowAt x k → length (operandRow o) ≡ suc m → row + 1 + m ≡ operandRowAt x (suc k)
+unfolding operandRowAt
+operand-on x k o row m e there long = let t = take-next (headOf (x .item) .operands) k o e in omega (arith, t, there, long)
 
 take-all : (os : List Operand) (k : ℕ) → getElem? os k ≡ none → length (operandRows (take k os)) ≡ length (operandRows os)
 unfolding operandRows
@@ -122,6 +127,11 @@ operands-order s w n k x (o ∷ os) at-field same =
 pub record Rest (s : Scope) (f : Floor) (n row : ℕ) (fs : Fields) : Type 0 where
   pub own : AtItsWay s f
   pub same : (m : ℕ) → getElem? (originalsFrom row fs) m ≡ getElem? (originalsFrom (f .row) (f .level .fields)) (n + m)
+
+-- the fields of a whole tree
+pub all-fields : (s : Scope) → Rest s (floor (Readings.root s) 1) 0 1 (fieldsOf s)
+unfolding floorsAt floors Readings.root
+all-fields s = record { own = ([], refl); same = λ m. ap (getElem? (originalsFrom 1 (fieldsOf s))) (omega arith) }
 
 pub place-field : {s : Scope} {f : Floor} {n row : ℕ} {fs : Fields} → Rest s f n row fs → (x : Placed) → getElem? (originalsFrom row fs) 0 ≡ some x → (j : ℕ)
     → fieldAt s (record { way = f .level .way; field = n; at = j }) ≡ some x

@@ -1,0 +1,30 @@
+// The C functions for members inside a prelude.
+use meant::Declared;
+use meant::meant_at;
+ghost use mathlib.Core.Path.{_≡_};
+ghost use Rattle.ferhevok.specs.Meant.{packedDeclared, meantRow};
+
+// The highest row that a form can number.
+const LAST: u32 = 65535;
+
+// The form of the declaration, 1 for the member and 2 for the prelude, times 2^32 plus its row; 0 where there is none.
+fn packed_declared(declared: Declared) -> u64
+    ensures { λ r. ⌜ r ≡ packedDeclared declared ⌝ }
+{
+    match declared {
+        Declared::Member(row) => 4294967296 + (row as u64),
+        Declared::Prelude(row) => 8589934592 + (row as u64),
+        Declared::Nowhere => 0,
+    }
+}
+
+// Which declaration the name in a row of the member means, where the member lies inside the prelude's root.
+#[no_mangle]
+pub extern "C" fn wnt_meant(prelude: &[u8], member: &[u8], row: u32) -> u64
+    ensures { λ r. ⌜ r ≡ packedDeclared (meantRow (now (prelude .entry)) (now (member .entry)) row) ⌝ }
+{
+    if LAST < row {
+        return 0;
+    }
+    packed_declared(meant_at(prelude, member, row as u16))
+}
