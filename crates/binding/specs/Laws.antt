@@ -2,3 +2,7 @@
 pub mod AliasLeads
 -- What a sheet says.
 pub mod SheetLaws
+-- What it does not depend on.
+pub mod OtherPlaces
+-- A run is what document 01 answers.
+pub mod Runs

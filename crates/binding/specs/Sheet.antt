@@ -1,12 +1,14 @@
 -- R-13, the binding sheet: which declaration each reference must mean, and whether it does.
 -- A slot names a reference by its place and a declaration by its name. The answer goes by what the reference reaches in the output.
+-- Only REF rows count as references: an OUTER that stands at a slot's place is none. A number that was written counts by what it reaches in
+-- the output, like any other. A reference with PATHs reaches its last inserted export alias, whose name no input has.
 use mathlib.Core.Bool.{Bool, true, false, _&&_, _||_, not}
 use mathlib.Core.Option.{Option, none, some}
 use mathlib.Core.List.{List, [], _∷_, _++_, map}
 use Prim.Native.Nat.{ℕ, zero, suc, _+_, _*_, _/_, _%_}
 use lib.Dec.{eqb, leb, ltb}
-use lib.ListN.{length, take, drop, getElem?}
-use Rattle.rules.specs.Tools.{if_then_else_, between, only, _then_}
+use lib.ListN.{length, take, drop, replicate, getElem?}
+use Rattle.rules.specs.Tools.{if_then_else_, between, only, _then_, _orElse_}
 use Rattle.rules.specs.Versions.{Setting}
 use Rattle.rules.specs.Rows.{value, bytes, Num, Id}
 use Rattle.rules.specs.Tree.{Operand, ref, outer, case, Scope, flatten, Reading, bad, deep, form}
@@ -57,7 +59,8 @@ outerTo fs (outer space (Num d) (Id name) z ∷ os) = none
 outerTo fs (outer space (Id name) at z ∷ os) = none
 outerTo fs (case name z ∷ os) = none
 
--- An inserted outer alias (code 11) is followed; an original declaration and an inserted export alias are what is reached.
+-- An inserted outer alias (code 11) is followed; an original declaration, an outer alias too, and an inserted export alias are what is
+-- reached.
 unfoldable pub follow : List Floor → Spot → Located → Option Located
 follow fs (original field at) x = some x
 follow fs (inserted h) x = if eqb (h .code) 11 then outerTo fs (h .operands) else some x
@@ -152,6 +155,25 @@ runIn v input =
 unfoldable pub runOf : List Setting → (input : List ℕ) → Option Run
 runOf settings input = settingOf settings input then λ v. runIn v input
 
+-- ---- the working area, in which the input is resolved
+
+-- as many bytes as the longest output of a version takes
+unfoldable pub areaOf : Option Setting → ℕ
+areaOf none = 0
+areaOf (some v) = v .version .header + 64 * v .version .rows
+
+unfoldable pub firstOf : List Setting → Option Setting
+firstOf [] = none
+firstOf (v ∷ vs) = some v
+
+-- by the input's version; that of the first setting, if the header is of none
+unfoldable pub workSize : List Setting → (input : List ℕ) → ℕ
+workSize settings input = areaOf (settingOf settings input orElse firstOf settings)
+
+-- Whatever is answered, the area is zero up to that size, or all of it if it is shorter; bytes beyond stay.
+unfoldable pub workAfter : List Setting → (input old : List ℕ) → List ℕ
+workAfter settings input old = let size = workSize settings input in replicate (length (take size old)) 0 ++ drop size old
+
 -- ---- the answer, and what the buffer then holds
 
 -- an answer for each slot, if the sheet is accepted
@@ -166,9 +188,13 @@ answerFor (some run) resolved ss room =
     else if ltb room (8 * length ss) then refused 3 0 []
     else accepted (bindings (run .before) (run .after) ss)
 
-unfoldable pub sheetAnswer : List Setting → (input resolved sheet : List ℕ) (room : ℕ) → SheetAnswer
-sheetAnswer settings input resolved sheet room =
-    if soundSheet sheet then answerFor (runOf settings input) resolved (slots sheet) room else refused 15 0 []
+-- First the sheet, then the working area, without which nothing is known of the forms. `room` and `work` are the lengths of the buffer for
+-- the answers and of the working area.
+unfoldable pub sheetAnswer : List Setting → (input resolved sheet : List ℕ) (room work : ℕ) → SheetAnswer
+sheetAnswer settings input resolved sheet room work =
+    if not (soundSheet sheet) then refused 15 0 []
+    else if ltb work (workSize settings input) then refused 3 0 []
+    else answerFor (runOf settings input) resolved (slots sheet) room
 
 -- 0 as written, 1 elsewhere, 2 none, 3 several; then the row or 0
 unfoldable pub bindingBytes : Binding → List ℕ
@@ -188,5 +214,5 @@ answersAfter (accepted bs) old = answersBytes bs ++ drop (8 * length bs) old
 
 -- Unfolds all of this module: for a claim that antt computes.
 unfoldable pub computes : Unit {0}
-unfolding isRefAt refAt refsAt outerTo follow reachedFrom reached boundTo bound binding bindings isAsWritten passes failing slotsOf allNamed slots soundSheet formOf resultOf runIn runOf answerFor sheetAnswer bindingBytes answersBytes answersAfter
+unfolding isRefAt refAt refsAt outerTo follow reachedFrom reached boundTo bound binding bindings isAsWritten passes failing slotsOf allNamed slots soundSheet formOf resultOf runIn runOf areaOf firstOf workSize workAfter answerFor sheetAnswer bindingBytes answersBytes answersAfter
 computes = tt

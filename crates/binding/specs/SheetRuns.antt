@@ -3,6 +3,8 @@ use mathlib.Core.Path.{_≡_, refl}
 use mathlib.Core.Option.{Option, none, some}
 use mathlib.Core.List.{List, [], _∷_, _++_}
 use Prim.Native.Nat.{ℕ}
+use mathlib.Core.Bool.{true, false}
+use lib.ListN.{replicate}
 use Rattle.rules.specs.Tools
 use Rattle.rules.specs.Versions.{RuleSet, version1, version2, today, newer, base, all}
 use Rattle.rules.specs.Rows
@@ -17,7 +19,7 @@ use Rattle.rules.specs.Readings
 use Rattle.places.specs.PlaceRows
 use Rattle.moving.specs.Moved
 use Rattle.binding.specs.Sheet
-use Rattle.binding.specs.Sheet.{asWritten, elsewhere, noReference, several, SheetAnswer, Run, runOf, sheetAnswer, answersAfter}
+use Rattle.binding.specs.Sheet.{asWritten, elsewhere, noReference, several, SheetAnswer, soundSheet, Run, runOf, workAfter, sheetAnswer, answersAfter}
 use Rattle.rules.specs.Examples
 use Rattle.rules.specs.Examples.{inputBytes}
 
@@ -33,7 +35,7 @@ resolvedForm none = []
 resolvedForm (some run) = run .bytes
 
 asked : List Raw → (sheet : List ℕ) → SheetAnswer
-asked rs sheet = sheetAnswer base (form rs) (resolvedForm (runOf base (form rs))) sheet 80
+asked rs sheet = sheetAnswer base (form rs) (resolvedForm (runOf base (form rs))) sheet 80 65480
 
 -- ---- the driver
 
@@ -87,13 +89,13 @@ second : RuleSet → List Raw → List ℕ
 second rules rs = inputBytes (record { version = version2; rules = rules }) rs
 
 askedSecond : RuleSet → List Raw → (sheet : List ℕ) → SheetAnswer
-askedSecond rules rs sheet = sheetAnswer all (second rules rs) (resolvedForm (runOf all (second rules rs))) sheet 80
+askedSecond rules rs sheet = sheetAnswer all (second rules rs) (resolvedForm (runOf all (second rules rs))) sheet 80 1048528
 
 -- the driver passes as in version 1; the resolved form of the other rule set is another form
 driver-second :
     (askedSecond today (driver 6) driverSheet ≡ accepted (asWritten ∷ asWritten ∷ asWritten ∷ []))
     × (askedSecond newer (driver 6) driverSheet ≡ accepted (asWritten ∷ asWritten ∷ asWritten ∷ []))
-    × (sheetAnswer all (second newer (driver 6)) (resolvedForm (runOf all (second today (driver 6)))) driverSheet 80 ≡ refused 15 0 [])
+    × (sheetAnswer all (second newer (driver 6)) (resolvedForm (runOf all (second today (driver 6)))) driverSheet 80 1048528 ≡ refused 15 0 [])
 unfolding askedSecond second resolvedForm driver driverSheet slot Examples.inputBytes Examples.rawsBytes Tools.computes Rows.computes Tree.computes Shapes.computes Reader.computes Rules.computes Answer.computes Readings.computes PlaceRows.computes Moved.computes Sheet.computes
 driver-second = (refl, refl, refl)
 
@@ -139,18 +141,32 @@ refusals :
     (asked mixed [] ≡ accepted [])
     × (asked mixed (0 ∷ slot 1 70 1 []) ≡ refused 15 0 [])
     × (asked mixed (slot 1 70 0 []) ≡ refused 15 0 [])
-    × (sheetAnswer base (form mixed) (form mixed) (slot 1 70 1 []) 80 ≡ refused 15 0 [])
+    × (sheetAnswer base (form mixed) (form mixed) (slot 1 70 1 []) 80 65480 ≡ refused 15 0 [])
     × (asked (raw 7 0 0 0 0 0 ∷ []) [] ≡ refused 15 0 [])
-    × (sheetAnswer base (form mixed) (resolvedForm (runOf base (form mixed)) ++ (0 ∷ [])) [] 80 ≡ refused 15 0 [])
+    × (sheetAnswer base (form mixed) (resolvedForm (runOf base (form mixed)) ++ (0 ∷ [])) [] 80 65480 ≡ refused 15 0 [])
 unfolding asked resolvedForm form mixed slot Examples.inputBytes Examples.rawsBytes Tools.computes Rows.computes Tree.computes Shapes.computes Reader.computes Rules.computes Answer.computes Readings.computes PlaceRows.computes Moved.computes Sheet.computes
 refusals = (refl, refl, refl, refl, refl, refl)
 
 -- no room for the answers, after 15
 no-room :
-    (sheetAnswer base (form mixed) (resolvedForm (runOf base (form mixed))) (slot 1 70 1 []) 7 ≡ refused 3 0 [])
-    × (sheetAnswer base (form mixed) (form mixed) (slot 1 70 1 []) 7 ≡ refused 15 0 [])
+    (sheetAnswer base (form mixed) (resolvedForm (runOf base (form mixed))) (slot 1 70 1 []) 7 65480 ≡ refused 3 0 [])
+    × (sheetAnswer base (form mixed) (form mixed) (slot 1 70 1 []) 7 65480 ≡ refused 15 0 [])
 unfolding asked resolvedForm form mixed slot Examples.inputBytes Examples.rawsBytes Tools.computes Rows.computes Tree.computes Shapes.computes Reader.computes Rules.computes Answer.computes Readings.computes PlaceRows.computes Moved.computes Sheet.computes
 no-room = (refl, refl)
+
+-- 200 slots are a sheet, and 201 are none
+most-slots : (soundSheet (replicate 2400 1) ≡ true) × (soundSheet (replicate 2412 1) ≡ false)
+unfolding Tools.computes Rows.computes Sheet.computes
+most-slots = (refl, refl)
+
+-- a working area one byte too short: after the sheet, before the forms
+no-area :
+    (sheetAnswer base (form mixed) (resolvedForm (runOf base (form mixed))) (slot 1 70 1 []) 8 65479 ≡ refused 3 0 [])
+    × (sheetAnswer base (form mixed) (resolvedForm (runOf base (form mixed))) (slot 1 70 0 []) 8 65479 ≡ refused 15 0 [])
+    × (sheetAnswer base (form mixed) (form mixed) (slot 1 70 1 []) 8 65479 ≡ refused 3 0 [])
+    × (workAfter base (form mixed) (7 ∷ 7 ∷ 7 ∷ []) ≡ 0 ∷ 0 ∷ 0 ∷ [])
+unfolding asked resolvedForm form mixed slot Examples.inputBytes Examples.rawsBytes Tools.computes Rows.computes Tree.computes Shapes.computes Reader.computes Rules.computes Answer.computes Readings.computes PlaceRows.computes Moved.computes Sheet.computes
+no-area = (refl, refl, refl, refl)
 
 -- 8 bytes a slot, and the rest as it was
 buffer : answersAfter (asked mixed (slot 1 71 3 (slot 1 74 3 []))) (7 ∷ 7 ∷ 7 ∷ 7 ∷ 7 ∷ 7 ∷ 7 ∷ 7 ∷ 7 ∷ 7 ∷ 7 ∷ 7 ∷ 7 ∷ 7 ∷ 7 ∷ 7 ∷ 7 ∷ 8 ∷ [])
