@@ -1,0 +1,75 @@
+-- All rows, from the last to the first.
+use mathlib.Core.Bool.{Bool, true, false, _&&_, not}
+use mathlib.Core.List.{List, [], _∷_}
+use Prim.Native.Nat.{ℕ, zero, suc, _-_}
+use lib.Dec.{eqb, ltb}
+use lib.ListN.{drop}
+use Rattle.kit.specs.Pick.{pick}
+use Rattle.kit.specs.Out.{Out, _&_}
+use Rattle.parts.specs.Apart.{partsAt}
+use Rattle.back_notes.specs.Note.{Note, Noted}
+use Rattle.back_rows.specs.Below.{below}
+use Rattle.back_rows.specs.Alias.{aliasT, forT}
+use Rattle.back_rows.specs.Restore.{Wrote, copyBackT, wroteThen, Rest, restoreT}
+use Rattle.back_rows.specs.declared.write.Cursor.{Cursor}
+
+-- the FIELD that is next before row i
+unfoldable pub fieldT : (rows : List ℕ) (i : ℕ) → ℕ
+fieldT rows zero = 0
+fieldT rows (suc k) = pick (eqb (partsAt rows k .code) 1) k (fieldT rows k)
+
+-- the rows before it
+unfoldable pub beforeField : List Noted → List Noted
+beforeField [] = []
+beforeField (r ∷ rs) = pick (eqb (r .parts .code) 1) rs (beforeField rs)
+
+-- how many rows are to be left out
+unfoldable pub leftOutT : (skip : ℕ) → List Noted → ℕ
+leftOutT skip l = pick (ltb 0 skip) skip (aliasT l .size)
+
+-- ---- where the rows are gone through; `left` are the rows whose inserted fields may serve the next reference
+
+pub record Going : Type 0 where
+  pub skip : ℕ
+  pub inside : Bool
+  pub left : List Noted
+  pub to : ℕ
+
+abbrev pub going : (skip : ℕ) (inside : Bool) → List Noted → (to : ℕ) → Going
+going skip inside left to = record { skip = skip; inside = inside; left = left; to = to }
+
+abbrev pub cursorAt : (rows : List ℕ) (noted : List Note) → Cursor → Going
+cursorAt rows noted c = going (c .skip) (c .inside) (below rows noted (c .next)) (c .to)
+
+abbrev pub startT : (to : ℕ) → Going
+startT to = going 0 false [] to
+
+unfoldable pub goes : Out Rest (List ℕ) → Out Going (List ℕ)
+goes (r & out) = going 0 true (r .left) (r .to) & out
+
+unfoldable pub goesOn : (inside : Bool) → List Noted → Wrote → Out Going (List ℕ)
+goesOn inside l (to & out) = going 0 inside l to & out
+
+-- ---- a row, with those before it
+
+-- a reference, where these rows have the inserted fields that may serve it
+unfoldable pub servedT : Noted → List Noted → (to : ℕ) (out : List ℕ) → Out Going (List ℕ)
+servedT r l to out =
+    pick (forT (aliasT l) (r .parts)) (goes (restoreT (aliasT l) (drop (aliasT l .size) l) to out))
+    (goesOn true l (copyBackT r to out))
+
+unfoldable pub refT : Noted → List Noted → Going → (out : List ℕ) → Out Going (List ℕ)
+refT r rs c out = servedT r (pick (c .inside) (c .left) (beforeField rs)) (c .to) out
+
+unfoldable pub rowT : Noted → List Noted → Going → (out : List ℕ) → Out Going (List ℕ)
+rowT r rs c out =
+    pick (ltb 0 (leftOutT (c .skip) (r ∷ rs))) (going (leftOutT (c .skip) (r ∷ rs) - 1) (c .inside) (c .left) (c .to) & out)
+    (pick (eqb (r .parts .code) 3) (refT r rs c out)
+    (goesOn (c .inside && not (eqb (r .parts .code) 1)) (c .left) (copyBackT r (c .to) out)))
+
+unfoldable pub goesThen : {A : Type 0} → Out Going (List ℕ) → (Going → List ℕ → A) → A
+goesThen (c & out) f = f c out
+
+unfoldable pub backT : List Noted → Going → (out : List ℕ) → Wrote
+backT [] c out = c .to & out
+backT (r ∷ rs) c out = goesThen (rowT r rs c out) λ c′ out′. backT rs c′ out′
