@@ -1,97 +1,39 @@
-// How the program is used, and which it is.
-use libc::STDERR_FILENO;
-use libc::STDOUT_FILENO;
-use words::say;
+// The command help.
+use crate::commands::command_of;
+use check::same;
+use command::arguments::behind;
+use command::arguments::has_words;
+use command::arguments::wrong_count;
+use command::status::FAILED;
+use command::topic::Task;
+use command::topic::say_topic;
+use overview::say_help;
 
-fn say_commands(talk: i32) {
-    say(
-        talk,
-        b"  wnt resolve IN OUT      resolve the form IN, and write OUT whole or not at all\n",
-    );
-    say(
-        talk,
-        b"  wnt check FORM..        say of each form whether it is accepted; write nothing\n",
-    );
-    say(
-        talk,
-        b"  wnt show FORM           print a form, a row a line, and what each reference means\n",
-    );
-    say(
-        talk,
-        b"  wnt explain FORM PLACE  say which declaration the references with that place mean\n",
-    );
-    say(
-        talk,
-        b"  wnt anonymise FORM OUT  write the form to OUT with 1, 2, 3, .. for its names; print the key\n",
-    );
-    say(
-        talk,
-        b"  wnt mend IN OUT         mend a spoilt form, write OUT whole or not at all, and say each change\n",
-    );
-    say(
-        talk,
-        b"  wnt rows FORM           print the rows of a form as a text that can be edited\n",
-    );
-    say(
-        talk,
-        b"  wnt form TEXT OUT       turn such a text into the form, and write OUT whole or not at all\n",
-    );
-    say(talk, b"  wnt help                print this\n");
-    say(
-        talk,
-        b"  wnt help COMMAND        say what a command does, with an example\n",
-    );
-    say(talk, b"  wnt --version           print the version\n\n");
-}
-
-// The whole help.
-pub(crate) fn help(talk: i32) {
-    say(
-        talk,
-        b"wnt turns the names of a WebAssembly component into index numbers.\n\n",
-    );
-    say_commands(talk);
-    say(
-        talk,
-        b"A form is a file of rows, as it is written or as it was resolved.\n",
-    );
-    say(
-        talk,
-        b"For a file, - stands for standard input or output.\n",
-    );
-    say(
-        talk,
-        b"Answers go to standard output, errors to standard error.\n",
-    );
-    say(
-        talk,
-        b"The exit status is 0 for accepted or done, 1 for refused or a no, 2 for what could not be done.\n",
-    );
-}
-
-pub(crate) fn version() {
-    say(STDOUT_FILENO, b"wnt 0.2.0-dev\n");
-}
-
-// Where the first word is no command, or there is none.
-pub(crate) fn no_command(word: &[u8]) {
-    if word.len() == 0 {
-        help(STDERR_FILENO);
+// The help of a command.
+fn help_of(word: &[u8]) -> u8 {
+    if same(word, b"help") {
+        say_topic(
+            b"help [COMMAND]",
+            b"Prints the commands, or what one command does.\n",
+            b"printed",
+            b"never",
+            b"help resolve",
+        )
     } else {
-        say(STDERR_FILENO, word);
-        say(
-            STDERR_FILENO,
-            b" is no command of wnt: wnt help prints those that are\n",
-        );
+        command_of(word, Task::Help, 0)
     }
 }
 
-// Where a command has not the number of arguments that it takes.
-pub(crate) fn wrong_count(usage: &[u8]) {
-    say(
-        STDERR_FILENO,
-        b"That is not the number of arguments that this command takes. Its usage is: ",
-    );
-    say(STDERR_FILENO, usage);
-    say(STDERR_FILENO, b"\n");
+// The command help: of itself, or of the command that the argument behind it names.
+pub(crate) fn help_command(first: u8) -> u8 {
+    if has_words(first, 1) {
+        return say_help();
+    }
+    if !has_words(first, 2) {
+        wrong_count(b"wnt help [COMMAND]");
+        return FAILED;
+    }
+    let mut word = io::buffer();
+    let length = os::arg(behind(first, 1), &mut word);
+    help_of(&word[..length])
 }

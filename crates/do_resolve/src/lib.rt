@@ -1,0 +1,150 @@
+// The commands resolve and check: a form resolved into a file, and forms of which it is said whether they are accepted.
+use command::arguments::behind;
+use command::arguments::has_words;
+use command::arguments::wrong_count;
+use command::forms::bytes_of;
+use command::forms::part;
+use command::forms::talk_beside;
+use command::status::DONE;
+use command::status::FAILED;
+use command::status::NO;
+use command::status::said;
+use command::status::worse;
+use command::topic::Task;
+use command::topic::say_topic;
+use files::read::Loaded;
+use files::read::load;
+use files::standard::error_noted;
+use files::write::save;
+use known::file::refuse_form;
+use known::file::say_refused;
+use libc::STDOUT_FILENO;
+use resolver::run::Answer;
+use resolver::run::resolve;
+use view::accepted::say_accepted;
+use words::say;
+
+// ---- resolve
+
+fn save_form(form: &[u8], path: &[u8]) -> u8 {
+    if save(path, form) {
+        let before = error_noted();
+        say_accepted(talk_beside(path), form);
+        said(DONE, before)
+    } else {
+        FAILED
+    }
+}
+
+fn resolve_form(form: &[u8], path: &[u8]) -> u8 {
+    let mut buffer = io::large_buffer();
+    match resolve(form, &mut buffer) {
+        Answer::Accepted(rows) => save_form(part(&buffer, bytes_of(rows)), path),
+        Answer::Refused(refusal) => refuse_form(form, path, refusal),
+    }
+}
+
+// Resolves the form in a file into another file.
+fn resolve_paths(from: &[u8], to: &[u8]) -> u8 {
+    let mut buffer = io::large_buffer();
+    match load(from, &mut buffer) {
+        Loaded::Bytes(length) => resolve_form(part(&buffer, length), to),
+        Loaded::Failed => FAILED,
+    }
+}
+
+fn run_resolve(first: u8) -> u8 {
+    if !has_words(first, 3) {
+        wrong_count(b"wnt resolve IN OUT");
+        return FAILED;
+    }
+    let mut from = io::buffer();
+    let from_length = os::arg(behind(first, 1), &mut from);
+    let mut to = io::buffer();
+    let to_length = os::arg(behind(first, 2), &mut to);
+    resolve_paths(&from[..from_length], &to[..to_length])
+}
+
+pub fn resolve_command(task: Task, first: u8) -> u8 {
+    match task {
+        Task::Run => run_resolve(first),
+        Task::Help => say_topic(
+            b"resolve IN OUT",
+            b"Resolves the form IN, writes the resolved form to OUT, and says how many rows and inserted\naliases it has. A file OUT is written whole or not at all. A form that is refused is not\nwritten: the refusal is printed, with its number, its place and what it means.\n",
+            b"accepted, and written",
+            b"refused",
+            b"resolve driver.wnt resolved.wnt",
+        ),
+    }
+}
+
+// ---- check
+
+fn check_form(form: &[u8]) -> u8 {
+    let mut buffer = io::large_buffer();
+    match resolve(form, &mut buffer) {
+        Answer::Accepted(rows) => {
+            say_accepted(STDOUT_FILENO, part(&buffer, bytes_of(rows)));
+            DONE
+        }
+        Answer::Refused(refusal) => {
+            say_refused(STDOUT_FILENO, form, refusal);
+            NO
+        }
+    }
+}
+
+fn check_named(path: &[u8], form: &[u8]) -> u8 {
+    let before = error_noted();
+    say(STDOUT_FILENO, path);
+    say(STDOUT_FILENO, b": ");
+    said(check_form(form), before)
+}
+
+// Says whether the form in a file is accepted.
+fn check_path(path: &[u8]) -> u8 {
+    let mut buffer = io::large_buffer();
+    match load(path, &mut buffer) {
+        Loaded::Bytes(length) => check_named(path, part(&buffer, length)),
+        Loaded::Failed => FAILED,
+    }
+}
+
+fn check_argument(i: usize) -> u8 {
+    let mut path = io::buffer();
+    let length = os::arg(i, &mut path);
+    check_path(&path[..length])
+}
+
+fn check_from(from: usize) -> u8 {
+    let count = os::arg_count();
+    let mut status = DONE;
+    let mut i = from;
+    while i < count {
+        status = worse(status, check_argument(i));
+        i += 1;
+    }
+    status
+}
+
+// Checks each form, and answers the worst of what they came to.
+fn run_check(first: u8) -> u8 {
+    if has_words(first, 1) {
+        wrong_count(b"wnt check FORM..");
+        return FAILED;
+    }
+    check_from(behind(first, 1))
+}
+
+pub fn check_command(task: Task, first: u8) -> u8 {
+    match task {
+        Task::Run => run_check(first),
+        Task::Help => say_topic(
+            b"check FORM..",
+            b"Says of each form whether it is accepted or refused, a line each, and writes no file. The\nexit status is the worst of the forms.\n",
+            b"all are accepted",
+            b"one is refused",
+            b"check driver.wnt other.wnt",
+        ),
+    }
+}
