@@ -5,6 +5,7 @@ mod bench;
 mod builds;
 mod cases;
 mod chance;
+mod claims;
 mod compare;
 mod damage;
 mod generate;
@@ -12,6 +13,7 @@ mod library;
 mod meant;
 mod mend;
 mod oracle;
+mod partner;
 mod recognise;
 mod reduce;
 mod renaming;
@@ -30,6 +32,8 @@ mod sweep;
 mod tally;
 mod tree;
 mod vectors;
+mod verify;
+mod wrong;
 
 use standins::error::Error;
 use standins::{annotation, core, kw, lexer, parser};
@@ -51,7 +55,9 @@ compare --bench FILE [--repetitions N]         time both sides; the picture goes
 compare --shapes FOLDER                        write the benchmark's forms of about 1,000 rows, for a profiler
 compare --samples FOLDER [--forms N]           write accepted random forms and their outputs, for readings.py
 compare --mend N [--seed S]                    mend N spoilt forms, and compare with a mender written for it
-compare --meant N [--seed S]                   ask what the names of N members mean, and compare with a second reading";
+compare --meant N [--seed S]                   ask what the names of N members mean, and compare with a second reading
+compare --check N [--seed S]                   check N claimed outputs, and compare with a checker written for it
+compare --check-bench N                        time checking beside resolving, the shortest of N calls each";
 
 /// The value after `--name`, read as a number.
 fn number(arguments: &[String], name: &str) -> Option<u64> {
@@ -142,6 +148,11 @@ fn main() -> ExitCode {
         spoil::run(number(&arguments, "--seed").unwrap_or(1), count)
     } else if let Some(pairs) = number(&arguments, "--meant") {
         meant::run(number(&arguments, "--seed").unwrap_or(1), pairs)
+    } else if let Some(repetitions) = number(&arguments, "--check-bench") {
+        bench::check(repetitions as usize);
+        true
+    } else if let Some(pairs) = number(&arguments, "--check") {
+        verify::run(&comparison(), number(&arguments, "--seed").unwrap_or(1), pairs)
     } else if let Some(pairs) = number(&arguments, "--builds") {
         builds::run(pairs, number(&arguments, "--seed").unwrap_or(1))
     } else if has("--sensitivity") {
