@@ -1,0 +1,11 @@
+-- What a run leaves: its inserted fields, and how many declarations there are.
+pub mod Made
+pub mod Few
+-- Rows with their notes.
+pub mod Named
+-- The fields of the input.
+pub mod OwnField
+-- Those that were inserted.
+pub mod NewField
+-- A whole tree.
+pub mod Whole
