@@ -9,3 +9,6 @@ pub mod OwnField
 pub mod NewField
 -- A whole tree.
 pub mod Whole
+-- Its rows in bytes.
+pub mod Put
+pub mod OnRows
