@@ -1,11 +1,8 @@
-// The working areas: how large each is for a form, and zeros in them.
+// The working areas: how large each is for a form.
 use limits::of_input;
-use names::Slot;
 ghost use mathlib.Core.Path.{_≡_};
 ghost use Prim.Native.Nat.{_-_, _≤_};
-ghost use lib.ListN.{length, replicate};
 ghost use Rattle.limits.specs.Held.{setting};
-ghost use Rattle.names.specs.Table.{emptySlot};
 ghost use Rattle.resolver_with.specs.Areas.{slotsFor, linksFor};
 
 // The heads of chains that stand before the links of an index.
@@ -31,37 +28,4 @@ pub fn least(a: usize, b: usize) -> usize
     ensures { λ r. ⌜ r ≡ a - (a - b) ⌝ }
 {
     if a < b { a } else { b }
-}
-
-// Zeroes a table of slots.
-pub fn zero_slots(area: &mut [Slot])
-    ensures { λ _. ⌜ now (area .exit) ≡ replicate (length (now (area .entry))) emptySlot ⌝ }
-{
-    let mut i = 0;
-    while i < area.len() {
-        area[i] = [0; 6];
-        i += 1;
-    }
-}
-
-// Zeroes an index.
-pub fn zero_links(area: &mut [u16])
-    ensures { λ _. ⌜ now (area .exit) ≡ replicate (length (now (area .entry))) 0 ⌝ }
-{
-    let mut i = 0;
-    while i < area.len() {
-        area[i] = 0;
-        i += 1;
-    }
-}
-
-// Zeroes the ends of fields.
-pub fn zero_ends(area: &mut [u32])
-    ensures { λ _. ⌜ now (area .exit) ≡ replicate (length (now (area .entry))) 0 ⌝ }
-{
-    let mut i = 0;
-    while i < area.len() {
-        area[i] = 0;
-        i += 1;
-    }
 }

@@ -1,9 +1,9 @@
--- `resolver_with::areas::slots_for` meets its contract.
+-- `resolver_with::sizes::slots_for` meets its contract.
 use native.Mathlib.Omega.{arith}
 use borrow.Author.Needs.{needs}
 use Rattle.resolver_with.proofs.Zeros.{rows-are, rows-few}
-use Rattle.resolver_with.proofs.areas.slots_for.Statement.{statement}
-use Rattle.resolver_with.proofs.areas.slots_for.Tie as tie
+use Rattle.resolver_with.proofs.sizes.slots_for.Statement.{statement}
+use Rattle.resolver_with.proofs.sizes.slots_for.Tie as tie
 
 pub slots-for-spec : {M : Type 1} → statement M
 slots-for-spec = tie.close (tie.spec

@@ -1,18 +1,18 @@
--- `resolver_with::areas::zero_slots` meets its contract.
+-- `areas::zero_slots` meets its contract.
 use mathlib.Core.Path.{_≡_}
 use Prim.Native.Nat.{_-_, _≤_}
 use native.Mathlib.Omega.{arith}
 use lib.ListN.{length, take, replicate, length-set}
 use Rattle.names.specs.Table.{emptySlot}
-use Rattle.resolver_with.proofs.Zeros.{ways}
-use Rattle.resolver_with.proofs.areas.zero_slots.Statement.{statement}
-use Rattle.resolver_with.proofs.areas.zero_slots.Tie as tie
+use Rattle.areas.proofs.Zeros.{ways}
+use Rattle.areas.proofs.zero_slots.Statement.{statement}
+use Rattle.areas.proofs.zero_slots.Tie as tie
 
 abbrev Inv-loop : tie.InvT-loop
-Inv-loop area₀ i₀ area i = (take i area ≡ replicate i emptySlot) × (length area ≡ length area₀) × (i ≤ length area)
+Inv-loop table₀ i₀ table i = (take i table ≡ replicate i emptySlot) × (length table ≡ length table₀) × (i ≤ length table)
 
 abbrev μ-loop : tie.MeasureT-loop
-μ-loop area₀ i₀ area i = length area₀ - i
+μ-loop table₀ i₀ table i = length table₀ - i
 
 pub zero-slots-spec : {M : Type 1} → statement M
 zero-slots-spec =
@@ -22,7 +22,7 @@ zero-slots-spec =
     μ-loop
     (λ c. search ways)  -- loop-holds
     (λ c. search ways)  -- mul-t3
-    (λ c. search ways)  -- slice-set-from-area
+    (λ c. search ways)  -- slice-set-from-table
     (λ c. search ways)  -- add-i
     (λ c. search ways)  -- loop-less
     (λ c. (search ways, simp length-set (omega arith), simp length-set (omega arith)))  -- loop-again
