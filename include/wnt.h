@@ -215,6 +215,40 @@ enum wnt_kind {
 uint64_t wnt_compare(const uint8_t *left, size_t left_len, const uint8_t *right, size_t right_len, uint32_t choice,
                      uint8_t *list, size_t list_len);
 
+/* The sizes of the two working areas of wnt_check, for an input of version 1: slots of six numbers of four bytes each, and
+ * numbers of two bytes. Together they are 55,244 bytes. */
+#define WNT_CHECK_SLOTS 2046
+#define WNT_CHECK_LINKS 3070
+
+/* The upper half of the answer of wnt_check where the claim is no resolved form of the input. */
+enum wnt_condition {
+    /* It is no form of the input's version, where names from 2147483648 up and 4092 rows are allowed. Row: 0 for the
+     * header, else the place of refusal 4 or 5. */
+    WNT_NO_FORM = 101,
+    /* It has a PATH row, or its rows without added fields (those with a DECL name from 2147483648 up) are not the input's,
+     * but for PATH rows and the operands of REF and OUTER. */
+    WNT_NO_ROWS = 102,
+    /* An added field is no alias, its name is not new in its scope and space, or its operand is a name. */
+    WNT_NO_ALIAS = 103,
+    /* An operand of the input is not the number that it must be. Row: that of the operand in the claim, also where the
+     * fault is in the alias that it reaches. */
+    WNT_NO_NUMBER = 104
+};
+
+/* The answer's lower half after a no: the first claimed row that breaks the condition. */
+#define WNT_CLAIMED_ROW(answer) ((uint32_t)((answer) & 0xffffffffu))
+
+/* Says whether `claim` is a resolved form of `form`, whoever wrote it: where its inserted aliases stand, which references
+ * share them, which are unused and what fresh names they have is the writer's choice. The answer is 0 for yes; for no one
+ * of the numbers above, the first that is true in their order, with the first row of the claim that breaks it; or the
+ * refusal of the form by wnt_resolve, with 3 where `table` has fewer slots or `index` fewer numbers than said above.
+ *
+ * The areas may hold anything. After every return both are zero up to these sizes, all of them where they are shorter,
+ * and as they were beyond. `table_len` counts slots and `index_len` numbers. The areas must overlap nothing; `form` and
+ * `claim` may be the same, and for the rest what is said of wnt_resolve holds. */
+uint64_t wnt_check(const uint8_t *form, size_t form_len, const uint8_t *claim, size_t claim_len, uint32_t (*table)[6],
+                   size_t table_len, uint16_t *index, size_t index_len);
+
 /* Which declaration the name in a row of a member means, where the member's root lies inside the root of a prelude. Both
  * are inputs, not resolved forms. A walked name is looked for in the scopes of the member around it and then in the
  * prelude's root; a here-only name and the instance where a path begins in their own scope alone; a named index of an

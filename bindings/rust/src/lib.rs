@@ -20,12 +20,14 @@
 #![warn(missing_docs)]
 
 mod builds;
+mod claims;
 mod members;
 mod mending;
 mod refusal;
 mod versions;
 
 pub use builds::{compare, Choice, Entry, Kind};
+pub use claims::{check, check_with, Condition, Verdict, CHECK_LINKS, CHECK_SLOTS};
 pub use members::{meant, Meant, Of};
 pub use mending::{mend, Change};
 pub use refusal::Refusal;
