@@ -21,11 +21,13 @@
 mod builds;
 mod members;
 mod mending;
+mod numbers;
 mod refusal;
 
 pub use builds::{compare, Choice, Entry, Kind};
 pub use members::{meant, Meant, Of};
 pub use mending::{mend, Change};
+pub use numbers::{moved, Apart, Moved, Numbers};
 pub use refusal::Refusal;
 
 /// The bytes of a form's header.
