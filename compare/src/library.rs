@@ -12,6 +12,16 @@ unsafe extern "C" {
         list: *mut u8,
         list_len: usize,
     ) -> u64;
+    fn wnt_check(
+        form: *const u8,
+        form_len: usize,
+        claim: *const u8,
+        claim_len: usize,
+        table: *mut [u32; 6],
+        slots: usize,
+        index: *mut u16,
+        links: usize,
+    ) -> u64;
     fn wnt_meant(prelude: *const u8, prelude_len: usize, member: *const u8, member_len: usize, row: u32) -> u64;
     fn wnt_moved(
         form: *const u8,
@@ -65,6 +75,25 @@ pub fn moved(form: &[u8], out: &mut [u8], moved: &mut [u8], apart: &mut [u8]) ->
             moved.len(),
             apart.as_mut_ptr(),
             apart.len(),
+        )
+    }
+}
+
+/// The answer of `wnt_check`, which works in `table` and `index`.
+pub fn check(form: &[u8], claim: &[u8], table: &mut [[u32; 6]], index: &mut [u16]) -> u64 {
+    let (slots, links) = (table.len(), index.len());
+    // SAFETY: the four parts are valid for their lengths, and the last two are apart from the others, for as long as the
+    // call lasts.
+    unsafe {
+        wnt_check(
+            form.as_ptr(),
+            form.len(),
+            claim.as_ptr(),
+            claim.len(),
+            table.as_mut_ptr(),
+            slots,
+            index.as_mut_ptr(),
+            links,
         )
     }
 }

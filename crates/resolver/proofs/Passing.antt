@@ -1,5 +1,5 @@
 -- The steps with no output answer what the rules' steps answer.
-use mathlib.Core.Path.{_≡_, refl, ap}
+use mathlib.Core.Path.{_≡_, refl, _∙_, ap, sym}
 use mathlib.Core.Option.{Option, none, some}
 use mathlib.Core.List.{List, [], _∷_}
 use native.Mathlib.Omega.{arith}
@@ -24,18 +24,24 @@ use Rattle.resolver.specs.declared.steps.Steps.the-variants.{Pass, Refus
 use Rattle.resolver.proofs.Root.{able-1, steps-refusal}
 use Rattle.resolver.proofs.Laws.{rooms-1}
 
--- by the refusal alone
-byRefusal : Option (ℕ × ℕ) → Steps
-byRefusal none = Pass
-byRefusal (some p) = Refused (record { number = p .0; place = p .1 })
+-- what the steps say of a refusal, if there is one
+unfoldable say : Option (ℕ × ℕ) → Steps
+say none = Pass
+say (some (number, place)) = Refused (record { number = number; place = place })
+
+said-in : (w : Wrote₃) → stepsIn (seenOf w) ≡ say (refusalOf w)
+unfolding seenOf stepsIn refusalOf say
+said-in (walked.Done s & e & n & o) = refl
+said-in (walked.Refused number place & e & n & o) = refl
+
+said-of : (m : Result (Scope × ℕ)) → stepsOf m ≡ say (refusedBy m)
+unfolding stepsOf refusedBy say
+said-of (Result.refused why z) = refl
+said-of (ok r) = refl
 
 -- what refuses alike passes alike
 passing : (m : Result (Scope × ℕ)) (w : Wrote₃) → refusalOf w ≡ refusedBy m → stepsIn (seenOf w) ≡ stepsOf m
-unfolding seenOf stepsIn stepsOf refusalOf refusedBy byRefusal
-passing (Result.refused why z) (walked.Done s & e & n & o) h = ap byRefusal h
-passing (Result.refused why z) (walked.Refused number place & e & n & o) h = ap byRefusal h
-passing (ok r) (walked.Done s & e & n & o) h = refl
-passing (ok r) (walked.Refused number place & e & n & o) h = ap byRefusal h
+passing m w h = said-in w ∙ ap say h ∙ sym (said-of m)
 
 -- For the rows of a form of version 1.
 pub steps-agree : (rows : List ℕ) (t : Scope) → Bytes rows → length rows / 16 ≤ 1023 → IsForm today (rowsOf topName (length rows / 16) rows) t → height t ≤ 32 → stepsT rows ≡ stepsOf (resolve today t)
