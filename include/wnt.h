@@ -248,6 +248,29 @@ enum wnt_condition {
  * `claim` may be the same, and for the rest what is said of wnt_resolve holds. */
 uint64_t wnt_check(const uint8_t *form, size_t form_len, const uint8_t *claim, size_t claim_len, uint32_t (*table)[6],
                    size_t table_len, uint16_t *index, size_t index_len);
+/* The bytes of an entry of the two lists of wnt_moved, and of the lists by the rows of the form. An entry of the first is
+ * four little endian numbers of four bytes: the place, the space, the row of the form that declares what the number meant,
+ * the row of the resolved form that declares what it gets. One of the second is three: the place, the space, the number.
+ * With PATHs the number is that of the instance where the path begins, and the space the instance's. */
+#define WNT_MOVED_SIZE 16
+#define WNT_APART_SIZE 12
+#define WNT_MOVED_LIST_SIZE(rows) (16u * (rows))
+#define WNT_APART_LIST_SIZE(rows) (12u * (rows))
+
+/* The answer's lower half after acceptance: how many entries each list has. */
+#define WNT_MOVED(answer) ((uint32_t)((answer) & 0xffffu))
+#define WNT_APART(answer) ((uint32_t)(((answer) >> 16) & 0xffffu))
+
+/* Resolves the form into `out` as wnt_resolve does, and lists its written numbers, of references and of outer aliases:
+ * `moved` those that mean another declaration in the resolved form than they did in the form, since inserted aliases come
+ * before what they meant, and `apart` those that counted to no declaration. Each list is in the order of the form's rows.
+ *
+ * The refusals are those of wnt_resolve, and 3 also where `moved` is shorter than WNT_MOVED_LIST_SIZE of the row count or
+ * `apart` than WNT_APART_LIST_SIZE. A refusal leaves both lists as they were, and `out` as after wnt_resolve; one by the
+ * lists' sizes leaves it as it was. After acceptance those first bytes of each list are the entries and then zeros; bytes
+ * beyond never change. No two of the four buffers may overlap, and for the rest what is said of wnt_resolve holds. */
+uint64_t wnt_moved(const uint8_t *form, size_t form_len, uint8_t *out, size_t out_len, uint8_t *moved, size_t moved_len,
+                   uint8_t *apart, size_t apart_len);
 
 /* Which declaration the name in a row of a member means, where the member's root lies inside the root of a prelude. Both
  * are inputs, not resolved forms. A walked name is looked for in the scopes of the member around it and then in the

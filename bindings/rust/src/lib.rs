@@ -23,6 +23,7 @@ mod builds;
 mod claims;
 mod members;
 mod mending;
+mod numbers;
 mod refusal;
 mod versions;
 
@@ -30,6 +31,7 @@ pub use builds::{compare, Choice, Entry, Kind};
 pub use claims::{check, check_with, Condition, Verdict, CHECK_LINKS, CHECK_SLOTS};
 pub use members::{meant, Meant, Of};
 pub use mending::{mend, Change};
+pub use numbers::{moved, Apart, Moved, Numbers};
 pub use refusal::Refusal;
 pub use versions::{convert, resolve_into_with, resolve_with, Version, WorkingArea};
 
