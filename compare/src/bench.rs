@@ -7,9 +7,10 @@ use crate::gensym;
 use crate::library;
 use crate::oracle::CRATE;
 use crate::recognise::recognise;
-use crate::rows::{Row, encode, output_size};
+use crate::rows::{HEADER, ROW, Row, encode, output_size};
 use crate::shapes::Shapes;
 use crate::tree::{self, Texts};
+use crate::verify::{LINKS, SLOTS};
 use std::path::Path;
 use std::time::{Duration, Instant};
 
@@ -96,4 +97,29 @@ fn table(series: &[Series], repetitions: usize) -> String {
         text.push_str(&format!("| {name} | {rows} | {:.1} | {:.1} | {ratio:.2} |\n", ours / 1e3, theirs / 1e3));
     }
     text
+}
+
+/// Prints what checking an own output costs beside resolving, on the largest form of every shape: the shortest of so many
+/// calls each, one of the two after the other.
+pub fn check(repetitions: usize) {
+    println!("| shape | rows of both forms | wnt_resolve | wnt_check | ratio |\n|---|---|---|---|---|");
+    for (name, make) in FORMS {
+        let form = encode(&make(SIZES[SIZES.len() - 1]));
+        let mut out = vec![0; output_size(form.len() / ROW)];
+        let rows = library::resolve(&form, &mut out) as usize;
+        let claim = out[..HEADER + ROW * rows].to_vec();
+        let (mut table, mut index) = (vec![[0; 6]; SLOTS], vec![0; LINKS]);
+        let (mut resolving, mut checking) = (Duration::MAX, Duration::MAX);
+        for _ in 0..repetitions {
+            let start = Instant::now();
+            library::resolve(&form, &mut out);
+            resolving = resolving.min(start.elapsed());
+            let start = Instant::now();
+            assert_eq!(library::check(&form, &claim, &mut table, &mut index), 0, "an own output is accepted");
+            checking = checking.min(start.elapsed());
+        }
+        let (ours, check) = (resolving.as_nanos() as f64 / 1e3, checking.as_nanos() as f64 / 1e3);
+        let both = form.len() / ROW + rows;
+        println!("| {name} | {both} | {ours:.1} | {check:.1} | {:.2} |", check / ours);
+    }
 }

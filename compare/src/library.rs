@@ -12,7 +12,39 @@ unsafe extern "C" {
         list: *mut u8,
         list_len: usize,
     ) -> u64;
+    fn wnt_check(
+        form: *const u8,
+        form_len: usize,
+        claim: *const u8,
+        claim_len: usize,
+        table: *mut [u32; 6],
+        slots: usize,
+        index: *mut u16,
+        links: usize,
+    ) -> u64;
     fn wnt_meant(prelude: *const u8, prelude_len: usize, member: *const u8, member_len: usize, row: u32) -> u64;
+    fn wnt_moved(
+        form: *const u8,
+        form_len: usize,
+        out: *mut u8,
+        out_len: usize,
+        moved: *mut u8,
+        moved_len: usize,
+        apart: *mut u8,
+        apart_len: usize,
+    ) -> u64;
+    fn wnt_sheet(
+        form: *const u8,
+        form_len: usize,
+        resolved: *const u8,
+        resolved_len: usize,
+        sheet: *const u8,
+        sheet_len: usize,
+        answers: *mut u8,
+        answers_len: usize,
+        work: *mut u8,
+        work_len: usize,
+    ) -> u64;
 }
 
 /// The answer of `wnt_resolve`, which may write into `out`.
@@ -40,4 +72,60 @@ pub fn compare(left: &[u8], right: &[u8], choice: u32, list: &mut [u8]) -> u64 {
 pub fn meant(prelude: &[u8], member: &[u8], row: u32) -> u64 {
     // SAFETY: both parts are valid for their lengths for as long as the call lasts.
     unsafe { wnt_meant(prelude.as_ptr(), prelude.len(), member.as_ptr(), member.len(), row) }
+}
+
+/// The answer of `wnt_moved`, which may write into the last three parts.
+pub fn moved(form: &[u8], out: &mut [u8], moved: &mut [u8], apart: &mut [u8]) -> u64 {
+    // SAFETY: the four parts are valid for their lengths, apart from each other, for as long as the call lasts.
+    unsafe {
+        wnt_moved(
+            form.as_ptr(),
+            form.len(),
+            out.as_mut_ptr(),
+            out.len(),
+            moved.as_mut_ptr(),
+            moved.len(),
+            apart.as_mut_ptr(),
+            apart.len(),
+        )
+    }
+}
+
+/// The answer of `wnt_check`, which works in `table` and `index`.
+pub fn check(form: &[u8], claim: &[u8], table: &mut [[u32; 6]], index: &mut [u16]) -> u64 {
+    let (slots, links) = (table.len(), index.len());
+    // SAFETY: the four parts are valid for their lengths, and the last two are apart from the others, for as long as the
+    // call lasts.
+    unsafe {
+        wnt_check(
+            form.as_ptr(),
+            form.len(),
+            claim.as_ptr(),
+            claim.len(),
+            table.as_mut_ptr(),
+            slots,
+            index.as_mut_ptr(),
+            links,
+        )
+    }
+}
+
+/// The answer of `wnt_sheet`, which writes into `answers` and works in `work`.
+pub fn sheet(form: &[u8], resolved: &[u8], sheet: &[u8], answers: &mut [u8], work: &mut [u8]) -> u64 {
+    // SAFETY: the five parts are valid for their lengths, and the last two are apart from the others, for as long as the
+    // call lasts.
+    unsafe {
+        wnt_sheet(
+            form.as_ptr(),
+            form.len(),
+            resolved.as_ptr(),
+            resolved.len(),
+            sheet.as_ptr(),
+            sheet.len(),
+            answers.as_mut_ptr(),
+            answers.len(),
+            work.as_mut_ptr(),
+            work.len(),
+        )
+    }
 }

@@ -5,13 +5,16 @@ mod bench;
 mod builds;
 mod cases;
 mod chance;
+mod claims;
 mod compare;
 mod damage;
 mod generate;
 mod library;
 mod meant;
 mod mend;
+mod moved;
 mod oracle;
+mod partner;
 mod recognise;
 mod reduce;
 mod renaming;
@@ -21,6 +24,7 @@ mod samples;
 #[cfg(feature = "planted")]
 mod sensitivity;
 mod shapes;
+mod sheet;
 mod source;
 mod spoil;
 // The crate's files decide what is used of these.
@@ -30,6 +34,8 @@ mod sweep;
 mod tally;
 mod tree;
 mod vectors;
+mod verify;
+mod wrong;
 
 use standins::error::Error;
 use standins::{annotation, core, kw, lexer, parser};
@@ -51,7 +57,11 @@ compare --bench FILE [--repetitions N]         time both sides; the picture goes
 compare --shapes FOLDER                        write the benchmark's forms of about 1,000 rows, for a profiler
 compare --samples FOLDER [--forms N]           write accepted random forms and their outputs, for readings.py
 compare --mend N [--seed S]                    mend N spoilt forms, and compare with a mender written for it
-compare --meant N [--seed S]                   ask what the names of N members mean, and compare with a second reading";
+compare --meant N [--seed S]                   ask what the names of N members mean, and compare with a second reading
+compare --moved N [--seed S]                   list the moved numbers of N forms, and compare with a second reading
+compare --sheet N [--seed S]                   hold a binding sheet against N forms, and compare with a second reading
+compare --check N [--seed S]                   check N claimed outputs, and compare with a checker written for it
+compare --check-bench N                        time checking beside resolving, the shortest of N calls each";
 
 /// The value after `--name`, read as a number.
 fn number(arguments: &[String], name: &str) -> Option<u64> {
@@ -142,6 +152,15 @@ fn main() -> ExitCode {
         spoil::run(number(&arguments, "--seed").unwrap_or(1), count)
     } else if let Some(pairs) = number(&arguments, "--meant") {
         meant::run(number(&arguments, "--seed").unwrap_or(1), pairs)
+    } else if let Some(forms) = number(&arguments, "--moved") {
+        moved::run(number(&arguments, "--seed").unwrap_or(1), forms)
+    } else if let Some(forms) = number(&arguments, "--sheet") {
+        sheet::run(number(&arguments, "--seed").unwrap_or(1), forms)
+    } else if let Some(repetitions) = number(&arguments, "--check-bench") {
+        bench::check(repetitions as usize);
+        true
+    } else if let Some(pairs) = number(&arguments, "--check") {
+        verify::run(&comparison(), number(&arguments, "--seed").unwrap_or(1), pairs)
     } else if let Some(pairs) = number(&arguments, "--builds") {
         builds::run(pairs, number(&arguments, "--seed").unwrap_or(1))
     } else if has("--sensitivity") {

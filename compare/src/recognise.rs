@@ -44,7 +44,8 @@ pub fn recognise(shapes: &Shapes, form: &[u8], out_len: usize) -> Result<Vec<Row
     read(shapes, &rows).map(|()| rows)
 }
 
-fn read(shapes: &Shapes, rows: &[Row]) -> Result<(), Refusal> {
+/// Refusals 4 and 5.
+pub fn read(shapes: &Shapes, rows: &[Row]) -> Result<(), Refusal> {
     let mut reading = Reading { shapes, scopes: Vec::new(), paths: 0 };
     for (place, row) in rows.iter().enumerate() {
         reading.row(place, *row).map_err(|bad| match bad {

@@ -5,14 +5,15 @@ use std::fmt;
 
 /// Why a form was refused, and where.
 ///
-/// A `row` is counted from 0. A `place` is the last part of a row, which the form's author chose.
+/// A `row` is counted from 0. A `place` is the last part of a row, which the form's author chose. The limits named here are
+/// those of version 1; a form of version 2 has a header of 16 bytes, 16,383 rows and 64 scopes.
 #[derive(Clone, Copy, Debug, PartialEq, Eq, Hash)]
 pub enum Refusal {
     /// 1: fewer than 8 bytes, or bytes 0 to 5 are not those of the header.
     Header,
     /// 2: the row count is 0 or above 1023, or the length is not 8 + 16 x rows.
     RowCount,
-    /// 3: the output buffer is shorter than 8 + 64 x rows.
+    /// 3: the output buffer is shorter than 8 + 64 x rows, or a working area is too small.
     Room,
     /// 4: a row breaks the form.
     Broken {
@@ -59,6 +60,8 @@ pub enum Refusal {
         /// The second case's.
         place: u32,
     },
+    /// 15: these bytes are no binding sheet, or the form is refused, or the other form is not its resolved form.
+    NotItsSheet,
 }
 
 impl Refusal {
@@ -79,11 +82,12 @@ impl Refusal {
             10 => Refusal::UnknownScope { place },
             11 => Refusal::CountTooLarge { place },
             12 => Refusal::DuplicateCase { place },
+            15 => Refusal::NotItsSheet,
             _ => unreachable!("the static library is of another version: it answered refusal {number}"),
         }
     }
 
-    /// Its number, 1 to 12.
+    /// Its number, 1 to 12, or 15 of a binding sheet.
     pub fn number(self) -> u32 {
         match self {
             Refusal::Header => 1,
@@ -98,13 +102,14 @@ impl Refusal {
             Refusal::UnknownScope { .. } => 10,
             Refusal::CountTooLarge { .. } => 11,
             Refusal::DuplicateCase { .. } => 12,
+            Refusal::NotItsSheet => 15,
         }
     }
 
-    /// Its place: 0 for refusals 1 to 3, a row for 4 and 5, the place of a row for 6 to 12.
+    /// Its place: 0 for refusals 1 to 3 and 15, a row for 4 and 5, the place of a row for 6 to 12.
     pub fn place(self) -> u32 {
         match self {
-            Refusal::Header | Refusal::RowCount | Refusal::Room => 0,
+            Refusal::Header | Refusal::RowCount | Refusal::Room | Refusal::NotItsSheet => 0,
             Refusal::Broken { row } | Refusal::Deep { row } => row,
             Refusal::DuplicateName { place }
             | Refusal::NotExported { place }
@@ -133,6 +138,7 @@ impl Refusal {
             Refusal::UnknownScope { .. } => "no open scope has the name of the outer scope",
             Refusal::CountTooLarge { .. } => "the outer count is not below the number of open scopes",
             Refusal::DuplicateCase { .. } => "an earlier case of this field has that name",
+            Refusal::NotItsSheet => "no sheet, or not an accepted form and its resolved form",
         }
     }
 }
@@ -141,7 +147,7 @@ impl fmt::Display for Refusal {
     fn fmt(&self, f: &mut fmt::Formatter<'_>) -> fmt::Result {
         let (number, place, meaning) = (self.number(), self.place(), self.meaning());
         match number {
-            1..=3 => write!(f, "refused {number}: {meaning}"),
+            1..=3 | 15 => write!(f, "refused {number}: {meaning}"),
             4..=5 => write!(f, "refused {number} at row {place}: {meaning}"),
             _ => write!(f, "refused {number} at place {place}: {meaning}"),
         }
