@@ -88,6 +88,75 @@ enum wnt_number {
  * no call's `out` overlaps a buffer of another; they may share a form. */
 uint64_t wnt_resolve(const uint8_t *form, size_t form_len, uint8_t *out, size_t out_len);
 
+/* ---- Larger forms.
+ *
+ * A form of version 2 is a header of 16 bytes (`WNT`, the version 2 as two bytes, the rule set 0, the row count as four
+ * bytes, six zeros) and 1 to 16383 rows as those of version 1; 64 scopes may be open in it. wnt_resolve takes version 1
+ * alone and answers 1 to any other header; wnt_resolve_with takes both, and for version 2 the refusals above read: 1 fewer
+ * than 16 bytes, or bytes 0 to 5 or 10 to 15 wrong; 2 a row count of 0 or above 16383, or another length than
+ * WNT_FORM_SIZE_2 of it; 3 an output shorter than WNT_OUT_SIZE_2 of it; 5 a scope while 64 are open. */
+#define WNT_HEADER_SIZE_2 16
+#define WNT_MAX_ROWS_2 16383
+#define WNT_FORM_SIZE_2(rows) (16u + 16u * (rows))
+#define WNT_OUT_SIZE_2(rows) (16u + 64u * (rows))
+#define WNT_MAX_FORM_SIZE_2 262144
+#define WNT_MAX_OUT_SIZE_2 1048528
+
+/* The working areas that wnt_resolve_with is lent, by the form's version: two tables of slots, an index for each, and the
+ * ends of fields, all counted in elements. Areas for version 2 are large enough for version 1 too. */
+typedef uint32_t wnt_slot[6];
+#define WNT_SLOTS_1 1024
+#define WNT_LINKS_1 2048
+#define WNT_SLOTS_2 16384
+#define WNT_LINKS_2 17408
+
+/* All areas for a version in one piece: 61440 bytes, and 921600. Both are too large for many a thread's stack; where one
+ * is static or allocated it need not be zeroed before the first call. */
+struct wnt_work_1 {
+    wnt_slot entered[WNT_SLOTS_1], names[WNT_SLOTS_1];
+    uint32_t ends[WNT_SLOTS_1];
+    uint16_t known[WNT_LINKS_1], chains[WNT_LINKS_1];
+};
+struct wnt_work_2 {
+    wnt_slot entered[WNT_SLOTS_2], names[WNT_SLOTS_2];
+    uint32_t ends[WNT_SLOTS_2];
+    uint16_t known[WNT_LINKS_2], chains[WNT_LINKS_2];
+};
+
+/* The last ten arguments of wnt_resolve_with, by a pointer to one of these. */
+#define WNT_LENT(work)                                                                                                  \
+    (work)->entered, sizeof (work)->entered / sizeof(wnt_slot), (work)->names, sizeof (work)->names / sizeof(wnt_slot), \
+        (work)->known, sizeof (work)->known / 2, (work)->chains, sizeof (work)->chains / 2, (work)->ends,               \
+        sizeof (work)->ends / 4
+
+/* Resolves a form of version 1 or 2 into `out`, which then has the form's version, in working areas that are lent:
+ *
+ *     static struct wnt_work_2 work;
+ *     uint64_t answer = wnt_resolve_with(form, form_len, out, out_len, WNT_LENT(&work));
+ *
+ * The answer, and what `out` holds afterwards, are as for wnt_resolve, with the limits of the form's version. An area
+ * with fewer elements than its size for that version is refusal 3, as an output that is too short. What the areas hold
+ * before does not matter. After every return, refusals too, each is zero up to its size for the form's version, or to its
+ * end where it is shorter, and unchanged beyond; a header of neither version counts as version 1 there. No area may
+ * overlap another buffer. A call takes less than 96 KiB of stack. */
+uint64_t wnt_resolve_with(const uint8_t *form, size_t form_len, uint8_t *out, size_t out_len, wnt_slot *entered,
+                          size_t entered_len, wnt_slot *names, size_t names_len, uint16_t *known, size_t known_len,
+                          uint16_t *chains, size_t chains_len, uint32_t *ends, size_t ends_len);
+
+/* Writes a form as one of the version of this number, 1 or 2, to the front of `out`: the same rows behind the other
+ * header. It means what it meant: both versions are resolved to the same rows, or refused alike. A form that has that
+ * version already is copied. From 1 to 2 every form goes; from 2 to 1 one that is within version 1's limits and has rule
+ * set 0. The answer has 0 in its upper half and the rows in its lower, or a refusal, and then `out` is as it was:
+ *
+ *   1        the header is of no version, or there is no version of this number
+ *   2, 3     the form's own row count or length; `out` has no room for the converted form
+ *   4, 5     the form is none; the place is the row
+ *   1, 2, 5  then: version 1 has not the form's rule set, not so many rows, not so many scopes
+ *
+ * A version 2 form with 1 in byte 5, the rule set of the newer tools, is taken as well and keeps it. The two buffers must
+ * not overlap, and for the rest what is said of wnt_resolve holds. */
+uint64_t wnt_convert(const uint8_t *form, size_t form_len, uint32_t version, uint8_t *out, size_t out_len);
+
 /* Mends the form in the first `length` bytes of `buffer`, whose other bytes are room for added rows: a part row is
  * dropped, rows after the root's CLOSE are cut, missing CLOSE rows are added at the end, the row count is set to the rows
  * that there are, and what must be zero is zeroed. Nothing else changes. The answer has 0 in its upper half and the number
@@ -179,6 +248,29 @@ enum wnt_condition {
  * `claim` may be the same, and for the rest what is said of wnt_resolve holds. */
 uint64_t wnt_check(const uint8_t *form, size_t form_len, const uint8_t *claim, size_t claim_len, uint32_t (*table)[6],
                    size_t table_len, uint16_t *index, size_t index_len);
+/* The bytes of an entry of the two lists of wnt_moved, and of the lists by the rows of the form. An entry of the first is
+ * four little endian numbers of four bytes: the place, the space, the row of the form that declares what the number meant,
+ * the row of the resolved form that declares what it gets. One of the second is three: the place, the space, the number.
+ * With PATHs the number is that of the instance where the path begins, and the space the instance's. */
+#define WNT_MOVED_SIZE 16
+#define WNT_APART_SIZE 12
+#define WNT_MOVED_LIST_SIZE(rows) (16u * (rows))
+#define WNT_APART_LIST_SIZE(rows) (12u * (rows))
+
+/* The answer's lower half after acceptance: how many entries each list has. */
+#define WNT_MOVED(answer) ((uint32_t)((answer) & 0xffffu))
+#define WNT_APART(answer) ((uint32_t)(((answer) >> 16) & 0xffffu))
+
+/* Resolves the form into `out` as wnt_resolve does, and lists its written numbers, of references and of outer aliases:
+ * `moved` those that mean another declaration in the resolved form than they did in the form, since inserted aliases come
+ * before what they meant, and `apart` those that counted to no declaration. Each list is in the order of the form's rows.
+ *
+ * The refusals are those of wnt_resolve, and 3 also where `moved` is shorter than WNT_MOVED_LIST_SIZE of the row count or
+ * `apart` than WNT_APART_LIST_SIZE. A refusal leaves both lists as they were, and `out` as after wnt_resolve; one by the
+ * lists' sizes leaves it as it was. After acceptance those first bytes of each list are the entries and then zeros; bytes
+ * beyond never change. No two of the four buffers may overlap, and for the rest what is said of wnt_resolve holds. */
+uint64_t wnt_moved(const uint8_t *form, size_t form_len, uint8_t *out, size_t out_len, uint8_t *moved, size_t moved_len,
+                   uint8_t *apart, size_t apart_len);
 
 /* Which declaration the name in a row of a member means, where the member's root lies inside the root of a prelude. Both
  * are inputs, not resolved forms. A walked name is looked for in the scopes of the member around it and then in the

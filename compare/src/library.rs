@@ -23,6 +23,16 @@ unsafe extern "C" {
         links: usize,
     ) -> u64;
     fn wnt_meant(prelude: *const u8, prelude_len: usize, member: *const u8, member_len: usize, row: u32) -> u64;
+    fn wnt_moved(
+        form: *const u8,
+        form_len: usize,
+        out: *mut u8,
+        out_len: usize,
+        moved: *mut u8,
+        moved_len: usize,
+        apart: *mut u8,
+        apart_len: usize,
+    ) -> u64;
 }
 
 /// The answer of `wnt_resolve`, which may write into `out`.
@@ -50,6 +60,23 @@ pub fn compare(left: &[u8], right: &[u8], choice: u32, list: &mut [u8]) -> u64 {
 pub fn meant(prelude: &[u8], member: &[u8], row: u32) -> u64 {
     // SAFETY: both parts are valid for their lengths for as long as the call lasts.
     unsafe { wnt_meant(prelude.as_ptr(), prelude.len(), member.as_ptr(), member.len(), row) }
+}
+
+/// The answer of `wnt_moved`, which may write into the last three parts.
+pub fn moved(form: &[u8], out: &mut [u8], moved: &mut [u8], apart: &mut [u8]) -> u64 {
+    // SAFETY: the four parts are valid for their lengths, apart from each other, for as long as the call lasts.
+    unsafe {
+        wnt_moved(
+            form.as_ptr(),
+            form.len(),
+            out.as_mut_ptr(),
+            out.len(),
+            moved.as_mut_ptr(),
+            moved.len(),
+            apart.as_mut_ptr(),
+            apart.len(),
+        )
+    }
 }
 
 /// The answer of `wnt_check`, which works in `table` and `index`.

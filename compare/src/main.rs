@@ -12,6 +12,7 @@ mod generate;
 mod library;
 mod meant;
 mod mend;
+mod moved;
 mod oracle;
 mod partner;
 mod recognise;
@@ -56,6 +57,7 @@ compare --shapes FOLDER                        write the benchmark's forms of ab
 compare --samples FOLDER [--forms N]           write accepted random forms and their outputs, for readings.py
 compare --mend N [--seed S]                    mend N spoilt forms, and compare with a mender written for it
 compare --meant N [--seed S]                   ask what the names of N members mean, and compare with a second reading
+compare --moved N [--seed S]                   list the moved numbers of N forms, and compare with a second reading
 compare --check N [--seed S]                   check N claimed outputs, and compare with a checker written for it
 compare --check-bench N                        time checking beside resolving, the shortest of N calls each
 compare --check-vectors N [--seed S] > OTHER   write fixed vectors of claims, at most N of each kind and verdict";
@@ -152,6 +154,8 @@ fn main() -> ExitCode {
     } else if let Some(each) = number(&arguments, "--check-vectors") {
         let seed = number(&arguments, "--seed").unwrap_or(1);
         std::io::stdout().write_all(&verify::vectors(&comparison(), seed, each as usize)).is_ok()
+    } else if let Some(forms) = number(&arguments, "--moved") {
+        moved::run(number(&arguments, "--seed").unwrap_or(1), forms)
     } else if let Some(repetitions) = number(&arguments, "--check-bench") {
         bench::check(repetitions as usize);
         true

@@ -2,7 +2,8 @@
 //!
 //! A form is a header of 8 bytes and rows of 16 bytes; `docs/RULES.md` has both, and all rules. The work is done by
 //! `wnt_resolve` of the proved static library, whose answer and output are fixed for every input. This crate only lends
-//! it the buffers and puts its answer into a `Result`.
+//! it the buffers and puts its answer into a `Result`. Larger forms are of version 2, with a header of 16 bytes:
+//! [`resolve_with`] takes both versions, in a [`WorkingArea`], and [`convert`] goes from one to the other.
 //!
 //! ```
 //! // The empty component: its OPEN and its CLOSE. It has no names and is resolved to itself.
@@ -22,13 +23,17 @@ mod builds;
 mod claims;
 mod members;
 mod mending;
+mod numbers;
 mod refusal;
+mod versions;
 
 pub use builds::{compare, Choice, Entry, Kind};
 pub use claims::{check, check_with, Condition, Verdict, CHECK_LINKS, CHECK_SLOTS};
 pub use members::{meant, Meant, Of};
 pub use mending::{mend, Change};
+pub use numbers::{moved, Apart, Moved, Numbers};
 pub use refusal::Refusal;
+pub use versions::{convert, resolve_into_with, resolve_with, Version, WorkingArea};
 
 /// The bytes of a form's header.
 pub const HEADER_SIZE: usize = 8;

@@ -5,14 +5,15 @@ use std::fmt;
 
 /// Why a form was refused, and where.
 ///
-/// A `row` is counted from 0. A `place` is the last part of a row, which the form's author chose.
+/// A `row` is counted from 0. A `place` is the last part of a row, which the form's author chose. The limits named here are
+/// those of version 1; a form of version 2 has a header of 16 bytes, 16,383 rows and 64 scopes.
 #[derive(Clone, Copy, Debug, PartialEq, Eq, Hash)]
 pub enum Refusal {
     /// 1: fewer than 8 bytes, or bytes 0 to 5 are not those of the header.
     Header,
     /// 2: the row count is 0 or above 1023, or the length is not 8 + 16 x rows.
     RowCount,
-    /// 3: the output buffer is shorter than 8 + 64 x rows.
+    /// 3: the output buffer is shorter than 8 + 64 x rows, or a working area is too small.
     Room,
     /// 4: a row breaks the form.
     Broken {

@@ -1,10 +1,10 @@
 // The run on a form, in working areas that are lent.
-use crate::areas::least;
-use crate::areas::links_for;
-use crate::areas::slots_for;
-use crate::areas::zero_ends;
-use crate::areas::zero_links;
-use crate::areas::zero_slots;
+use crate::sizes::least;
+use crate::sizes::links_for;
+use crate::sizes::slots_for;
+use areas::zero_links;
+use areas::zero_numbers;
+use areas::zero_slots;
 use form::ends::mark_ends_to;
 use form::header::Header;
 use form::header::header_to;
@@ -203,7 +203,7 @@ fn clear(
     zero_slots(names);
     zero_links(known);
     zero_links(chains);
-    zero_ends(ends);
+    zero_numbers(ends);
 }
 
 // The same run, after which all areas are zero.
