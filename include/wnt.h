@@ -246,7 +246,7 @@ enum wnt_condition {
  * The areas may hold anything. After every return both are zero up to these sizes, all of them where they are shorter,
  * and as they were beyond. `table_len` counts slots and `index_len` numbers. The areas must overlap nothing; `form` and
  * `claim` may be the same, and for the rest what is said of wnt_resolve holds. */
-uint64_t wnt_check(const uint8_t *form, size_t form_len, const uint8_t *claim, size_t claim_len, uint32_t (*table)[6],
+uint64_t wnt_check(const uint8_t *form, size_t form_len, const uint8_t *claim, size_t claim_len, wnt_slot *table,
                    size_t table_len, uint16_t *index, size_t index_len);
 /* The bytes of an entry of the two lists of wnt_moved, and of the lists by the rows of the form. An entry of the first is
  * four little endian numbers of four bytes: the place, the space, the row of the form that declares what the number meant,

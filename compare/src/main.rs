@@ -59,7 +59,8 @@ compare --mend N [--seed S]                    mend N spoilt forms, and compare 
 compare --meant N [--seed S]                   ask what the names of N members mean, and compare with a second reading
 compare --moved N [--seed S]                   list the moved numbers of N forms, and compare with a second reading
 compare --check N [--seed S]                   check N claimed outputs, and compare with a checker written for it
-compare --check-bench N                        time checking beside resolving, the shortest of N calls each";
+compare --check-bench N                        time checking beside resolving, the shortest of N calls each
+compare --check-vectors N [--seed S] > OTHER   write fixed vectors of claims, at most N of each kind and verdict";
 
 /// The value after `--name`, read as a number.
 fn number(arguments: &[String], name: &str) -> Option<u64> {
@@ -150,6 +151,9 @@ fn main() -> ExitCode {
         spoil::run(number(&arguments, "--seed").unwrap_or(1), count)
     } else if let Some(pairs) = number(&arguments, "--meant") {
         meant::run(number(&arguments, "--seed").unwrap_or(1), pairs)
+    } else if let Some(each) = number(&arguments, "--check-vectors") {
+        let seed = number(&arguments, "--seed").unwrap_or(1);
+        std::io::stdout().write_all(&verify::vectors(&comparison(), seed, each as usize)).is_ok()
     } else if let Some(forms) = number(&arguments, "--moved") {
         moved::run(number(&arguments, "--seed").unwrap_or(1), forms)
     } else if let Some(repetitions) = number(&arguments, "--check-bench") {
