@@ -31,6 +31,7 @@ mod spoil;
 mod standins;
 mod sweep;
 mod tally;
+mod told;
 mod tree;
 mod vectors;
 mod verify;
@@ -60,7 +61,8 @@ compare --meant N [--seed S]                   ask what the names of N members m
 compare --moved N [--seed S]                   list the moved numbers of N forms, and compare with a second reading
 compare --check N [--seed S]                   check N claimed outputs, and compare with a checker written for it
 compare --check-bench N                        time checking beside resolving, the shortest of N calls each
-compare --check-vectors N [--seed S] > OTHER   write fixed vectors of claims, at most N of each kind and verdict";
+compare --check-vectors N [--seed S] > OTHER   write fixed vectors of claims, at most N of each kind and verdict
+compare --told N [--seed S]                    compare on N forms what refusals tell besides";
 
 /// The value after `--name`, read as a number.
 fn number(arguments: &[String], name: &str) -> Option<u64> {
@@ -161,6 +163,8 @@ fn main() -> ExitCode {
         true
     } else if let Some(pairs) = number(&arguments, "--check") {
         verify::run(&comparison(), number(&arguments, "--seed").unwrap_or(1), pairs)
+    } else if let Some(forms) = number(&arguments, "--told") {
+        told::run(&comparison(), number(&arguments, "--seed").unwrap_or(1), forms)
     } else if let Some(pairs) = number(&arguments, "--builds") {
         builds::run(pairs, number(&arguments, "--seed").unwrap_or(1))
     } else if has("--sensitivity") {
