@@ -1,22 +1,23 @@
-/* How much stack a call of wnt_resolve takes: it runs on a stack of its own that is painted before, and what lost its paint
+/* How much stack a call of wnt_resolve takes, or of wnt_resolve_with for a form of version 2: it runs on a stack of its own that is painted before, and what lost its paint
  * is counted. docs/BENCHMARK.md says how it is built. */
-#include <stdint.h>
+#include "../include/wnt.h"
 #include <stdio.h>
 #include <string.h>
 #include <ucontext.h>
 
-uint64_t wnt_resolve(const uint8_t *form, size_t form_len, uint8_t *out, size_t out_len);
-
 enum { STACK = 1 << 20, PAINT = 0xa5 };
 
 static uint8_t stack[STACK];
-static uint8_t form[8 + 16 * 1023];
-static uint8_t out[8 + 64 * 1023];
+static uint8_t form[WNT_MAX_FORM_SIZE_2];
+static uint8_t out[WNT_MAX_OUT_SIZE_2];
 static size_t form_len;
+static struct wnt_work_2 work;
 static uint64_t answer;
 static ucontext_t here, there;
 
-static void call(void) { answer = wnt_resolve(form, form_len, out, sizeof out); }
+static void call(void) {
+    answer = form[3] == 2 ? wnt_resolve_with(form, form_len, out, sizeof out, WNT_LENT(&work)) : wnt_resolve(form, form_len, out, sizeof out);
+}
 
 /* The bytes of the stack that were touched by one call. */
 static size_t touched(void) {

@@ -9,9 +9,10 @@ use crate::lent::Lender;
 use crate::library;
 use crate::oracle::CRATE;
 use crate::recognise::recognise_as;
-use crate::rows::{FIRST, Row, SECOND, Version};
+use crate::rows::{FIRST, HEADER, ROW, Row, SECOND, Version, encode, output_size};
 use crate::shapes::Shapes;
 use crate::tree::{self, Texts};
+use crate::verify::{LINKS, SLOTS};
 use std::path::Path;
 use std::time::{Duration, Instant};
 
@@ -66,7 +67,7 @@ impl Bench {
         let shapes = Shapes::new();
         let series: Vec<Series> = FORMS.iter().map(|(name, make)| self.series(&shapes, name, *make)).collect();
         println!("{}", if self.version == FIRST { table(&series) } else { growth(&series) });
-        picture::draw(&series)
+        picture::draw(&series, if self.version == FIRST { "wnt_resolve" } else { "wnt_resolve_with" })
     }
 
     fn series(self, shapes: &Shapes, name: &'static str, make: MakeForm) -> Series {
@@ -141,4 +142,29 @@ fn growth(series: &[Series]) -> String {
         text.push_str(&format!("| | the crate |{} |\n", a_row(|each| each.theirs)));
     }
     text
+}
+
+/// Prints what checking an own output costs beside resolving, on the largest form of every shape: the shortest of so many
+/// calls each, one of the two after the other.
+pub fn check(repetitions: usize) {
+    println!("| shape | rows of both forms | wnt_resolve | wnt_check | ratio |\n|---|---|---|---|---|");
+    for (name, make) in FORMS {
+        let form = encode(&make(FIRST.rows));
+        let mut out = vec![0; output_size(form.len() / ROW)];
+        let rows = library::resolve(&form, &mut out) as usize;
+        let claim = out[..HEADER + ROW * rows].to_vec();
+        let (mut table, mut index) = (vec![[0; 6]; SLOTS], vec![0; LINKS]);
+        let (mut resolving, mut checking) = (Duration::MAX, Duration::MAX);
+        for _ in 0..repetitions {
+            let start = Instant::now();
+            library::resolve(&form, &mut out);
+            resolving = resolving.min(start.elapsed());
+            let start = Instant::now();
+            assert_eq!(library::check(&form, &claim, &mut table, &mut index), 0, "an own output is accepted");
+            checking = checking.min(start.elapsed());
+        }
+        let (ours, check) = (resolving.as_nanos() as f64 / 1e3, checking.as_nanos() as f64 / 1e3);
+        let both = form.len() / ROW + rows;
+        println!("| {name} | {both} | {ours:.1} | {check:.1} | {:.2} |", check / ours);
+    }
 }

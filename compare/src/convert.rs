@@ -1,10 +1,10 @@
 //! `wnt_convert` beside a second converter, which is written after the text of the request and shares no code with it.
 
 use crate::chance::Chance;
-use crate::damage::damage;
+use crate::damage::damage_as;
 use crate::generate;
 use crate::library;
-use crate::recognise::{Refusal, read, sized};
+use crate::recognise::{Refusal, read_within, sized};
 use crate::rows::{FIRST, ROW, Row, SECOND, Version};
 use crate::shapes::Shapes;
 use crate::source;
@@ -24,14 +24,14 @@ fn converted(rules: &Rules, form: &[u8], number: u32, out_len: usize) -> Result<
         return Err((3, 0));
     }
     let (rows, shapes) = (from.decode(form), &rules.shapes[usize::from(set)]);
-    read(shapes, &rows, from.scopes)?;
+    read_within(shapes, &rows, from.scopes)?;
     if to == FIRST && set != 0 {
         return Err((1, 0));
     }
     if count > to.rows {
         return Err((2, 0));
     }
-    read(shapes, &rows, to.scopes)?;
+    read_within(shapes, &rows, to.scopes)?;
     Ok([to.head(count, set), form[from.header..].to_vec()].concat())
 }
 
@@ -56,7 +56,7 @@ fn random(rules: &Rules, seed: u64, number: u64) -> Asked {
     if chance.percent(3) {
         lengthen(&mut rows, &mut chance);
     }
-    let mut form = if chance.percent(25) { damage(from, &rows, &mut chance) } else { from.encode(&rows) };
+    let mut form = if chance.percent(25) { damage_as(from, &rows, &mut chance) } else { from.encode(&rows) };
     if set == 1 && form.len() > 5 {
         form[5] = 1;
     }
@@ -107,7 +107,7 @@ fn is_right(rules: &Rules, asked: &Asked) -> (Result<usize, Refusal>, bool) {
 fn fixed(rules: &Rules) -> Vec<Asked> {
     let mut all = Vec::new();
     for from in [FIRST, SECOND] {
-        for (_, case) in source::fixed(from, &rules.shapes[0]) {
+        for (_, case) in source::fixed_of(from, &rules.shapes[0]) {
             for version in [1, 2] {
                 all.push(Asked { form: case.form.clone(), version, out_len: case.form.len() + 8 });
             }

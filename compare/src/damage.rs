@@ -1,10 +1,15 @@
 //! Damaged forms: bytes that were a form before a few things were changed.
 
 use crate::chance::Chance;
-use crate::rows::{FIELD, FIRST_INSERTED, ROW, Row, Version};
+use crate::rows::{FIELD, FIRST, FIRST_INSERTED, ROW, Row, Version};
 
-/// The bytes of the rows, as a form of this version, after one to three changes.
-pub fn damage(version: Version, rows: &[Row], chance: &mut Chance) -> Vec<u8> {
+/// The bytes of the rows, as a form of version 1, after one to three changes.
+pub fn damage(rows: &[Row], chance: &mut Chance) -> Vec<u8> {
+    damage_as(FIRST, rows, chance)
+}
+
+/// The same as a form of this version.
+pub fn damage_as(version: Version, rows: &[Row], chance: &mut Chance) -> Vec<u8> {
     let mut rows = rows.to_vec();
     for _ in 0..chance.below(3) {
         damage_rows(&mut rows, chance);

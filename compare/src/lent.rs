@@ -10,9 +10,6 @@ use crate::source::{self, Stage};
 use crate::tally::Tally;
 use std::time::Instant;
 
-/// The numbers of an index that stand before its links.
-const HEADS: usize = 1024;
-
 /// The most elements that an area is longer than it must be.
 const MORE: usize = 9;
 
@@ -22,7 +19,7 @@ type Lengths = [usize; 5];
 /// The sizes of the areas for a version.
 fn sizes(version: Version) -> Lengths {
     let slots = version.rows + 1;
-    [slots, slots, HEADS + slots, HEADS + slots, slots]
+    [slots, slots, 2 * slots, 2 * slots, slots]
 }
 
 /// A form with its output, and the lengths of its areas.
@@ -152,7 +149,7 @@ fn check(comparison: &Comparison, lender: &mut Lender, lent: &Lent) -> (Answer, 
 fn fixed(comparison: &Comparison) -> Vec<(Stage, Lent)> {
     let mut all = Vec::new();
     for version in [FIRST, SECOND] {
-        for (stage, case) in source::fixed(version, &comparison.shapes) {
+        for (stage, case) in source::fixed_of(version, &comparison.shapes) {
             if stage == Stage::Stated {
                 let mut one_off = Vec::new();
                 for area in 0..5 {

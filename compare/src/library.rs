@@ -32,6 +32,16 @@ unsafe extern "C" {
         ends_len: usize,
     ) -> u64;
     fn wnt_convert(form: *const u8, form_len: usize, version: u32, out: *mut u8, out_len: usize) -> u64;
+    fn wnt_check(
+        form: *const u8,
+        form_len: usize,
+        claim: *const u8,
+        claim_len: usize,
+        table: *mut [u32; 6],
+        slots: usize,
+        index: *mut u16,
+        links: usize,
+    ) -> u64;
     fn wnt_meant(prelude: *const u8, prelude_len: usize, member: *const u8, member_len: usize, row: u32) -> u64;
 }
 
@@ -99,4 +109,23 @@ pub fn compare(left: &[u8], right: &[u8], choice: u32, list: &mut [u8]) -> u64 {
 pub fn meant(prelude: &[u8], member: &[u8], row: u32) -> u64 {
     // SAFETY: both parts are valid for their lengths for as long as the call lasts.
     unsafe { wnt_meant(prelude.as_ptr(), prelude.len(), member.as_ptr(), member.len(), row) }
+}
+
+/// The answer of `wnt_check`, which works in `table` and `index`.
+pub fn check(form: &[u8], claim: &[u8], table: &mut [[u32; 6]], index: &mut [u16]) -> u64 {
+    let (slots, links) = (table.len(), index.len());
+    // SAFETY: the four parts are valid for their lengths, and the last two are apart from the others, for as long as the
+    // call lasts.
+    unsafe {
+        wnt_check(
+            form.as_ptr(),
+            form.len(),
+            claim.as_ptr(),
+            claim.len(),
+            table.as_mut_ptr(),
+            slots,
+            index.as_mut_ptr(),
+            links,
+        )
+    }
 }

@@ -5,6 +5,7 @@ mod bench;
 mod builds;
 mod cases;
 mod chance;
+mod claims;
 mod compare;
 mod convert;
 mod damage;
@@ -14,6 +15,7 @@ mod library;
 mod meant;
 mod mend;
 mod oracle;
+mod partner;
 mod recognise;
 mod reduce;
 mod renaming;
@@ -32,6 +34,8 @@ mod sweep;
 mod tally;
 mod tree;
 mod vectors;
+mod verify;
+mod wrong;
 
 use standins::error::Error;
 use standins::{annotation, core, kw, lexer, parser};
@@ -57,7 +61,9 @@ compare --samples FOLDER [--forms N]           write accepted random forms and t
 compare --lent N [--seed S]                    resolve N forms of both versions in areas that are lent, and compare
 compare --convert N [--seed S]                 convert N forms, and compare with a converter written for it
 compare --mend N [--seed S]                    mend N spoilt forms, and compare with a mender written for it
-compare --meant N [--seed S]                   ask what the names of N members mean, and compare with a second reading";
+compare --meant N [--seed S]                   ask what the names of N members mean, and compare with a second reading
+compare --check N [--seed S]                   check N claimed outputs, and compare with a checker written for it
+compare --check-bench N                        time checking beside resolving, the shortest of N calls each";
 
 /// The value after `--name`, read as a number.
 fn number(arguments: &[String], name: &str) -> Option<u64> {
@@ -157,6 +163,11 @@ fn main() -> ExitCode {
         spoil::run(number(&arguments, "--seed").unwrap_or(1), count)
     } else if let Some(pairs) = number(&arguments, "--meant") {
         meant::run(number(&arguments, "--seed").unwrap_or(1), pairs)
+    } else if let Some(repetitions) = number(&arguments, "--check-bench") {
+        bench::check(repetitions as usize);
+        true
+    } else if let Some(pairs) = number(&arguments, "--check") {
+        verify::run(&comparison(), number(&arguments, "--seed").unwrap_or(1), pairs)
     } else if let Some(pairs) = number(&arguments, "--builds") {
         builds::run(pairs, number(&arguments, "--seed").unwrap_or(1))
     } else if has("--sensitivity") {

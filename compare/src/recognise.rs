@@ -44,7 +44,7 @@ pub fn recognise_as(version: Version, shapes: &Shapes, form: &[u8], out_len: usi
         return Err((3, 0));
     }
     let rows = version.decode(form);
-    read(shapes, &rows, version.scopes).map(|()| rows)
+    read_within(shapes, &rows, version.scopes).map(|()| rows)
 }
 
 /// The row count that a header of this version states, if it may and the form is as long.
@@ -54,8 +54,13 @@ pub fn sized(version: Version, form: &[u8]) -> Result<usize, Refusal> {
     if sound { Ok(count) } else { Err((2, 0)) }
 }
 
-/// Whether rows are a form with no more than `most` scopes open.
-pub fn read(shapes: &Shapes, rows: &[Row], most: usize) -> Result<(), Refusal> {
+/// Refusals 4 and 5 of version 1.
+pub fn read(shapes: &Shapes, rows: &[Row]) -> Result<(), Refusal> {
+    read_within(shapes, rows, FIRST.scopes)
+}
+
+/// The same with so many scopes open.
+pub fn read_within(shapes: &Shapes, rows: &[Row], most: usize) -> Result<(), Refusal> {
     let mut reading = Reading { shapes, most, scopes: Vec::new(), paths: 0 };
     for (place, row) in rows.iter().enumerate() {
         reading.row(place, *row).map_err(|bad| match bad {

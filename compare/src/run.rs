@@ -3,7 +3,7 @@
 use crate::cases;
 use crate::compare::{Case, Comparison};
 use crate::reduce;
-use crate::rows::{Answer, FIRST};
+use crate::rows::Answer;
 use crate::source::{self, Stage};
 use crate::tally::Tally;
 use std::time::Instant;
@@ -31,7 +31,7 @@ pub fn run(comparison: &Comparison, seed: u64, until: Until) -> bool {
     }
     let start = Instant::now();
     let mut tally = Tally::default();
-    let fixed = source::fixed(FIRST, &comparison.shapes).into_iter();
+    let fixed = source::fixed(&comparison.shapes).into_iter();
     let random = (0..).map(|number| source::random(&comparison.shapes, seed, number));
     for (stage, case) in fixed.chain(random) {
         if is_over(until, &tally, start) {

@@ -4,7 +4,7 @@ use crate::compare::{Case, Comparison, Subject};
 use crate::library;
 use crate::oracle::{CRATE, Oracle, Resolve};
 use crate::reduce;
-use crate::rows::{FIRST, decode};
+use crate::rows::decode;
 use crate::shapes::Shapes;
 use crate::source::{self, Stage};
 
@@ -18,7 +18,7 @@ const PATIENCE: u64 = 300_000;
 /// Runs every change and prints a table; answers whether each was caught.
 pub fn run(seed: u64) -> bool {
     std::panic::set_hook(Box::new(|_| {}));
-    let fixed = source::fixed(FIRST, &Shapes::new());
+    let fixed = source::fixed(&Shapes::new());
     println!("| side | change | caught by | rows of the smallest form |\n|---|---|---|---|");
     let mut survivors = 0;
     for (name, resolve) in COPIES {

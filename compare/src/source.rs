@@ -3,7 +3,7 @@
 use crate::cases;
 use crate::chance::Chance;
 use crate::compare::Case;
-use crate::damage::damage;
+use crate::damage::damage_as;
 use crate::generate;
 use crate::rows::{FIRST, Version};
 use crate::shapes::Shapes;
@@ -24,8 +24,13 @@ const DAMAGED: u64 = 4;
 /// How many of the trees that a form of the sweep stands for are tried.
 const TREES: usize = 3;
 
-/// The forms of a version that do not depend on a seed, and with which stage they belong.
-pub fn fixed(version: Version, shapes: &Shapes) -> Vec<(Stage, Case)> {
+/// The forms of version 1 that do not depend on a seed, and with which stage they belong.
+pub fn fixed(shapes: &Shapes) -> Vec<(Stage, Case)> {
+    fixed_of(FIRST, shapes)
+}
+
+/// The same for this version.
+pub fn fixed_of(version: Version, shapes: &Shapes) -> Vec<(Stage, Case)> {
     let mut chance = Chance::new(0);
     let mut cases = Vec::new();
     for stated in cases::stated() {
@@ -50,7 +55,7 @@ pub fn random_of(version: Version, shapes: &Shapes, seed: u64, number: u64) -> (
     let mut chance = Chance::new(seed.rotate_left(32) ^ number);
     let rows = generate::form_of(version, shapes, chance.next());
     if number % DAMAGED == 0 {
-        let form = damage(version, &rows, &mut chance);
+        let form = damage_as(version, &rows, &mut chance);
         return (Stage::Damaged, Case::new(form, &mut chance));
     }
     (Stage::Random, Case::new(version.encode(&rows), &mut chance))

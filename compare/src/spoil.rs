@@ -5,7 +5,7 @@ use crate::damage::damage;
 use crate::generate;
 use crate::library;
 use crate::mend::{Left, mend};
-use crate::rows::{CLOSE, FIELD, FIRST, HEADER, OPEN, OUTER, ROW, Row, encode};
+use crate::rows::{CLOSE, FIELD, HEADER, OPEN, OUTER, ROW, Row, encode};
 use crate::shapes::Shapes;
 use std::collections::BTreeMap;
 
@@ -72,7 +72,7 @@ fn spoilt_form(shapes: &Shapes, chance: &mut Chance) -> Vec<u8> {
     }
     let mut bytes = match chance.below(20) {
         0 => (0..chance.below(200)).map(|_| chance.below(12) as u8).collect(),
-        1 | 2 => damage(FIRST, &rows, chance),
+        1 | 2 => damage(&rows, chance),
         3 => {
             // As many rows as a form may have, and a few more or less.
             let open = Row::new(OPEN, 0, 0, 0, 0, 0);

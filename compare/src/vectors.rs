@@ -6,7 +6,7 @@
 //! is 165.
 
 use crate::compare::{Case, Comparison};
-use crate::rows::{Answer, CLOSE, FIELD, FIRST, HEADER, OPEN, REF, ROW, Row, decode, encode, output_size};
+use crate::rows::{Answer, CLOSE, FIELD, HEADER, OPEN, REF, ROW, Row, decode, encode, output_size};
 use crate::shapes::EXPORT_FIELD;
 use crate::source::{self, Stage};
 use crate::tally::Tally;
@@ -36,7 +36,7 @@ pub fn file(comparison: &Comparison, kept: &[u8], most: usize, seed: u64) -> (Ve
         forms.insert(case.form);
     }
     assert!(bytes == kept, "a vector that is kept has another answer now");
-    let fixed = source::fixed(FIRST, &comparison.shapes).into_iter();
+    let fixed = source::fixed(&comparison.shapes).into_iter();
     let random = (0..RANDOM).map(|number| source::random(&comparison.shapes, seed, number));
     let small = |(stage, case): &(Stage, Case)| case.form.len() <= HEADER + ROW * largest(*stage);
     for (stage, case) in fixed.chain(random).filter(small) {

@@ -83,12 +83,13 @@ decls-within : (k : ℕ) (past ds : List Declaration) → k < 65536 → SpacesDe
 unfolding declSlots slotT
 decls-within k past [] l sp = done
 decls-within k past (d ∷ ds) l sp =
-    let w = key-within k (d .space) l (sp .0) in
+    let h = sp .0 in
+    let w = key-within k (d .space) l (omega arith) in
     record { low = w .0; high = w .1 } & decls-within k (past ++ (d ∷ [])) ds l (sp .1)
 
 -- slots of scopes outside of these rows
 pub record Out (lo hi : ℕ) (s : Slot) : Type 0 where
-  pub side : (spaceOf s < 13 * lo) ⊎ (13 * hi ≤ spaceOf s)
+  pub side : (spaceOf s < 257 * lo) ⊎ (257 * hi ≤ spaceOf s)
 
 abbrev pub Beyond : (lo hi : ℕ) → List Slot → Type 0
 Beyond lo hi ss = All (Out lo hi) ss
@@ -104,7 +105,7 @@ behind-these lo hi lo′ hi′ ss a p = all-map ss (λ s o. let u = o .low in re
 
 beyond-other : (lo hi k space : ℕ) (ss : List Slot) → k < 65536 → space < 13 → lo ≤ k → k < hi → Beyond lo hi ss → All (Other (keyT k space)) ss
 beyond-other lo hi k space ss l h a b p =
-    let w = key-within k space l h in
+    let w = key-within k space l (omega arith) in
     let u = w .0 in
     let v = w .1 in
     all-map ss (λ s o. λ e. ⊎-elim (λ q. omega arith) (λ q. omega arith) (o .side)) p
@@ -198,7 +199,7 @@ module _ (rules : RuleSet) where
       let I = itemSlots (n + length hs) i in
       let F = fieldsSlots (n + length (itemRows i)) k (past ++ headOf i .decls) fs in
       let G = declSlots k (past ++ headOf i .decls) (declarations fs) in
-      let inner : All (Other (keyT k space)) I = outside (n + length hs) (n + length hs + length (innerRows i)) k space I l h (item-within kind i (n + length hs) (g .0) (omega arith)) .0 (omega arith) in
+      let inner : All (Other (keyT k space)) I = outside (n + length hs) (n + length hs + length (innerRows i)) k space I l (omega arith) (item-within kind i (n + length hs) (g .0) (omega arith)) .0 (omega arith) in
       let later : findIn F (keyT k space) x ≡ findIn G (keyT k space) x = own-found kind fs (n + length (itemRows i)) k (past ++ headOf i .decls) space x (g .1) h l (omega arith) (omega arith) in
       rw (find-append D (I ++ F) (keyT k space) x, other-first I F (keyT k space) x inner, decls-append k past (headOf i .decls) (declarations fs), find-append D G (keyT k space) x, later)
 

@@ -24,7 +24,7 @@ use Rattle.back_rows.specs.Write.{beforeField, Going, going, goes, goesOn, serv
 use Rattle.back_rows.specs.declared.alias.Alias.{Alias}
 use Rattle.back_laws.specs.Stand.{with}
 use Rattle.back_laws.specs.Groups.{no-groups, shifted}
-use Rattle.back_laws.specs.Restored.{putOne, putRows, put-append, then-is, then-same, seenAt, Shown, Waits, all, more, is-for, shown-rest, Restores, restored, fewer}
+use Rattle.back_laws.specs.Restored.{putOne, putRows, put-append, then-is, then-same, seenAt, Shown, Waits, all, more, is-for, shown-rest, Restores, restored, behind, fewer}
 use Rattle.back_laws.specs.Backward.{After, Ends, Own, own-row, own-outer, NotFresh, copied, referred, copy-after, put-copied, then-after}
 
 -- ---- operands of resolved fields, a row each
@@ -64,7 +64,7 @@ before-ops rest (one-op {xs = xs} b n p) = go (before-ops rest p)
     go : beforeField (xs ++ rest) ≡ beforeField rest → beforeField (with (opRow b) n ∷ (xs ++ rest)) ≡ beforeField rest
     go e = unfold beforeField pick in rw (ne-eqb (codeIn (opRow b)) 1 (op-code b .0)) e
 
-ops-not-fresh : {os : List Operand} {xs : List Noted} (rest : List Noted) → Ops os xs → NotFresh rest → NotFresh (xs ++ rest)
+pub ops-not-fresh : {os : List Operand} {xs : List Noted} (rest : List Noted) → Ops os xs → NotFresh rest → NotFresh (xs ++ rest)
 ops-not-fresh rest no-ops f = f
 ops-not-fresh rest (one-op b n p) f = λ e. absurd (op-code b .1 e)
 
@@ -123,7 +123,7 @@ module _ (here : List Declaration) (outside : List (List Declaration)) where
   no-for : (a : Alias) (p : Parts) → a .size ≡ 0 → forT a p ≡ false
   no-for a p e = rw e
 
-  module _ (before : List Noted) (nothing : Own before) (l₀ D : List Noted) (k : Wrote → Wrote) (ends : After D k) (field : beforeField D ≡ l₀) (low : NotFresh D) where
+  module _ (before : List Noted) (nothing : Own before) (some-before : 0 < length before) (l₀ D : List Noted) (k : Wrote → Wrote) (ends : After D k) (field : beforeField D ≡ l₀) (low : NotFresh D) where
     -- what is to be shown of operands
     pub record Done (os : List Operand) (xs : List Noted) (hs : List Head) (l : List Noted) : Type 0 where
       pub does : (inside : Bool) (left : List Noted) → pick inside left l₀ ≡ l → (to : ℕ) (out : List ℕ) → backT (xs ++ D) (going 0 inside left to) out ≡ k (putRows (operandRows (reverse (firstFit here outside os (waiting hs)))) (to & out))
@@ -247,13 +247,13 @@ module _ (here : List Declaration) (outside : List (List Declaration)) where
     ref-done space n z {os} {xs} m p {h} {ys} {hs} {l} A W R true e stays serves =
         let o = ref space (Num n) [] z in
         let fits : isFor here outside (R .group .decl) o ≡ true = rw (R .decl-is) e in
-        serve-done space n z m p (seenAt here outside A (length l)) (R .group) (A .sees l) (shown-rest here outside A l) (rw (ref-parts space n z) (is-for here outside A (length l) space n z ∙ e))
+        serve-done space n z m p (seenAt here outside A (length l)) (R .group) (A .sees l (behind here outside before nothing some-before W)) (shown-rest here outside A l) (rw (ref-parts space n z) (is-for here outside A (length l) space n z ∙ e))
         (writes-pair (λ to out. restoreT (seenAt here outside A (length l)) l to out) (λ w. leaves (putRows (operandRow (R .group .was)) w) (R .l′)) (R .writes))
         (rw (waiting-more h hs (R .hs′) (R .group) (R .is)) (fit-first o os (R .group) (waiting (R .hs′)) fits)) serves
     ref-done space n z {os} {xs} m p {h} {ys} {hs} {l} A W R false e stays serves =
         let o = ref space (Num n) [] z in
         let misses : isFor here outside (R .group .decl) o ≡ false = rw (R .decl-is) e in
-        stay-done space n z m p (rw (A .sees l, ref-parts space n z) (is-for here outside A (length l) space n z ∙ e))
+        stay-done space n z m p (rw (A .sees l (behind here outside before nothing some-before W), ref-parts space n z) (is-for here outside A (length l) space n z ∙ e))
         (rw (waiting-more h hs (R .hs′) (R .group) (R .is)) (fit-later o os (R .group) (waiting (R .hs′)) misses)) stays
 
     -- THE OPERANDS of a field are written as the rules restore them.
@@ -268,6 +268,6 @@ module _ (here : List Declaration) (outside : List (List Declaration)) where
     ops (one-op {os = os} (a-ref space m z) n p) all s =
         stay-done space m z n p (no-for (aliasT before) (asParts (opRow (a-ref space m z))) nothing) (rw waiting-none (fit-none (ref space (Num m) [] z ∷ os) ∙ ap (λ (x : List Operand). ref space (Num m) [] z ∷ x) (sym (fit-none os)))) (ops p all s)
     ops (one-op (a-ref space m z) n p) (more {hs = hs} A W) s =
-        let R = restored here outside before nothing A W (omega arith) in
+        let R = restored here outside before nothing some-before A W (omega arith) in
         let less = R .less in
         ref-done space m z n p A W R (isFor here outside (A .decl) (ref space (Num m) [] z)) refl (ops p (more A W) s) (ops p (R .waits) (omega arith))

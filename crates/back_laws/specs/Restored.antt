@@ -92,7 +92,7 @@ module _ (here : List Declaration) (outside : List (List Declaration)) where
     pub kind : Kind h operand value
     pub size : ℕ
     pub long : length xs ≡ suc size
-    pub sees : (l : List Noted) → aliasT (xs ++ l) ≡ seen (suc size) (length l) h decl number operand value
+    pub sees : (l : List Noted) → 0 < length l → aliasT (xs ++ l) ≡ seen (suc size) (length l) h decl number operand value
 
   abbrev pub seenAt : {h : Head} {xs : List Noted} → Shown h xs → (start : ℕ) → Alias
   seenAt {h} s start = seen (suc (s .size)) start h (s .decl) (s .number) (s .operand) (s .value)
@@ -141,6 +141,11 @@ module _ (here : List Declaration) (outside : List (List Declaration)) where
   pub fewer : {before : List Noted} {hs : List Head} {l : List Noted} → Waits before hs l → length hs ≤ length l
   fewer all = omega arith
   fewer (more {xs = xs} {l = l} s w) = let e = s .long in let f = fewer w in omega (arith, length-append xs l)
+
+  -- and the rows before them are among these
+  pub fuller : {before : List Noted} {hs : List Head} {l : List Noted} → Waits before hs l → length before ≤ length l
+  fuller all = omega arith
+  fuller (more {xs = xs} {l = l} s w) = let f = fuller w in omega (arith, length-append xs l)
 
   -- The last of these fields, and those before it that it goes on with, are one group: what is written for it, and which fields are left.
   pub record Restores (before : List Noted) (hs tail : List Head) (d : Declaration) (f : Wrote → Out Rest (List ℕ)) : Type 0 where
@@ -221,7 +226,10 @@ module _ (here : List Declaration) (outside : List (List Declaration)) where
   unfolding links
   linked-nine a b e = eqb-true (a .code) 9 (and-left (eqb (a .code) 9) _ e)
 
-  module _ (before : List Noted) (nothing : aliasT before .size ≡ 0) where
+  module _ (before : List Noted) (nothing : aliasT before .size ≡ 0) (some-before : 0 < length before) where
+    pub behind : {hs : List Head} {l : List Noted} → Waits before hs l → 0 < length l
+    behind W = let f = fuller W in omega arith
+
     path : {hs tail : List Head} {l : List Noted} (W : Waits before hs l) (turns : ℕ) (last : Alias) {b : Head} {ys : List Noted} (B : Shown b ys) (m : ℕ) (ps : List ℕ) (g : Group) → length hs ≤ turns
         → length ps + length hs < 4294967296 → groups here outside (b ∷ tail) ≡ g ∷ [] → g .was ≡ ref (last .decl .b) (Num (B .operand .x)) ps (last .operand .z)
         → Restores before hs (b ∷ tail) (g .decl) (λ w. wroteThen (putRows (pathRows ps) w) (λ to out. pathT turns last (seenAt B m) l (length ps) to out))
@@ -239,9 +247,9 @@ module _ (here : List Declaration) (outside : List (List Declaration)) where
         go : (t : Bool) → links here outside a b ≡ t → (links here outside a b ≡ true → Restores before hs (a ∷ (b ∷ tail)) (g .decl) onward)
             → Restores before (a ∷ hs) (b ∷ tail) (g .decl) (λ w. wroteThen (putRows (pathRows ps) w) (λ to out. pathT (suc turns) last (seenAt B m) (xs ++ l) (length ps) to out))
         go false e below =
-            stops (suc turns) last (seenAt B m) (B .operand .x) ps g (more A W) refl was (rw (A .sees l) (is-linked A B (length l) m ∙ e)) (parted here outside hs a b tail g e one)
+            stops (suc turns) last (seenAt B m) (B .operand .x) ps g (more A W) refl was (rw (A .sees l (behind W)) (is-linked A B (length l) m ∙ e)) (parted here outside hs a b tail g e one)
         go true e below =
-            on-with _ onward (goes-on turns last (seenAt B m) (seenAt A (length l)) (xs ++ l) l ps (A .sees l) (shown-rest A l) (is-linked A B (length l) m ∙ e) (omega arith)) (below e)
+            on-with _ onward (goes-on turns last (seenAt B m) (seenAt A (length l)) (xs ++ l) l ps (A .sees l (behind W)) (shown-rest A l) (is-linked A B (length l) m ∙ e) (omega arith)) (below e)
 
     -- ---- the last of the fields
 

@@ -13,7 +13,7 @@ ghost use lib.ListN.{length};
 ghost use Rattle.claim_check.specs.Run.{Fit, noT, fourthT, thirdT, conditionsT};
 
 // The condition is broken, first at this row.
-fn no(condition: u32, row: usize) -> Verdict
+fn no(condition: u8, row: usize) -> Verdict
     ensures { λ r. ⌜ r ≡ noT condition row ⌝ }
 {
     Verdict::No {

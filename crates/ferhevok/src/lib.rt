@@ -1,5 +1,6 @@
 // What other languages link: the library's C functions, each a thin one over a function of the crates below.
 pub mod builds;
+pub mod claims;
 pub mod in_place;
 pub mod lent;
 pub mod members;

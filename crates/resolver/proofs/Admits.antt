@@ -15,8 +15,8 @@ use Rattle.rules.specs.Tree.{Scope, flatten, Reading, bad, deep, form}
 use Rattle.rules.specs.Good.{height}
 use Rattle.rules.specs.Begins.{IsForm}
 use Rattle.rules.specs.Reader.{read}
-use Rattle.rules.specs.Rules.{resolveInside}
-use Rattle.rules.specs.Answer.{AnswerOf, refused, accepted, mapAnswer, hasHeader, settingOf, rowCount, rowsIn, resolved, afterReading, formIn, answerIn, answerFor, answerInside, answer, outputAfter, outputFor, outputInside, output}
+use Rattle.rules.specs.Rules.{Env, resolveInside}
+use Rattle.rules.specs.Answer.{AnswerOf, refused, accepted, mapAnswer, mark, hasHeader, settingOf, scopesLeft, rowCount, rowsIn, resolved, afterReading, formIn, answerIn, answerFor, answerInside, answer, outputAfter, outputFor, outputInside, output}
 use Rattle.rules.specs.Laws.Results.{if-both}
 use Rattle.read_form.specs.ReadForm.{_andThen_, asAnswer, readForm}
 use Rattle.read_form.specs.Laws.ReadFormLaws.{past, read-exactly}
@@ -40,12 +40,28 @@ both-true false b e = (e, absurd (let z : _≡_ {A = ℕ} 0 1 = cc in omega arit
 
 -- ---- the rules' answer and output, of what is admitted
 
-module _ (s : Setting) (input : List ℕ) where
+-- a setting as it is left inside these scopes, of which each takes one of the scopes that may be open
+abbrev pub leftIn : (around : List Env) → Setting → Setting
+leftIn around s =
+    record {
+      version =
+          record {
+            number = s .version .number;
+            header = s .version .header;
+            counting = s .version .counting;
+            names = s .version .names;
+            rows = s .version .rows;
+            scopes = scopesLeft (s .version .scopes) around;
+          };
+      rules = s .rules;
+    }
+
+module _ (around : List Env) (s : Setting) (input : List ℕ) where
   -- what the steps answer
   abbrev pub steps : Scope → AnswerOf Scope
-  steps t = resolved (resolveInside (s .rules) [] t)
+  steps t = resolved (resolveInside (s .rules) around t)
 
-  read-then : (r : Reading) → afterReading [] (s .rules) r ≡ (asAnswer r andThen steps)
+  read-then : (r : Reading) → afterReading around (s .rules) r ≡ (asAnswer r andThen steps)
   unfolding afterReading asAnswer _andThen_
   read-then (bad place) = refl
   read-then (deep place) = refl
@@ -60,31 +76,41 @@ module _ (s : Setting) (input : List ℕ) where
   tests-then true true true x y e = refl
   tests-then true true false x y e = e
 
-  pub answer-one : (room : ℕ) → answer (s ∷ []) input room ≡ mapAnswer flatten (admit s input room andThen steps)
-  unfolding answer answerInside settingOf admit isShort readForm
-  answer-one room = go (hasHeader s input)
+  pub answer-inside : (room : ℕ) → answerInside around (s ∷ []) input room ≡ mapAnswer flatten (admit (leftIn around s) input room andThen steps)
+  unfolding answerInside settingOf admit isShort readForm hasHeader mark rowCount
+  answer-inside room = go (hasHeader s input)
     where
       go : (b : Bool)
-          → answerFor [] (only b s orElse none) input room
+          → answerFor around (only b s orElse none) input room
           ≡ mapAnswer flatten
           ((if b && (between 1 (s .version .rows) (rowCount (s .version) input) && (eqb (length input) (s .version .header + 16 * rowCount (s .version) input) && ltb room (s .version .header + 64 * rowCount (s .version) input))) then refused 3 0 []
           else if not b then refused 1 0 []
           else if not (between 1 (s .version .rows) (rowCount (s .version) input)) || not (eqb (length input) (s .version .header + 16 * rowCount (s .version) input)) then refused 2 0 []
-          else asAnswer (read (s .rules) (s .version .scopes) (rowsIn s input)))
+          else asAnswer (read (s .rules) (scopesLeft (s .version .scopes) around) (rowsIn s input)))
           andThen steps)
       go true =
           unfold answerFor answerIn formIn only _orElse_ if_then_else_ in
           ap (mapAnswer flatten)
-          (tests-then (between 1 (s .version .rows) (rowCount (s .version) input)) (eqb (length input) (s .version .header + 16 * rowCount (s .version) input)) (ltb room (s .version .header + 64 * rowCount (s .version) input)) _ _ (read-then (read (s .rules) (s .version .scopes) (rowsIn s input))))
+          (tests-then (between 1 (s .version .rows) (rowCount (s .version) input)) (eqb (length input) (s .version .header + 16 * rowCount (s .version) input)) (ltb room (s .version .header + 64 * rowCount (s .version) input)) _ _ (read-then (read (s .rules) (scopesLeft (s .version .scopes) around) (rowsIn s input))))
       go false = unfold answerFor only _orElse_ if_then_else_ _andThen_ mapAnswer in refl
 
-  pub output-one : (old : List ℕ) → output (s ∷ []) input old ≡ outputAfter s (answer (s ∷ []) input (length old)) (s .version .header + 64 * rowCount (s .version) input) old
-  unfolding output outputInside answer answerInside settingOf
-  output-one old = go (hasHeader s input)
+  pub output-inside : (old : List ℕ) → outputInside around (s ∷ []) input old ≡ outputAfter s (answerInside around (s ∷ []) input (length old)) (s .version .header + 64 * rowCount (s .version) input) old
+  unfolding outputInside answerInside settingOf
+  output-inside old = go (hasHeader s input)
     where
-      go : (b : Bool) → outputFor [] (only b s orElse none) input old ≡ outputAfter s (answerFor [] (only b s orElse none) input (length old)) (s .version .header + 64 * rowCount (s .version) input) old
+      go : (b : Bool) → outputFor around (only b s orElse none) input old ≡ outputAfter s (answerFor around (only b s orElse none) input (length old)) (s .version .header + 64 * rowCount (s .version) input) old
       go true = unfold outputFor answerFor only _orElse_ in refl
       go false = unfold outputFor answerFor only _orElse_ outputAfter if_then_else_ in refl
+
+-- a form by itself
+module _ (s : Setting) (input : List ℕ) where
+  pub answer-one : (room : ℕ) → answer (s ∷ []) input room ≡ mapAnswer flatten (admit s input room andThen steps [] s input)
+  unfolding answer
+  answer-one room = answer-inside [] s input room
+
+  pub output-one : (old : List ℕ) → output (s ∷ []) input old ≡ outputAfter s (answer (s ∷ []) input (length old)) (s .version .header + 64 * rowCount (s .version) input) old
+  unfolding output answer
+  output-one old = output-inside [] s input old
 
 -- ---- what is admitted
 
