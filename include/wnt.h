@@ -212,9 +212,9 @@ typedef uint32_t wnt_slot[6];
 #define WNT_SLOTS_1 1024
 #define WNT_LINKS_1 2048
 #define WNT_SLOTS_2 16384
-#define WNT_LINKS_2 17408
+#define WNT_LINKS_2 32768
 
-/* All areas for a version in one piece: 61440 bytes, and 921600. Both are too large for many a thread's stack; where one
+/* All areas for a version in one piece: 61440 bytes, and 983040. Both are too large for many a thread's stack; where one
  * is static or allocated it need not be zeroed before the first call. */
 struct wnt_work_1 {
     wnt_slot entered[WNT_SLOTS_1], names[WNT_SLOTS_1];

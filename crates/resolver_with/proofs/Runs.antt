@@ -36,7 +36,7 @@ use Rattle.resolver.specs.Run.{seenOf, walkIn, fillT}
 use Rattle.resolver.specs.declared.run.Answer.{Answer}
 use Rattle.resolver.specs.declared.run.Answer.the-variants.{Refused}
 use Rattle.resolver.proofs.Bytes.{all-bytes}
-use Rattle.resolver.proofs.Starts.{served-zero, stacked-start}
+use Rattle.resolver.proofs.Starts.{served-new, stacked-start}
 use Rattle.resolver.proofs.Root.{able-1, able-2, Rooms}
 use Rattle.resolver.proofs.Agrees.{answers-early, leaves-early, run-agrees}
 use Rattle.resolver_with.specs.Areas.{slotsFor, linksFor, Lent, lentOf, roomy, cleared, Cleared}
@@ -75,7 +75,7 @@ module _ (i : ℕ) (entered names : List Slot) (known chains ends : List ℕ) (s
   pub served-in : (k c : List ℕ) (used : ℕ) → k ≡ replicate (length known) 0 → c ≡ replicate (length chains) 0 → used ≡ 0 → Served entered k names c used
   served-in k c used p q u =
       let f = few-in i (suits .served) in
-      rw (p, q) (served-zero entered names (length known) (length chains) used (omega (arith, suits .known, suits .entered)) (omega (arith, suits .chains, suits .names)) (omega (arith, suits .entered)) (omega (arith, suits .names)) u)
+      rw (p, q) (served-new (slotsFor (setting i .version)) (omega arith) entered names (length known) (length chains) used (omega (arith, suits .known, suits .entered)) (omega (arith, suits .chains, suits .names)) (omega (arith, suits .entered)) (omega (arith, suits .names)) u)
 
   module _ (l : Limits) (limits : l ≡ limitsOf (setting i)) (most : ℕ) (scopes-are : most ≡ l .scopes) where
     most-is : most ≡ setting i .version .scopes
