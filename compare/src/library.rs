@@ -61,6 +61,18 @@ unsafe extern "C" {
         apart: *mut u8,
         apart_len: usize,
     ) -> u64;
+    fn wnt_sheet(
+        form: *const u8,
+        form_len: usize,
+        resolved: *const u8,
+        resolved_len: usize,
+        sheet: *const u8,
+        sheet_len: usize,
+        answers: *mut u8,
+        answers_len: usize,
+        work: *mut u8,
+        work_len: usize,
+    ) -> u64;
 }
 
 /// The answer of `wnt_resolve`, which may write into `out`.
@@ -169,6 +181,26 @@ pub fn check(form: &[u8], claim: &[u8], table: &mut [[u32; 6]], index: &mut [u16
             slots,
             index.as_mut_ptr(),
             links,
+        )
+    }
+}
+
+/// The answer of `wnt_sheet`, which writes into `answers` and works in `work`.
+pub fn sheet(form: &[u8], resolved: &[u8], sheet: &[u8], answers: &mut [u8], work: &mut [u8]) -> u64 {
+    // SAFETY: the five parts are valid for their lengths, and the last two are apart from the others, for as long as the
+    // call lasts.
+    unsafe {
+        wnt_sheet(
+            form.as_ptr(),
+            form.len(),
+            resolved.as_ptr(),
+            resolved.len(),
+            sheet.as_ptr(),
+            sheet.len(),
+            answers.as_mut_ptr(),
+            answers.len(),
+            work.as_mut_ptr(),
+            work.len(),
         )
     }
 }

@@ -26,6 +26,7 @@ mod samples;
 #[cfg(feature = "planted")]
 mod sensitivity;
 mod shapes;
+mod sheet;
 mod source;
 mod spoil;
 // The crate's files decide what is used of these.
@@ -65,6 +66,7 @@ compare --convert N [--seed S]                 convert N forms, and compare with
 compare --mend N [--seed S]                    mend N spoilt forms, and compare with a mender written for it
 compare --meant N [--seed S]                   ask what the names of N members mean, and compare with a second reading
 compare --moved N [--seed S]                   list the moved numbers of N forms, and compare with a second reading
+compare --sheet N [--seed S]                   hold a binding sheet against N forms, and compare with a second reading
 compare --check N [--seed S]                   check N claimed outputs, and compare with a checker written for it
 compare --check-bench N                        time checking beside resolving, the shortest of N calls each
 compare --check-vectors N [--seed S] > OTHER   write fixed vectors of claims, at most N of each kind and verdict
@@ -173,6 +175,8 @@ fn main() -> ExitCode {
         std::io::stdout().write_all(&verify::vectors(&comparison(), seed, each as usize)).is_ok()
     } else if let Some(forms) = number(&arguments, "--moved") {
         moved::run(number(&arguments, "--seed").unwrap_or(1), forms)
+    } else if let Some(forms) = number(&arguments, "--sheet") {
+        sheet::run(number(&arguments, "--seed").unwrap_or(1), forms)
     } else if let Some(repetitions) = number(&arguments, "--check-bench") {
         bench::check(repetitions as usize);
         true

@@ -21,6 +21,7 @@
 
 #![warn(missing_docs)]
 
+mod bindings;
 mod builds;
 mod claims;
 mod members;
@@ -30,6 +31,7 @@ mod refusal;
 mod versions;
 mod space;
 
+pub use bindings::{sheet, sheet_bytes, sheet_into, Binding, Slot, ANSWER_SIZE, MAX_SLOTS, SHEET_AREA_SIZE, SLOT_SIZE};
 pub use builds::{compare, Choice, Entry, Kind};
 pub use claims::{check, check_with, Condition, Verdict, CHECK_LINKS, CHECK_SLOTS};
 pub use members::{meant, Meant, Of};

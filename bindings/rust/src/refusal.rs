@@ -70,6 +70,8 @@ pub enum Refusal {
         /// The second case's.
         place: u32,
     },
+    /// 15: these bytes are no binding sheet, or the form is refused, or the other form is not its resolved form.
+    NotItsSheet,
 }
 
 impl Refusal {
@@ -90,6 +92,7 @@ impl Refusal {
             10 => Refusal::UnknownScope { place },
             11 => Refusal::CountTooLarge { place },
             12 => Refusal::DuplicateCase { place },
+            15 => Refusal::NotItsSheet,
             _ => unreachable!("the static library is of another version: it answered refusal {number}"),
         }
     }
@@ -105,7 +108,7 @@ impl Refusal {
         }
     }
 
-    /// Its number, 1 to 12.
+    /// Its number, 1 to 12, or 15 of a binding sheet.
     pub fn number(self) -> u32 {
         match self {
             Refusal::Header => 1,
@@ -120,13 +123,14 @@ impl Refusal {
             Refusal::UnknownScope { .. } => 10,
             Refusal::CountTooLarge { .. } => 11,
             Refusal::DuplicateCase { .. } => 12,
+            Refusal::NotItsSheet => 15,
         }
     }
 
-    /// Its place: 0 for refusals 1 to 3, a row for 4 and 5, the place of a row for 6 to 12.
+    /// Its place: 0 for refusals 1 to 3 and 15, a row for 4 and 5, the place of a row for 6 to 12.
     pub fn place(self) -> u32 {
         match self {
-            Refusal::Header | Refusal::RowCount | Refusal::Room => 0,
+            Refusal::Header | Refusal::RowCount | Refusal::Room | Refusal::NotItsSheet => 0,
             Refusal::Broken { row } | Refusal::Deep { row } => row,
             Refusal::DuplicateName { place, .. }
             | Refusal::NotExported { place }
@@ -173,6 +177,7 @@ impl Refusal {
             Refusal::UnknownScope { .. } => "no open scope has the name of the outer scope",
             Refusal::CountTooLarge { .. } => "the outer count is not below the number of open scopes",
             Refusal::DuplicateCase { .. } => "an earlier case of this field has that name",
+            Refusal::NotItsSheet => "no sheet, or not an accepted form and its resolved form",
         }
     }
 
@@ -196,7 +201,7 @@ impl fmt::Display for Refusal {
     fn fmt(&self, f: &mut fmt::Formatter<'_>) -> fmt::Result {
         let (number, place, meaning) = (self.number(), self.place(), self.meaning());
         match number {
-            1..=3 => write!(f, "refused {number}: {meaning}"),
+            1..=3 | 15 => write!(f, "refused {number}: {meaning}"),
             4..=5 => write!(f, "refused {number} at row {place}: {meaning}"),
             _ => write!(f, "refused {number} at place {place}: {meaning}"),
         }?;

@@ -4,3 +4,4 @@ pub mod Lists
 pub mod Packs
 pub mod Verdicts
 pub mod Tells
+pub mod Slots
