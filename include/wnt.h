@@ -30,6 +30,83 @@ extern "C" {
 #define WNT_MAX_FORM_SIZE 16376
 #define WNT_MAX_OUT_SIZE 65480
 
+/* The version of the library that this header belongs to: that of `wnt --version`. */
+#define WNT_VERSION "0.2.0-dev"
+
+/* ---- What rows are made of. A row is `[code b e x y z]`: bytes 0, 1, 2 to 3, 4 to 7, 8 to 11 and 12 to 15. */
+
+/* The codes of rows. */
+enum wnt_row {
+    WNT_ROW_FIELD = 1,
+    WNT_ROW_DECL = 2,
+    WNT_ROW_REF = 3,
+    WNT_ROW_PATH = 4,
+    WNT_ROW_OUTER = 5,
+    WNT_ROW_CASE = 6,
+    WNT_ROW_OPEN = 7,
+    WNT_ROW_CLOSE = 8,
+    WNT_ROW_EXPORT = 9
+};
+
+/* The spaces: b of DECL, REF and OUTER. */
+enum wnt_space {
+    WNT_SPACE_CORE_FUNC = 0,
+    WNT_SPACE_CORE_GLOBAL = 1,
+    WNT_SPACE_CORE_TABLE = 2,
+    WNT_SPACE_CORE_MEMORY = 3,
+    WNT_SPACE_CORE_TYPE = 4,
+    WNT_SPACE_CORE_TAG = 5,
+    WNT_SPACE_CORE_INSTANCE = 6,
+    WNT_SPACE_CORE_MODULE = 7,
+    WNT_SPACE_FUNC = 8,
+    WNT_SPACE_TYPE = 9,
+    WNT_SPACE_INSTANCE = 10,
+    WNT_SPACE_COMPONENT = 11,
+    WNT_SPACE_VALUE = 12
+};
+
+/* The kinds of scopes: b of OPEN. */
+enum wnt_scope {
+    WNT_SCOPE_COMPONENT = 0,
+    WNT_SCOPE_COMPONENT_TYPE = 1,
+    WNT_SCOPE_INSTANCE_TYPE = 2,
+    WNT_SCOPE_MODULE_TYPE = 3
+};
+
+/* The codes of fields: b of FIELD. */
+enum wnt_field {
+    WNT_FIELD_CORE_MODULE = 1,
+    WNT_FIELD_CORE_INSTANTIATE = 2,
+    WNT_FIELD_CORE_EXPORTS = 3,
+    WNT_FIELD_CORE_TYPE = 4,
+    WNT_FIELD_CORE_REC = 5,
+    WNT_FIELD_COMPONENT = 6,
+    WNT_FIELD_INSTANTIATE = 7,
+    WNT_FIELD_EXPORTS = 8,
+    WNT_FIELD_ALIAS_EXPORT = 9,
+    WNT_FIELD_ALIAS_CORE_EXPORT = 10,
+    WNT_FIELD_ALIAS_OUTER = 11,
+    WNT_FIELD_DEFINED_TYPE = 12,
+    WNT_FIELD_FUNC_TYPE = 13,
+    WNT_FIELD_COMPONENT_TYPE = 14,
+    WNT_FIELD_INSTANCE_TYPE = 15,
+    WNT_FIELD_RESOURCE_TYPE = 16,
+    WNT_FIELD_CORE_MODULE_TYPE = 17,
+    WNT_FIELD_LIFT = 18,
+    WNT_FIELD_BUILTIN = 19,
+    WNT_FIELD_START = 20,
+    WNT_FIELD_IMPORT = 21,
+    WNT_FIELD_EXPORT = 22,
+    WNT_FIELD_EXPORT_DECLARATION = 23,
+    WNT_FIELD_CORE_IMPORT_OR_EXPORT = 24,
+    WNT_FIELD_CUSTOM = 25
+};
+
+/* The first name that an inserted field can have: names of an input are 1 to one less. */
+#define WNT_FIRST_FRESH 2147483648u
+
+/* ---- Answers. */
+
 /* The numbers of the answers, and the place of each refusal. A row is counted from 0; z is a row's last part, which the
  * caller chose. 1, 2 and 3 are looked for in this order, then 4 and 5 by row, then 6 to 12 as the steps of the rules
  * meet them. */
@@ -62,6 +139,33 @@ enum wnt_number {
     /* An earlier case of the field has that name. Place: z of the second case. */
     WNT_DUPLICATE_CASE = 12
 };
+
+/* What a refusal means, by its number; `wnt` says the same. */
+static inline const char *wnt_text(uint32_t number)
+{
+    switch (number) {
+    case WNT_ACCEPTED: return "accepted";
+    case WNT_HEADER: return "this is no form: it does not begin with WNT and version 1";
+    case WNT_ROW_COUNT: return "the row count is 0 or above 1023, or the length is not 8 + 16 x rows";
+    case WNT_ROOM: return "the output buffer is too short";
+    case WNT_BROKEN: return "this row cannot stand here: no form begins with the rows up to it";
+    case WNT_DEEP: return "a scope is opened while 32 are open";
+    case WNT_DUPLICATE_NAME: return "a name is declared twice";
+    case WNT_NOT_EXPORTED: return "a core instance has no such export";
+    case WNT_NOT_OUTER: return "the name means something of a scope further out that cannot be had from there";
+    case WNT_UNKNOWN_NAME: return "an unknown name";
+    case WNT_UNKNOWN_SCOPE: return "no open scope has the name of the outer scope";
+    case WNT_COUNT_TOO_LARGE: return "the outer count is not below the number of open scopes";
+    case WNT_DUPLICATE_CASE: return "an earlier case of this field has that name";
+    default: return "no refusal has that number";
+    }
+}
+
+/* The stack that is enough for any call on a form of version 1. Measured on x86-64 (compare/stack.c) at the driver of the
+ * examples and at 32 open scopes: wnt_resolve 66,432 and 90,360 bytes, wnt_moved 66,656 and 90,584, wnt_check 71,472 and
+ * 95,400, wnt_resolve_with 10,400 and 28,184, wnt_mend 24,160, wnt_compare 8,032, wnt_convert 7,888, wnt_meant 528. It does
+ * not depend on the rows. */
+#define WNT_STACK_SIZE 131072
 
 /* The answer's upper half: one of the numbers above. */
 #define WNT_NUMBER(answer) ((uint32_t)((answer) >> 32))
