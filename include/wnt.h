@@ -88,6 +88,20 @@ enum wnt_number {
  * no call's `out` overlaps a buffer of another; they may share a form. */
 uint64_t wnt_resolve(const uint8_t *form, size_t form_len, uint8_t *out, size_t out_len);
 
+/* How many numbers wnt_resolve_told tells, and which: the space of the name (0 to 12, refusals 6, 8 and 9; of 9 at a path
+ * that of the path's instance), and the place of the first declaration of the name (refusal 6). */
+#define WNT_TOLD 2
+#define WNT_TOLD_SPACE 0
+#define WNT_TOLD_FIRST 1
+
+/* The same as wnt_resolve, and tells what a refusal is about: the first WNT_TOLD of `told` are then what is said above, or
+ * 0 where the answer has no such number. Those behind them never change. If `told_len` is below WNT_TOLD, the answer is
+ * that to an output of no bytes (1, 2 or 3), and `out` and `told` stay as they were.
+ *
+ * The three buffers must not overlap, and for the rest what is said of wnt_resolve holds. */
+uint64_t wnt_resolve_told(const uint8_t *form, size_t form_len, uint8_t *out, size_t out_len, uint32_t *told,
+                          size_t told_len);
+
 /* Mends the form in the first `length` bytes of `buffer`, whose other bytes are room for added rows: a part row is
  * dropped, rows after the root's CLOSE are cut, missing CLOSE rows are added at the end, the row count is set to the rows
  * that there are, and what must be zero is zeroed. Nothing else changes. The answer has 0 in its upper half and the number

@@ -45,7 +45,7 @@ impl Case {
     }
 
     /// What the output holds before the call.
-    fn pattern(&self) -> Vec<u8> {
+    pub fn pattern(&self) -> Vec<u8> {
         let words = (0..self.out_len.div_ceil(8)).map(|at| self.fill.rotate_left(at as u32 % 61) | 1);
         let mut bytes: Vec<u8> = words.flat_map(u64::to_le_bytes).collect();
         bytes.truncate(self.out_len);

@@ -2,6 +2,14 @@
 
 unsafe extern "C" {
     fn wnt_resolve(form: *const u8, form_len: usize, out: *mut u8, out_len: usize) -> u64;
+    fn wnt_resolve_told(
+        form: *const u8,
+        form_len: usize,
+        out: *mut u8,
+        out_len: usize,
+        told: *mut u32,
+        told_len: usize,
+    ) -> u64;
     fn wnt_mend(buffer: *mut u8, buffer_len: usize, length: usize, list: *mut u8, list_len: usize) -> u64;
     fn wnt_compare(
         left: *const u8,
@@ -19,6 +27,14 @@ unsafe extern "C" {
 pub fn resolve(form: &[u8], out: &mut [u8]) -> u64 {
     // SAFETY: both parts are valid for their lengths, apart from each other, for as long as the call lasts.
     unsafe { wnt_resolve(form.as_ptr(), form.len(), out.as_mut_ptr(), out.len()) }
+}
+
+/// The answer of `wnt_resolve_told`, which may write into `out` and `told`.
+pub fn resolve_told(form: &[u8], out: &mut [u8], told: &mut [u32]) -> u64 {
+    // SAFETY: as above.
+    unsafe {
+        wnt_resolve_told(form.as_ptr(), form.len(), out.as_mut_ptr(), out.len(), told.as_mut_ptr(), told.len())
+    }
 }
 
 /// The answer of `wnt_mend`, which may write into both parts.

@@ -28,6 +28,7 @@ mod spoil;
 mod standins;
 mod sweep;
 mod tally;
+mod told;
 mod tree;
 mod vectors;
 
@@ -51,7 +52,8 @@ compare --bench FILE [--repetitions N]         time both sides; the picture goes
 compare --shapes FOLDER                        write the benchmark's forms of about 1,000 rows, for a profiler
 compare --samples FOLDER [--forms N]           write accepted random forms and their outputs, for readings.py
 compare --mend N [--seed S]                    mend N spoilt forms, and compare with a mender written for it
-compare --meant N [--seed S]                   ask what the names of N members mean, and compare with a second reading";
+compare --meant N [--seed S]                   ask what the names of N members mean, and compare with a second reading
+compare --told N [--seed S]                    compare on N forms what refusals tell besides";
 
 /// The value after `--name`, read as a number.
 fn number(arguments: &[String], name: &str) -> Option<u64> {
@@ -142,6 +144,8 @@ fn main() -> ExitCode {
         spoil::run(number(&arguments, "--seed").unwrap_or(1), count)
     } else if let Some(pairs) = number(&arguments, "--meant") {
         meant::run(number(&arguments, "--seed").unwrap_or(1), pairs)
+    } else if let Some(forms) = number(&arguments, "--told") {
+        told::run(&comparison(), number(&arguments, "--seed").unwrap_or(1), forms)
     } else if let Some(pairs) = number(&arguments, "--builds") {
         builds::run(pairs, number(&arguments, "--seed").unwrap_or(1))
     } else if has("--sensitivity") {

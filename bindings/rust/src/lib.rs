@@ -1,7 +1,7 @@
 //! Resolves the names of a WebAssembly component, given as rows, into index numbers.
 //!
 //! A form is a header of 8 bytes and rows of 16 bytes; `docs/RULES.md` has both, and all rules. The work is done by
-//! `wnt_resolve` of the proved static library, whose answer and output are fixed for every input. This crate only lends
+//! `wnt_resolve_told` of the proved static library, whose answer and output are fixed for every input. This crate only lends
 //! it the buffers and puts its answer into a `Result`.
 //!
 //! ```
@@ -22,11 +22,13 @@ mod builds;
 mod members;
 mod mending;
 mod refusal;
+mod space;
 
 pub use builds::{compare, Choice, Entry, Kind};
 pub use members::{meant, Meant, Of};
 pub use mending::{mend, Change};
 pub use refusal::Refusal;
+pub use space::Space;
 
 /// The bytes of a form's header.
 pub const HEADER_SIZE: usize = 8;
@@ -44,7 +46,14 @@ pub const MAX_FORM_SIZE: usize = form_size(MAX_ROWS);
 pub const MAX_OUT_SIZE: usize = out_size(MAX_ROWS);
 
 extern "C" {
-    fn wnt_resolve(form: *const u8, form_len: usize, out: *mut u8, out_len: usize) -> u64;
+    fn wnt_resolve_told(
+        form: *const u8,
+        form_len: usize,
+        out: *mut u8,
+        out_len: usize,
+        told: *mut u32,
+        told_len: usize,
+    ) -> u64;
 }
 
 /// The bytes of a form with so many rows.
@@ -74,13 +83,16 @@ pub fn resolve(form: &[u8]) -> Result<Vec<u8>, Refusal> {
 /// [`form_size`] of the rows written are the resolved form and the rest of the needed bytes zero; after refusals 1 to 5
 /// all is as it was; after 6 to 12 the needed bytes are zero.
 pub fn resolve_into(form: &[u8], out: &mut [u8]) -> Result<usize, Refusal> {
-    // SAFETY: both buffers are valid for their lengths while the call lasts, and do not overlap, since `out` is
-    // borrowed alone. The library writes to `out` only and keeps no pointer.
-    let answer = unsafe { wnt_resolve(form.as_ptr(), form.len(), out.as_mut_ptr(), out.len()) };
+    let mut told = [0; 2];
+    // SAFETY: the three buffers are valid for their lengths while the call lasts, and do not overlap, since `out` is
+    // borrowed alone. The library writes to `out` and `told` only and keeps no pointer.
+    let answer = unsafe {
+        wnt_resolve_told(form.as_ptr(), form.len(), out.as_mut_ptr(), out.len(), told.as_mut_ptr(), told.len())
+    };
     let (number, rest) = ((answer >> 32) as u32, answer as u32);
     match number {
         0 => Ok(rest as usize),
-        _ => Err(Refusal::of(number, rest)),
+        _ => Err(Refusal::told(number, rest, told)),
     }
 }
 

@@ -16,8 +16,8 @@ use files::read::Loaded;
 use files::read::load;
 use files::standard::error_noted;
 use files::write::save;
-use known::file::refuse_form;
-use known::file::say_refused;
+use known::file::refuse_told;
+use known::file::say_told;
 use libc::STDOUT_FILENO;
 use resolver::run::Answer;
 use resolver::run::resolve;
@@ -40,7 +40,7 @@ fn resolve_form(form: &[u8], path: &[u8]) -> u8 {
     let mut buffer = io::large_buffer();
     match resolve(form, &mut buffer) {
         Answer::Accepted(rows) => save_form(part(&buffer, bytes_of(rows)), path),
-        Answer::Refused(refusal) => refuse_form(form, path, refusal),
+        Answer::Refused(refusal, told) => refuse_told(form, path, refusal, told),
     }
 }
 
@@ -87,8 +87,8 @@ fn check_form(form: &[u8]) -> u8 {
             say_accepted(STDOUT_FILENO, part(&buffer, bytes_of(rows)));
             DONE
         }
-        Answer::Refused(refusal) => {
-            say_refused(STDOUT_FILENO, form, refusal);
+        Answer::Refused(refusal, told) => {
+            say_told(STDOUT_FILENO, form, refusal, told);
             NO
         }
     }

@@ -2,3 +2,4 @@ pub mod Conversions
 pub mod Declarations
 pub mod Lists
 pub mod Packs
+pub mod Tells
