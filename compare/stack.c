@@ -6,18 +6,14 @@
 
 #include "wnt.h"
 
-enum { STACK = 1 << 20, PAINT = 0xa5, SLOTS = 2046, LINKS = 3070, ENDS = 4092 };
-
-/* As in crates/ferhevok/src/claims.rt. */
-uint64_t wnt_check(const uint8_t *form, size_t form_len, const uint8_t *claim, size_t claim_len, uint32_t (*table)[6],
-                   size_t slots, uint16_t *index, size_t links);
+enum { STACK = 1 << 20, PAINT = 0xa5, SLOTS = 2046, LINKS = 3070 };
 
 static uint8_t stack[STACK];
-static uint8_t form[WNT_MAX_FORM_SIZE], mended[WNT_MAX_FORM_SIZE], out[WNT_MAX_OUT_SIZE], list[1 << 18];
+static uint8_t form[WNT_MAX_FORM_SIZE_2], mended[WNT_MAX_FORM_SIZE], out[WNT_MAX_OUT_SIZE_2], list[1 << 20];
 static uint8_t moved[WNT_MOVED_LIST_SIZE(WNT_MAX_ROWS)], apart[WNT_APART_LIST_SIZE(WNT_MAX_ROWS)];
-static uint32_t table[SLOTS][6], ends[ENDS];
-static uint16_t index_of[LINKS], known[WNT_LINKS_1], chains[WNT_LINKS_1];
-static wnt_slot entered[WNT_SLOTS_1], names[WNT_SLOTS_1];
+static wnt_slot table[SLOTS];
+static uint16_t index_of[LINKS];
+static struct wnt_work_2 work;
 static size_t form_len;
 static uint64_t answer;
 static ucontext_t here, there;
@@ -34,11 +30,7 @@ static void list_moved(void)
     answer = wnt_moved(form, form_len, out, sizeof out, moved, sizeof moved, apart, sizeof apart);
 }
 
-static void resolve_with(void)
-{
-    answer = wnt_resolve_with(form, form_len, out, sizeof out, entered, WNT_SLOTS_1, names, WNT_SLOTS_1, known, WNT_LINKS_1,
-                              chains, WNT_LINKS_1, ends, ENDS);
-}
+static void resolve_with(void) { answer = wnt_resolve_with(form, form_len, out, sizeof out, WNT_LENT(&work)); }
 
 static void mend(void)
 {

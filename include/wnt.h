@@ -212,9 +212,9 @@ typedef uint32_t wnt_slot[6];
 #define WNT_SLOTS_1 1024
 #define WNT_LINKS_1 2048
 #define WNT_SLOTS_2 16384
-#define WNT_LINKS_2 17408
+#define WNT_LINKS_2 32768
 
-/* All areas for a version in one piece: 61440 bytes, and 921600. Both are too large for many a thread's stack; where one
+/* All areas for a version in one piece: 61440 bytes, and 983040. Both are too large for many a thread's stack; where one
  * is static or allocated it need not be zeroed before the first call. */
 struct wnt_work_1 {
     wnt_slot entered[WNT_SLOTS_1], names[WNT_SLOTS_1];
@@ -260,6 +260,19 @@ uint64_t wnt_resolve_with(const uint8_t *form, size_t form_len, uint8_t *out, si
  * A version 2 form with 1 in byte 5, the rule set of the newer tools, is taken as well and keeps it. The two buffers must
  * not overlap, and for the rest what is said of wnt_resolve holds. */
 uint64_t wnt_convert(const uint8_t *form, size_t form_len, uint32_t version, uint8_t *out, size_t out_len);
+/* How many numbers wnt_resolve_told tells, and which: the space of the name (0 to 12, refusals 6, 8 and 9; of 9 at a path
+ * that of the path's instance), and the place of the first declaration of the name (refusal 6). */
+#define WNT_TOLD 2
+#define WNT_TOLD_SPACE 0
+#define WNT_TOLD_FIRST 1
+
+/* The same as wnt_resolve, and tells what a refusal is about: the first WNT_TOLD of `told` are then what is said above, or
+ * 0 where the answer has no such number. Those behind them never change. If `told_len` is below WNT_TOLD, the answer is
+ * that to an output of no bytes (1, 2 or 3), and `out` and `told` stay as they were.
+ *
+ * The three buffers must not overlap, and for the rest what is said of wnt_resolve holds. */
+uint64_t wnt_resolve_told(const uint8_t *form, size_t form_len, uint8_t *out, size_t out_len, uint32_t *told,
+                          size_t told_len);
 
 /* Mends the form in the first `length` bytes of `buffer`, whose other bytes are room for added rows: a part row is
  * dropped, rows after the root's CLOSE are cut, missing CLOSE rows are added at the end, the row count is set to the rows
@@ -352,6 +365,44 @@ enum wnt_condition {
  * `claim` may be the same, and for the rest what is said of wnt_resolve holds. */
 uint64_t wnt_check(const uint8_t *form, size_t form_len, const uint8_t *claim, size_t claim_len, wnt_slot *table,
                    size_t table_len, uint16_t *index, size_t index_len);
+/* A binding sheet: what each reference of a driver must mean, written down once. It has up to 200 slots, each three little
+ * endian numbers of four bytes: the meter family (the caller's own), the place of a reference, the name of the declaration
+ * that it must mean, not 0. An answer is two: one of the kinds below, and a row or 0. */
+#define WNT_SLOT_SIZE 12
+#define WNT_MAX_SLOTS 200
+#define WNT_ANSWER_SIZE 8
+
+/* The bytes of the working area of wnt_sheet. */
+#define WNT_SHEET_AREA_SIZE 65480
+
+enum wnt_binding {
+    /* One REF of the form is at the place, and in the resolved form it reaches a declaration of the slot's name. */
+    WNT_AS_WRITTEN = 0,
+    /* It reaches another, at this row of the resolved form; row 0: it reaches nothing. */
+    WNT_ELSEWHERE = 1,
+    /* No REF of the form is at the place, or several. */
+    WNT_NO_REFERENCE = 2,
+    WNT_SEVERAL = 3
+};
+
+/* The upper half of the answer of wnt_sheet, besides 0 and 3, with place 0. */
+#define WNT_NOT_ITS_SHEET 15
+
+/* Answers each slot of `sheet`, in order, in the first 8 bytes a slot of `answers`: by what the references of `form` reach in
+ * `resolved`, which must be the very bytes that wnt_resolve writes for it. A reference is followed through an inserted outer
+ * alias, not through an original one; one with PATHs reaches its inserted export alias, which has no name of the form. The
+ * answer's lower half is the number of slots that are not bound as written: the sheet passes if it is 0.
+ *
+ * Refusals, in this order: 15 if `sheet` is no sheet (its length is no multiple of 12, it is over 2400 bytes, a slot has name
+ * 0); 3 if `work` is shorter than WNT_SHEET_AREA_SIZE; 15 if `form` is refused or `resolved` is not its resolved form; 3 if
+ * `answers` is shorter than 8 bytes a slot. A refusal leaves `answers` as it was, and bytes beyond the answers never change.
+ *
+ * `work` may hold anything. After every return it is zero up to that size, all of it where it is shorter, and as it was
+ * beyond. `answers` and `work` must overlap nothing, and for the rest what is said of wnt_resolve holds. */
+uint64_t wnt_sheet(const uint8_t *form, size_t form_len, const uint8_t *resolved, size_t resolved_len,
+                   const uint8_t *sheet, size_t sheet_len, uint8_t *answers, size_t answers_len, uint8_t *work,
+                   size_t work_len);
+
 /* The bytes of an entry of the two lists of wnt_moved, and of the lists by the rows of the form. An entry of the first is
  * four little endian numbers of four bytes: the place, the space, the row of the form that declares what the number meant,
  * the row of the resolved form that declares what it gets. One of the second is three: the place, the space, the number.

@@ -10,20 +10,20 @@ use crate::shapes::Shapes;
 const FILLED: u8 = 0xa5;
 
 /// A scope: its name, the scope around it, and the DECL rows of each space in order.
-struct Scope {
+pub struct Scope {
     name: u32,
     around: Option<usize>,
-    declares: [Vec<usize>; 13],
+    pub declares: [Vec<usize>; 13],
 }
 
 /// The scopes of a form in the order in which they open, and of each row its scope.
-struct Scopes {
-    all: Vec<Scope>,
-    of_row: Vec<usize>,
+pub struct Scopes {
+    pub all: Vec<Scope>,
+    pub of_row: Vec<usize>,
 }
 
 impl Scopes {
-    fn of(form: &[Row]) -> Scopes {
+    pub fn of(form: &[Row]) -> Scopes {
         let (mut all, mut of_row, mut open) = (Vec::<Scope>::new(), Vec::new(), Vec::new());
         for (at, row) in form.iter().enumerate() {
             if row.code == OPEN {
@@ -43,7 +43,7 @@ impl Scopes {
     }
 
     /// A scope so many out, or the innermost of a name.
-    fn outer(&self, scope: usize, row: &Row) -> Option<usize> {
+    pub fn outer(&self, scope: usize, row: &Row) -> Option<usize> {
         let around = std::iter::successors(Some(scope), |s| self.all[*s].around);
         if row.e & 1 == 1 {
             around.into_iter().find(|s| self.all[*s].name == row.x)
@@ -54,7 +54,7 @@ impl Scopes {
 }
 
 /// The rows of a form at their places: inserted fields and PATH rows are left out.
-fn places(form: &[Row]) -> Vec<usize> {
+pub fn places(form: &[Row]) -> Vec<usize> {
     let mut kept = Vec::new();
     let mut inserted = false;
     for (at, row) in form.iter().enumerate() {
@@ -102,7 +102,7 @@ fn lists(form: &[Row], out: &[Row]) -> (Vec<[u32; 4]>, Vec<[u32; 3]>) {
 }
 
 /// The form with some of its names written as numbers, in and out of range.
-fn numbered(form: &[Row], chance: &mut Chance) -> Vec<Row> {
+pub fn numbered(form: &[Row], chance: &mut Chance) -> Vec<Row> {
     let percent = chance.pick(&[10, 30, 60, 95]);
     let mut rows = form.to_vec();
     for row in &mut rows {

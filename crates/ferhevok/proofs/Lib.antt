@@ -3,3 +3,5 @@ pub mod Declarations
 pub mod Lists
 pub mod Packs
 pub mod Verdicts
+pub mod Tells
+pub mod Slots
