@@ -67,6 +67,7 @@ compare --mend N [--seed S]                    mend N spoilt forms, and compare 
 compare --meant N [--seed S]                   ask what the names of N members mean, and compare with a second reading
 compare --moved N [--seed S]                   list the moved numbers of N forms, and compare with a second reading
 compare --sheet N [--seed S]                   hold a binding sheet against N forms, and compare with a second reading
+compare --sheet-vectors N [--seed S] > OTHER   write fixed vectors of binding sheets, at most N of each outcome
 compare --check N [--seed S]                   check N claimed outputs, and compare with a checker written for it
 compare --check-bench N                        time checking beside resolving, the shortest of N calls each
 compare --check-vectors N [--seed S] > OTHER   write fixed vectors of claims, at most N of each kind and verdict
@@ -177,6 +178,9 @@ fn main() -> ExitCode {
         moved::run(number(&arguments, "--seed").unwrap_or(1), forms)
     } else if let Some(forms) = number(&arguments, "--sheet") {
         sheet::run(number(&arguments, "--seed").unwrap_or(1), forms)
+    } else if let Some(most) = number(&arguments, "--sheet-vectors") {
+        let vectors = sheet::vectors(number(&arguments, "--seed").unwrap_or(1), most as usize);
+        std::io::stdout().write_all(&vectors).is_ok()
     } else if let Some(repetitions) = number(&arguments, "--check-bench") {
         bench::check(repetitions as usize);
         true
