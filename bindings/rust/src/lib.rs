@@ -24,6 +24,7 @@ mod members;
 mod mending;
 mod numbers;
 mod refusal;
+mod rows;
 mod versions;
 
 pub use builds::{compare, Choice, Entry, Kind};
@@ -31,6 +32,7 @@ pub use members::{meant, Meant, Of};
 pub use mending::{mend, Change};
 pub use numbers::{moved, Apart, Moved, Numbers};
 pub use refusal::Refusal;
+pub use rows::{component, rows, Builder, Field, Name, Operand, Row, Scope, Space};
 pub use versions::{convert, resolve_into_with, resolve_with, Version, WorkingArea};
 
 /// The bytes of a form's header.
