@@ -28,6 +28,7 @@ mod members;
 mod mending;
 mod numbers;
 mod refusal;
+mod rows;
 mod versions;
 mod space;
 
@@ -38,6 +39,7 @@ pub use members::{meant, Meant, Of};
 pub use mending::{mend, Change};
 pub use numbers::{moved, Apart, Moved, Numbers};
 pub use refusal::Refusal;
+pub use rows::{component, rows, Builder, Field, Name, Operand, Row, Scope, Space};
 pub use versions::{convert, resolve_into_with, resolve_with, Version, WorkingArea};
 pub use space::Space;
 
