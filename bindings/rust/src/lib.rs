@@ -18,11 +18,13 @@
 
 #![warn(missing_docs)]
 
+mod back;
 mod builds;
 mod members;
 mod mending;
 mod refusal;
 
+pub use back::{unresolve, unresolve_into};
 pub use builds::{compare, Choice, Entry, Kind};
 pub use members::{meant, Meant, Of};
 pub use mending::{mend, Change};

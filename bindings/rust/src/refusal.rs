@@ -59,6 +59,8 @@ pub enum Refusal {
         /// The second case's.
         place: u32,
     },
+    /// 14, on the way back alone: no input has these bytes as its output.
+    NoInput,
 }
 
 impl Refusal {
@@ -79,11 +81,12 @@ impl Refusal {
             10 => Refusal::UnknownScope { place },
             11 => Refusal::CountTooLarge { place },
             12 => Refusal::DuplicateCase { place },
+            14 => Refusal::NoInput,
             _ => unreachable!("the static library is of another version: it answered refusal {number}"),
         }
     }
 
-    /// Its number, 1 to 12.
+    /// Its number: 1 to 12, and 14 on the way back.
     pub fn number(self) -> u32 {
         match self {
             Refusal::Header => 1,
@@ -98,13 +101,14 @@ impl Refusal {
             Refusal::UnknownScope { .. } => 10,
             Refusal::CountTooLarge { .. } => 11,
             Refusal::DuplicateCase { .. } => 12,
+            Refusal::NoInput => 14,
         }
     }
 
-    /// Its place: 0 for refusals 1 to 3, a row for 4 and 5, the place of a row for 6 to 12.
+    /// Its place: 0 for refusals 1 to 3 and 14, a row for 4 and 5, the place of a row for 6 to 12.
     pub fn place(self) -> u32 {
         match self {
-            Refusal::Header | Refusal::RowCount | Refusal::Room => 0,
+            Refusal::Header | Refusal::RowCount | Refusal::Room | Refusal::NoInput => 0,
             Refusal::Broken { row } | Refusal::Deep { row } => row,
             Refusal::DuplicateName { place }
             | Refusal::NotExported { place }
@@ -133,6 +137,7 @@ impl Refusal {
             Refusal::UnknownScope { .. } => "no open scope has the name of the outer scope",
             Refusal::CountTooLarge { .. } => "the outer count is not below the number of open scopes",
             Refusal::DuplicateCase { .. } => "an earlier case of this field has that name",
+            Refusal::NoInput => "no input has these bytes as its output",
         }
     }
 }
@@ -141,7 +146,7 @@ impl fmt::Display for Refusal {
     fn fmt(&self, f: &mut fmt::Formatter<'_>) -> fmt::Result {
         let (number, place, meaning) = (self.number(), self.place(), self.meaning());
         match number {
-            1..=3 => write!(f, "refused {number}: {meaning}"),
+            1..=3 | 14 => write!(f, "refused {number}: {meaning}"),
             4..=5 => write!(f, "refused {number} at row {place}: {meaning}"),
             _ => write!(f, "refused {number} at place {place}: {meaning}"),
         }

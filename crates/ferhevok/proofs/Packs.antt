@@ -5,7 +5,7 @@ use Prim.Native.Nat.{ℕ, _+_, _*_}
 use borrow.Author.Needs.{needs}
 use Rattle.rules.specs.Answer.{Answer as Ruled}
 use Rattle.refusal.specs.declared.Refusal.{Refusal}
-use Rattle.resolver.specs.Meaning.{meaning, ruled}
+use Rattle.resolver.specs.Meaning.{Numbers, meaning, ruled}
 use Rattle.resolver.specs.declared.run.Answer.{Answer}
 use Rattle.resolver.specs.declared.run.Answer.the-variants.{Accepted, Refused}
 use Rattle.mending.specs.Mend.{Mending}
@@ -30,6 +30,10 @@ pub ruleset packs = (packs-accepted, packs-refused, needs)
 
 pub packs-ruled : (a : Answer) (x : Ruled) (r : ℕ) → meaning a ≡ ruled x → r ≡ packed (meaning a) → r ≡ packed (ruled x)
 packs-ruled a x r e h = rw e at h
+
+-- of the way back
+pub packs-back : (a : Answer) (n : Numbers) (r : ℕ) → meaning a ≡ n → r ≡ packed (meaning a) → r ≡ packed n
+packs-back a n r e h = rw e at h
 
 -- ---- of a mending
 
