@@ -11,6 +11,7 @@ mod generate;
 mod library;
 mod meant;
 mod mend;
+mod names_back;
 mod oracle;
 mod recognise;
 mod reduce;
@@ -51,7 +52,8 @@ compare --bench FILE [--repetitions N]         time both sides; the picture goes
 compare --shapes FOLDER                        write the benchmark's forms of about 1,000 rows, for a profiler
 compare --samples FOLDER [--forms N]           write accepted random forms and their outputs, for readings.py
 compare --mend N [--seed S]                    mend N spoilt forms, and compare with a mender written for it
-compare --meant N [--seed S]                   ask what the names of N members mean, and compare with a second reading";
+compare --meant N [--seed S]                   ask what the names of N members mean, and compare with a second reading
+compare --unresolve N [--seed S]               send N outputs of random forms back to names and round, and damaged ones";
 
 /// The value after `--name`, read as a number.
 fn number(arguments: &[String], name: &str) -> Option<u64> {
@@ -140,6 +142,8 @@ fn main() -> ExitCode {
         renaming::run(&comparison(), number(&arguments, "--seed").unwrap_or(1), forms)
     } else if let Some(count) = number(&arguments, "--mend") {
         spoil::run(number(&arguments, "--seed").unwrap_or(1), count)
+    } else if let Some(outputs) = number(&arguments, "--unresolve") {
+        names_back::run(&comparison(), number(&arguments, "--seed").unwrap_or(1), outputs)
     } else if let Some(pairs) = number(&arguments, "--meant") {
         meant::run(number(&arguments, "--seed").unwrap_or(1), pairs)
     } else if let Some(pairs) = number(&arguments, "--builds") {
