@@ -22,6 +22,7 @@
 #![warn(missing_docs)]
 
 mod bindings;
+mod back;
 mod builds;
 mod claims;
 mod members;
@@ -33,6 +34,7 @@ mod versions;
 mod space;
 
 pub use bindings::{sheet, sheet_bytes, sheet_into, Binding, Slot, ANSWER_SIZE, MAX_SLOTS, SHEET_AREA_SIZE, SLOT_SIZE};
+pub use back::{unresolve, unresolve_into};
 pub use builds::{compare, Choice, Entry, Kind};
 pub use claims::{check, check_with, Condition, Verdict, CHECK_LINKS, CHECK_SLOTS};
 pub use members::{meant, Meant, Of};
