@@ -244,7 +244,7 @@ struct wnt_work_2 {
  * with fewer elements than its size for that version is refusal 3, as an output that is too short. What the areas hold
  * before does not matter. After every return, refusals too, each is zero up to its size for the form's version, or to its
  * end where it is shorter, and unchanged beyond; a header of neither version counts as version 1 there. No area may
- * overlap another buffer. A call takes less than 96 KiB of stack. */
+ * overlap another buffer. A call takes less than 64 KiB of stack. */
 uint64_t wnt_resolve_with(const uint8_t *form, size_t form_len, uint8_t *out, size_t out_len, wnt_slot *entered,
                           size_t entered_len, wnt_slot *names, size_t names_len, uint16_t *known, size_t known_len,
                           uint16_t *chains, size_t chains_len, uint32_t *ends, size_t ends_len);
