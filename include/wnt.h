@@ -30,6 +30,83 @@ extern "C" {
 #define WNT_MAX_FORM_SIZE 16376
 #define WNT_MAX_OUT_SIZE 65480
 
+/* The version of the library that this header belongs to: that of `wnt --version`. */
+#define WNT_VERSION "0.2.0-dev"
+
+/* ---- What rows are made of. A row is `[code b e x y z]`: bytes 0, 1, 2 to 3, 4 to 7, 8 to 11 and 12 to 15. */
+
+/* The codes of rows. */
+enum wnt_row {
+    WNT_ROW_FIELD = 1,
+    WNT_ROW_DECL = 2,
+    WNT_ROW_REF = 3,
+    WNT_ROW_PATH = 4,
+    WNT_ROW_OUTER = 5,
+    WNT_ROW_CASE = 6,
+    WNT_ROW_OPEN = 7,
+    WNT_ROW_CLOSE = 8,
+    WNT_ROW_EXPORT = 9
+};
+
+/* The spaces: b of DECL, REF and OUTER. */
+enum wnt_space {
+    WNT_SPACE_CORE_FUNC = 0,
+    WNT_SPACE_CORE_GLOBAL = 1,
+    WNT_SPACE_CORE_TABLE = 2,
+    WNT_SPACE_CORE_MEMORY = 3,
+    WNT_SPACE_CORE_TYPE = 4,
+    WNT_SPACE_CORE_TAG = 5,
+    WNT_SPACE_CORE_INSTANCE = 6,
+    WNT_SPACE_CORE_MODULE = 7,
+    WNT_SPACE_FUNC = 8,
+    WNT_SPACE_TYPE = 9,
+    WNT_SPACE_INSTANCE = 10,
+    WNT_SPACE_COMPONENT = 11,
+    WNT_SPACE_VALUE = 12
+};
+
+/* The kinds of scopes: b of OPEN. */
+enum wnt_scope {
+    WNT_SCOPE_COMPONENT = 0,
+    WNT_SCOPE_COMPONENT_TYPE = 1,
+    WNT_SCOPE_INSTANCE_TYPE = 2,
+    WNT_SCOPE_MODULE_TYPE = 3
+};
+
+/* The codes of fields: b of FIELD. */
+enum wnt_field {
+    WNT_FIELD_CORE_MODULE = 1,
+    WNT_FIELD_CORE_INSTANTIATE = 2,
+    WNT_FIELD_CORE_EXPORTS = 3,
+    WNT_FIELD_CORE_TYPE = 4,
+    WNT_FIELD_CORE_REC = 5,
+    WNT_FIELD_COMPONENT = 6,
+    WNT_FIELD_INSTANTIATE = 7,
+    WNT_FIELD_EXPORTS = 8,
+    WNT_FIELD_ALIAS_EXPORT = 9,
+    WNT_FIELD_ALIAS_CORE_EXPORT = 10,
+    WNT_FIELD_ALIAS_OUTER = 11,
+    WNT_FIELD_DEFINED_TYPE = 12,
+    WNT_FIELD_FUNC_TYPE = 13,
+    WNT_FIELD_COMPONENT_TYPE = 14,
+    WNT_FIELD_INSTANCE_TYPE = 15,
+    WNT_FIELD_RESOURCE_TYPE = 16,
+    WNT_FIELD_CORE_MODULE_TYPE = 17,
+    WNT_FIELD_LIFT = 18,
+    WNT_FIELD_BUILTIN = 19,
+    WNT_FIELD_START = 20,
+    WNT_FIELD_IMPORT = 21,
+    WNT_FIELD_EXPORT = 22,
+    WNT_FIELD_EXPORT_DECLARATION = 23,
+    WNT_FIELD_CORE_IMPORT_OR_EXPORT = 24,
+    WNT_FIELD_CUSTOM = 25
+};
+
+/* The first name that an inserted field can have: names of an input are 1 to one less. */
+#define WNT_FIRST_FRESH 2147483648u
+
+/* ---- Answers. */
+
 /* The numbers of the answers, and the place of each refusal. A row is counted from 0; z is a row's last part, which the
  * caller chose. 1, 2 and 3 are looked for in this order, then 4 and 5 by row, then 6 to 12 as the steps of the rules
  * meet them. */
@@ -63,6 +140,33 @@ enum wnt_number {
     WNT_DUPLICATE_CASE = 12
 };
 
+/* What a refusal means, by its number; `wnt` says the same. */
+static inline const char *wnt_text(uint32_t number)
+{
+    switch (number) {
+    case WNT_ACCEPTED: return "accepted";
+    case WNT_HEADER: return "this is no form: it does not begin with WNT and version 1";
+    case WNT_ROW_COUNT: return "the row count is 0 or above 1023, or the length is not 8 + 16 x rows";
+    case WNT_ROOM: return "the output buffer is too short";
+    case WNT_BROKEN: return "this row cannot stand here: no form begins with the rows up to it";
+    case WNT_DEEP: return "a scope is opened while 32 are open";
+    case WNT_DUPLICATE_NAME: return "a name is declared twice";
+    case WNT_NOT_EXPORTED: return "a core instance has no such export";
+    case WNT_NOT_OUTER: return "the name means something of a scope further out that cannot be had from there";
+    case WNT_UNKNOWN_NAME: return "an unknown name";
+    case WNT_UNKNOWN_SCOPE: return "no open scope has the name of the outer scope";
+    case WNT_COUNT_TOO_LARGE: return "the outer count is not below the number of open scopes";
+    case WNT_DUPLICATE_CASE: return "an earlier case of this field has that name";
+    default: return "no refusal has that number";
+    }
+}
+
+/* The stack that is enough for any call on a form of version 1. Measured on x86-64 (compare/stack.c) at the driver of the
+ * examples and at 32 open scopes: wnt_resolve 66,432 and 90,360 bytes, wnt_moved 66,656 and 90,584, wnt_check 71,472 and
+ * 95,400, wnt_resolve_with 10,400 and 28,184, wnt_mend 24,160, wnt_compare 8,032, wnt_convert 7,888, wnt_meant 528. It does
+ * not depend on the rows. */
+#define WNT_STACK_SIZE 131072
+
 /* The answer's upper half: one of the numbers above. */
 #define WNT_NUMBER(answer) ((uint32_t)((answer) >> 32))
 
@@ -87,6 +191,88 @@ enum wnt_number {
  * only read. Nothing is allocated and nothing is kept from one call to the next: calls from several threads are safe if
  * no call's `out` overlaps a buffer of another; they may share a form. */
 uint64_t wnt_resolve(const uint8_t *form, size_t form_len, uint8_t *out, size_t out_len);
+
+/* ---- Larger forms.
+ *
+ * A form of version 2 is a header of 16 bytes (`WNT`, the version 2 as two bytes, the rule set 0, the row count as four
+ * bytes, six zeros) and 1 to 16383 rows as those of version 1; 64 scopes may be open in it. wnt_resolve takes version 1
+ * alone and answers 1 to any other header; wnt_resolve_with takes both, and for version 2 the refusals above read: 1 fewer
+ * than 16 bytes, or bytes 0 to 5 or 10 to 15 wrong; 2 a row count of 0 or above 16383, or another length than
+ * WNT_FORM_SIZE_2 of it; 3 an output shorter than WNT_OUT_SIZE_2 of it; 5 a scope while 64 are open. */
+#define WNT_HEADER_SIZE_2 16
+#define WNT_MAX_ROWS_2 16383
+#define WNT_FORM_SIZE_2(rows) (16u + 16u * (rows))
+#define WNT_OUT_SIZE_2(rows) (16u + 64u * (rows))
+#define WNT_MAX_FORM_SIZE_2 262144
+#define WNT_MAX_OUT_SIZE_2 1048528
+
+/* The working areas that wnt_resolve_with is lent, by the form's version: two tables of slots, an index for each, and the
+ * ends of fields, all counted in elements. Areas for version 2 are large enough for version 1 too. */
+typedef uint32_t wnt_slot[6];
+#define WNT_SLOTS_1 1024
+#define WNT_LINKS_1 2048
+#define WNT_SLOTS_2 16384
+#define WNT_LINKS_2 32768
+
+/* All areas for a version in one piece: 61440 bytes, and 983040. Both are too large for many a thread's stack; where one
+ * is static or allocated it need not be zeroed before the first call. */
+struct wnt_work_1 {
+    wnt_slot entered[WNT_SLOTS_1], names[WNT_SLOTS_1];
+    uint32_t ends[WNT_SLOTS_1];
+    uint16_t known[WNT_LINKS_1], chains[WNT_LINKS_1];
+};
+struct wnt_work_2 {
+    wnt_slot entered[WNT_SLOTS_2], names[WNT_SLOTS_2];
+    uint32_t ends[WNT_SLOTS_2];
+    uint16_t known[WNT_LINKS_2], chains[WNT_LINKS_2];
+};
+
+/* The last ten arguments of wnt_resolve_with, by a pointer to one of these. */
+#define WNT_LENT(work)                                                                                                  \
+    (work)->entered, sizeof (work)->entered / sizeof(wnt_slot), (work)->names, sizeof (work)->names / sizeof(wnt_slot), \
+        (work)->known, sizeof (work)->known / 2, (work)->chains, sizeof (work)->chains / 2, (work)->ends,               \
+        sizeof (work)->ends / 4
+
+/* Resolves a form of version 1 or 2 into `out`, which then has the form's version, in working areas that are lent:
+ *
+ *     static struct wnt_work_2 work;
+ *     uint64_t answer = wnt_resolve_with(form, form_len, out, out_len, WNT_LENT(&work));
+ *
+ * The answer, and what `out` holds afterwards, are as for wnt_resolve, with the limits of the form's version. An area
+ * with fewer elements than its size for that version is refusal 3, as an output that is too short. What the areas hold
+ * before does not matter. After every return, refusals too, each is zero up to its size for the form's version, or to its
+ * end where it is shorter, and unchanged beyond; a header of neither version counts as version 1 there. No area may
+ * overlap another buffer. A call takes less than 96 KiB of stack. */
+uint64_t wnt_resolve_with(const uint8_t *form, size_t form_len, uint8_t *out, size_t out_len, wnt_slot *entered,
+                          size_t entered_len, wnt_slot *names, size_t names_len, uint16_t *known, size_t known_len,
+                          uint16_t *chains, size_t chains_len, uint32_t *ends, size_t ends_len);
+
+/* Writes a form as one of the version of this number, 1 or 2, to the front of `out`: the same rows behind the other
+ * header. It means what it meant: both versions are resolved to the same rows, or refused alike. A form that has that
+ * version already is copied. From 1 to 2 every form goes; from 2 to 1 one that is within version 1's limits and has rule
+ * set 0. The answer has 0 in its upper half and the rows in its lower, or a refusal, and then `out` is as it was:
+ *
+ *   1        the header is of no version, or there is no version of this number
+ *   2, 3     the form's own row count or length; `out` has no room for the converted form
+ *   4, 5     the form is none; the place is the row
+ *   1, 2, 5  then: version 1 has not the form's rule set, not so many rows, not so many scopes
+ *
+ * A version 2 form with 1 in byte 5, the rule set of the newer tools, is taken as well and keeps it. The two buffers must
+ * not overlap, and for the rest what is said of wnt_resolve holds. */
+uint64_t wnt_convert(const uint8_t *form, size_t form_len, uint32_t version, uint8_t *out, size_t out_len);
+/* How many numbers wnt_resolve_told tells, and which: the space of the name (0 to 12, refusals 6, 8 and 9; of 9 at a path
+ * that of the path's instance), and the place of the first declaration of the name (refusal 6). */
+#define WNT_TOLD 2
+#define WNT_TOLD_SPACE 0
+#define WNT_TOLD_FIRST 1
+
+/* The same as wnt_resolve, and tells what a refusal is about: the first WNT_TOLD of `told` are then what is said above, or
+ * 0 where the answer has no such number. Those behind them never change. If `told_len` is below WNT_TOLD, the answer is
+ * that to an output of no bytes (1, 2 or 3), and `out` and `told` stay as they were.
+ *
+ * The three buffers must not overlap, and for the rest what is said of wnt_resolve holds. */
+uint64_t wnt_resolve_told(const uint8_t *form, size_t form_len, uint8_t *out, size_t out_len, uint32_t *told,
+                          size_t told_len);
 
 /* Mends the form in the first `length` bytes of `buffer`, whose other bytes are room for added rows: a part row is
  * dropped, rows after the root's CLOSE are cut, missing CLOSE rows are added at the end, the row count is set to the rows
@@ -145,6 +331,101 @@ enum wnt_kind {
  * be the same. */
 uint64_t wnt_compare(const uint8_t *left, size_t left_len, const uint8_t *right, size_t right_len, uint32_t choice,
                      uint8_t *list, size_t list_len);
+
+/* The sizes of the two working areas of wnt_check, for an input of version 1: slots of six numbers of four bytes each, and
+ * numbers of two bytes. Together they are 55,244 bytes. */
+#define WNT_CHECK_SLOTS 2046
+#define WNT_CHECK_LINKS 3070
+
+/* The upper half of the answer of wnt_check where the claim is no resolved form of the input. */
+enum wnt_condition {
+    /* It is no form of the input's version, where names from 2147483648 up and 4092 rows are allowed. Row: 0 for the
+     * header, else the place of refusal 4 or 5. */
+    WNT_NO_FORM = 101,
+    /* It has a PATH row, or its rows without added fields (those with a DECL name from 2147483648 up) are not the input's,
+     * but for PATH rows and the operands of REF and OUTER. */
+    WNT_NO_ROWS = 102,
+    /* An added field is no alias, its name is not new in its scope and space, or its operand is a name. */
+    WNT_NO_ALIAS = 103,
+    /* An operand of the input is not the number that it must be. Row: that of the operand in the claim, also where the
+     * fault is in the alias that it reaches. */
+    WNT_NO_NUMBER = 104
+};
+
+/* The answer's lower half after a no: the first claimed row that breaks the condition. */
+#define WNT_CLAIMED_ROW(answer) ((uint32_t)((answer) & 0xffffffffu))
+
+/* Says whether `claim` is a resolved form of `form`, whoever wrote it: where its inserted aliases stand, which references
+ * share them, which are unused and what fresh names they have is the writer's choice. The answer is 0 for yes; for no one
+ * of the numbers above, the first that is true in their order, with the first row of the claim that breaks it; or the
+ * refusal of the form by wnt_resolve, with 3 where `table` has fewer slots or `index` fewer numbers than said above.
+ *
+ * The areas may hold anything. After every return both are zero up to these sizes, all of them where they are shorter,
+ * and as they were beyond. `table_len` counts slots and `index_len` numbers. The areas must overlap nothing; `form` and
+ * `claim` may be the same, and for the rest what is said of wnt_resolve holds. */
+uint64_t wnt_check(const uint8_t *form, size_t form_len, const uint8_t *claim, size_t claim_len, wnt_slot *table,
+                   size_t table_len, uint16_t *index, size_t index_len);
+/* A binding sheet: what each reference of a driver must mean, written down once. It has up to 200 slots, each three little
+ * endian numbers of four bytes: the meter family (the caller's own), the place of a reference, the name of the declaration
+ * that it must mean, not 0. An answer is two: one of the kinds below, and a row or 0. */
+#define WNT_SLOT_SIZE 12
+#define WNT_MAX_SLOTS 200
+#define WNT_ANSWER_SIZE 8
+
+/* The bytes of the working area of wnt_sheet. */
+#define WNT_SHEET_AREA_SIZE 65480
+
+enum wnt_binding {
+    /* One REF of the form is at the place, and in the resolved form it reaches a declaration of the slot's name. */
+    WNT_AS_WRITTEN = 0,
+    /* It reaches another, at this row of the resolved form; row 0: it reaches nothing. */
+    WNT_ELSEWHERE = 1,
+    /* No REF of the form is at the place, or several. */
+    WNT_NO_REFERENCE = 2,
+    WNT_SEVERAL = 3
+};
+
+/* The upper half of the answer of wnt_sheet, besides 0 and 3, with place 0. */
+#define WNT_NOT_ITS_SHEET 15
+
+/* Answers each slot of `sheet`, in order, in the first 8 bytes a slot of `answers`: by what the references of `form` reach in
+ * `resolved`, which must be the very bytes that wnt_resolve writes for it. A reference is followed through an inserted outer
+ * alias, not through an original one; one with PATHs reaches its inserted export alias, which has no name of the form. The
+ * answer's lower half is the number of slots that are not bound as written: the sheet passes if it is 0.
+ *
+ * Refusals, in this order: 15 if `sheet` is no sheet (its length is no multiple of 12, it is over 2400 bytes, a slot has name
+ * 0); 3 if `work` is shorter than WNT_SHEET_AREA_SIZE; 15 if `form` is refused or `resolved` is not its resolved form; 3 if
+ * `answers` is shorter than 8 bytes a slot. A refusal leaves `answers` as it was, and bytes beyond the answers never change.
+ *
+ * `work` may hold anything. After every return it is zero up to that size, all of it where it is shorter, and as it was
+ * beyond. `answers` and `work` must overlap nothing, and for the rest what is said of wnt_resolve holds. */
+uint64_t wnt_sheet(const uint8_t *form, size_t form_len, const uint8_t *resolved, size_t resolved_len,
+                   const uint8_t *sheet, size_t sheet_len, uint8_t *answers, size_t answers_len, uint8_t *work,
+                   size_t work_len);
+
+/* The bytes of an entry of the two lists of wnt_moved, and of the lists by the rows of the form. An entry of the first is
+ * four little endian numbers of four bytes: the place, the space, the row of the form that declares what the number meant,
+ * the row of the resolved form that declares what it gets. One of the second is three: the place, the space, the number.
+ * With PATHs the number is that of the instance where the path begins, and the space the instance's. */
+#define WNT_MOVED_SIZE 16
+#define WNT_APART_SIZE 12
+#define WNT_MOVED_LIST_SIZE(rows) (16u * (rows))
+#define WNT_APART_LIST_SIZE(rows) (12u * (rows))
+
+/* The answer's lower half after acceptance: how many entries each list has. */
+#define WNT_MOVED(answer) ((uint32_t)((answer) & 0xffffu))
+#define WNT_APART(answer) ((uint32_t)(((answer) >> 16) & 0xffffu))
+
+/* Resolves the form into `out` as wnt_resolve does, and lists its written numbers, of references and of outer aliases:
+ * `moved` those that mean another declaration in the resolved form than they did in the form, since inserted aliases come
+ * before what they meant, and `apart` those that counted to no declaration. Each list is in the order of the form's rows.
+ *
+ * The refusals are those of wnt_resolve, and 3 also where `moved` is shorter than WNT_MOVED_LIST_SIZE of the row count or
+ * `apart` than WNT_APART_LIST_SIZE. A refusal leaves both lists as they were, and `out` as after wnt_resolve; one by the
+ * lists' sizes leaves it as it was. After acceptance those first bytes of each list are the entries and then zeros; bytes
+ * beyond never change. No two of the four buffers may overlap, and for the rest what is said of wnt_resolve holds. */
+uint64_t wnt_moved(const uint8_t *form, size_t form_len, uint8_t *out, size_t out_len, uint8_t *moved, size_t moved_len,
+                   uint8_t *apart, size_t apart_len);
 
 /* Which declaration the name in a row of a member means, where the member's root lies inside the root of a prelude. Both
  * are inputs, not resolved forms. A walked name is looked for in the scopes of the member around it and then in the

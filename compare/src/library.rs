@@ -1,7 +1,18 @@
 //! Our resolver, called as a C program calls it.
 
+/// A slot of the tables that are lent.
+pub type Slot = [u32; 6];
+
 unsafe extern "C" {
     fn wnt_resolve(form: *const u8, form_len: usize, out: *mut u8, out_len: usize) -> u64;
+    fn wnt_resolve_told(
+        form: *const u8,
+        form_len: usize,
+        out: *mut u8,
+        out_len: usize,
+        told: *mut u32,
+        told_len: usize,
+    ) -> u64;
     fn wnt_mend(buffer: *mut u8, buffer_len: usize, length: usize, list: *mut u8, list_len: usize) -> u64;
     fn wnt_compare(
         left: *const u8,
@@ -12,13 +23,109 @@ unsafe extern "C" {
         list: *mut u8,
         list_len: usize,
     ) -> u64;
+    fn wnt_resolve_with(
+        form: *const u8,
+        form_len: usize,
+        out: *mut u8,
+        out_len: usize,
+        entered: *mut Slot,
+        entered_len: usize,
+        names: *mut Slot,
+        names_len: usize,
+        known: *mut u16,
+        known_len: usize,
+        chains: *mut u16,
+        chains_len: usize,
+        ends: *mut u32,
+        ends_len: usize,
+    ) -> u64;
+    fn wnt_convert(form: *const u8, form_len: usize, version: u32, out: *mut u8, out_len: usize) -> u64;
+    fn wnt_check(
+        form: *const u8,
+        form_len: usize,
+        claim: *const u8,
+        claim_len: usize,
+        table: *mut [u32; 6],
+        slots: usize,
+        index: *mut u16,
+        links: usize,
+    ) -> u64;
     fn wnt_meant(prelude: *const u8, prelude_len: usize, member: *const u8, member_len: usize, row: u32) -> u64;
+    fn wnt_moved(
+        form: *const u8,
+        form_len: usize,
+        out: *mut u8,
+        out_len: usize,
+        moved: *mut u8,
+        moved_len: usize,
+        apart: *mut u8,
+        apart_len: usize,
+    ) -> u64;
+    fn wnt_sheet(
+        form: *const u8,
+        form_len: usize,
+        resolved: *const u8,
+        resolved_len: usize,
+        sheet: *const u8,
+        sheet_len: usize,
+        answers: *mut u8,
+        answers_len: usize,
+        work: *mut u8,
+        work_len: usize,
+    ) -> u64;
 }
 
 /// The answer of `wnt_resolve`, which may write into `out`.
 pub fn resolve(form: &[u8], out: &mut [u8]) -> u64 {
     // SAFETY: both parts are valid for their lengths, apart from each other, for as long as the call lasts.
     unsafe { wnt_resolve(form.as_ptr(), form.len(), out.as_mut_ptr(), out.len()) }
+}
+
+/// The answer of `wnt_resolve_told`, which may write into `out` and `told`.
+pub fn resolve_told(form: &[u8], out: &mut [u8], told: &mut [u32]) -> u64 {
+    // SAFETY: as above.
+    unsafe {
+        wnt_resolve_told(form.as_ptr(), form.len(), out.as_mut_ptr(), out.len(), told.as_mut_ptr(), told.len())
+    }
+}
+
+/// The working areas of `wnt_resolve_with`.
+pub struct Areas<'a> {
+    pub entered: &'a mut [Slot],
+    pub names: &'a mut [Slot],
+    pub known: &'a mut [u16],
+    pub chains: &'a mut [u16],
+    pub ends: &'a mut [u32],
+}
+
+/// The answer of `wnt_resolve_with`, which may write into `out` and into the areas.
+pub fn resolve_with(form: &[u8], out: &mut [u8], areas: &mut Areas) -> u64 {
+    let Areas { entered, names, known, chains, ends } = areas;
+    // SAFETY: all parts are valid for their lengths, apart from each other, for as long as the call lasts.
+    unsafe {
+        wnt_resolve_with(
+            form.as_ptr(),
+            form.len(),
+            out.as_mut_ptr(),
+            out.len(),
+            entered.as_mut_ptr(),
+            entered.len(),
+            names.as_mut_ptr(),
+            names.len(),
+            known.as_mut_ptr(),
+            known.len(),
+            chains.as_mut_ptr(),
+            chains.len(),
+            ends.as_mut_ptr(),
+            ends.len(),
+        )
+    }
+}
+
+/// The answer of `wnt_convert`, which may write into `out`.
+pub fn convert(form: &[u8], version: u32, out: &mut [u8]) -> u64 {
+    // SAFETY: as above.
+    unsafe { wnt_convert(form.as_ptr(), form.len(), version, out.as_mut_ptr(), out.len()) }
 }
 
 /// The answer of `wnt_mend`, which may write into both parts.
@@ -40,4 +147,60 @@ pub fn compare(left: &[u8], right: &[u8], choice: u32, list: &mut [u8]) -> u64 {
 pub fn meant(prelude: &[u8], member: &[u8], row: u32) -> u64 {
     // SAFETY: both parts are valid for their lengths for as long as the call lasts.
     unsafe { wnt_meant(prelude.as_ptr(), prelude.len(), member.as_ptr(), member.len(), row) }
+}
+
+/// The answer of `wnt_moved`, which may write into the last three parts.
+pub fn moved(form: &[u8], out: &mut [u8], moved: &mut [u8], apart: &mut [u8]) -> u64 {
+    // SAFETY: the four parts are valid for their lengths, apart from each other, for as long as the call lasts.
+    unsafe {
+        wnt_moved(
+            form.as_ptr(),
+            form.len(),
+            out.as_mut_ptr(),
+            out.len(),
+            moved.as_mut_ptr(),
+            moved.len(),
+            apart.as_mut_ptr(),
+            apart.len(),
+        )
+    }
+}
+
+/// The answer of `wnt_check`, which works in `table` and `index`.
+pub fn check(form: &[u8], claim: &[u8], table: &mut [[u32; 6]], index: &mut [u16]) -> u64 {
+    let (slots, links) = (table.len(), index.len());
+    // SAFETY: the four parts are valid for their lengths, and the last two are apart from the others, for as long as the
+    // call lasts.
+    unsafe {
+        wnt_check(
+            form.as_ptr(),
+            form.len(),
+            claim.as_ptr(),
+            claim.len(),
+            table.as_mut_ptr(),
+            slots,
+            index.as_mut_ptr(),
+            links,
+        )
+    }
+}
+
+/// The answer of `wnt_sheet`, which writes into `answers` and works in `work`.
+pub fn sheet(form: &[u8], resolved: &[u8], sheet: &[u8], answers: &mut [u8], work: &mut [u8]) -> u64 {
+    // SAFETY: the five parts are valid for their lengths, and the last two are apart from the others, for as long as the
+    // call lasts.
+    unsafe {
+        wnt_sheet(
+            form.as_ptr(),
+            form.len(),
+            resolved.as_ptr(),
+            resolved.len(),
+            sheet.as_ptr(),
+            sheet.len(),
+            answers.as_mut_ptr(),
+            answers.len(),
+            work.as_mut_ptr(),
+            work.len(),
+        )
+    }
 }

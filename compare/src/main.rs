@@ -5,13 +5,18 @@ mod bench;
 mod builds;
 mod cases;
 mod chance;
+mod claims;
 mod compare;
+mod convert;
 mod damage;
 mod generate;
+mod lent;
 mod library;
 mod meant;
 mod mend;
+mod moved;
 mod oracle;
+mod partner;
 mod recognise;
 mod reduce;
 mod renaming;
@@ -21,6 +26,7 @@ mod samples;
 #[cfg(feature = "planted")]
 mod sensitivity;
 mod shapes;
+mod sheet;
 mod source;
 mod spoil;
 // The crate's files decide what is used of these.
@@ -28,8 +34,11 @@ mod spoil;
 mod standins;
 mod sweep;
 mod tally;
+mod told;
 mod tree;
 mod vectors;
+mod verify;
+mod wrong;
 
 use standins::error::Error;
 use standins::{annotation, core, kw, lexer, parser};
@@ -47,11 +56,21 @@ compare --sensitivity [--seed S]               plant changes on both sides and s
 compare --vectors N [--seed S] [--onto FILE] > OTHER
                                                write fixed vectors, at most N of each refusal, behind those of FILE
 compare --renaming N [--seed S]                resolve N random forms again with other names, and compare the two
-compare --bench FILE [--repetitions N]         time both sides; the picture goes to FILE as SVG
-compare --shapes FOLDER                        write the benchmark's forms of about 1,000 rows, for a profiler
+compare --bench FILE [--repetitions N] [--larger] [--least]
+                                               time both sides; the picture goes to FILE as SVG. With --larger forms of
+                                               version 2, with --least the least time of each form, not the median
+compare --shapes FOLDER                        write the benchmark's largest forms of both versions, for a profiler
 compare --samples FOLDER [--forms N]           write accepted random forms and their outputs, for readings.py
+compare --lent N [--seed S]                    resolve N forms of both versions in areas that are lent, and compare
+compare --convert N [--seed S]                 convert N forms, and compare with a converter written for it
 compare --mend N [--seed S]                    mend N spoilt forms, and compare with a mender written for it
-compare --meant N [--seed S]                   ask what the names of N members mean, and compare with a second reading";
+compare --meant N [--seed S]                   ask what the names of N members mean, and compare with a second reading
+compare --moved N [--seed S]                   list the moved numbers of N forms, and compare with a second reading
+compare --sheet N [--seed S]                   hold a binding sheet against N forms, and compare with a second reading
+compare --check N [--seed S]                   check N claimed outputs, and compare with a checker written for it
+compare --check-bench N                        time checking beside resolving, the shortest of N calls each
+compare --check-vectors N [--seed S] > OTHER   write fixed vectors of claims, at most N of each kind and verdict
+compare --told N [--seed S]                    compare on N forms what refusals tell besides";
 
 /// The value after `--name`, read as a number.
 fn number(arguments: &[String], name: &str) -> Option<u64> {
@@ -102,8 +121,13 @@ fn write_vectors(arguments: &[String], count: u64) -> bool {
 }
 
 fn bench(arguments: &[String], file: &str) -> bool {
-    let repetitions = number(arguments, "--repetitions").unwrap_or(1001);
-    let picture = bench::run(repetitions as usize);
+    let has = |name: &str| arguments.iter().any(|argument| argument == name);
+    let bench = bench::Bench {
+        version: if has("--larger") { rows::SECOND } else { rows::FIRST },
+        repetitions: number(arguments, "--repetitions").unwrap_or(1001) as usize,
+        counted: if has("--least") { bench::least } else { bench::median },
+    };
+    let picture = bench.run();
     is_written(file, std::fs::write(file, picture))
 }
 
@@ -138,10 +162,28 @@ fn main() -> ExitCode {
         write_vectors(&arguments, count)
     } else if let Some(forms) = number(&arguments, "--renaming") {
         renaming::run(&comparison(), number(&arguments, "--seed").unwrap_or(1), forms)
+    } else if let Some(forms) = number(&arguments, "--lent") {
+        lent::run(&comparison(), number(&arguments, "--seed").unwrap_or(1), forms)
+    } else if let Some(forms) = number(&arguments, "--convert") {
+        convert::run(number(&arguments, "--seed").unwrap_or(1), forms)
     } else if let Some(count) = number(&arguments, "--mend") {
         spoil::run(number(&arguments, "--seed").unwrap_or(1), count)
     } else if let Some(pairs) = number(&arguments, "--meant") {
         meant::run(number(&arguments, "--seed").unwrap_or(1), pairs)
+    } else if let Some(each) = number(&arguments, "--check-vectors") {
+        let seed = number(&arguments, "--seed").unwrap_or(1);
+        std::io::stdout().write_all(&verify::vectors(&comparison(), seed, each as usize)).is_ok()
+    } else if let Some(forms) = number(&arguments, "--moved") {
+        moved::run(number(&arguments, "--seed").unwrap_or(1), forms)
+    } else if let Some(forms) = number(&arguments, "--sheet") {
+        sheet::run(number(&arguments, "--seed").unwrap_or(1), forms)
+    } else if let Some(repetitions) = number(&arguments, "--check-bench") {
+        bench::check(repetitions as usize);
+        true
+    } else if let Some(pairs) = number(&arguments, "--check") {
+        verify::run(&comparison(), number(&arguments, "--seed").unwrap_or(1), pairs)
+    } else if let Some(forms) = number(&arguments, "--told") {
+        told::run(&comparison(), number(&arguments, "--seed").unwrap_or(1), forms)
     } else if let Some(pairs) = number(&arguments, "--builds") {
         builds::run(pairs, number(&arguments, "--seed").unwrap_or(1))
     } else if has("--sensitivity") {

@@ -127,7 +127,7 @@ left-out x xs l k e a left to out = skip-one x (xs ++ l) 0 (length xs) false lef
 abbrev pub NotFresh : List Noted → Type 0
 NotFresh l = nth l 0 .parts .code ≡ 2 → nth l 0 .parts .x < 2147483648
 
-made-none : (size value : ℕ) (l : List Noted) → (nth l (size - 2) .parts .code ≡ 2 → nth l (size - 2) .parts .x < 2147483648) → madeT size value l .size ≡ 0
+pub made-none : (size value : ℕ) (l : List Noted) → (nth l (size - 2) .parts .code ≡ 2 → nth l (size - 2) .parts .x < 2147483648) → madeT size value l .size ≡ 0
 unfolding madeT
 made-none size value l f = go (eqb (nth l (size - 2) .parts .code) 2) refl
   where

@@ -13,7 +13,7 @@ use Rattle.back_laws.specs.Notes.{declNotes, blankNotes, operandNotes, o
 
 -- ---- each row has a note
 
-declsLong : (k : ℕ) (past ds : List Declaration) → length (declRows ds) ≡ length (declNotes k past ds)
+pub declsLong : (k : ℕ) (past ds : List Declaration) → length (declRows ds) ≡ length (declNotes k past ds)
 unfolding declRows declNotes
 declsLong k past [] = refl
 declsLong k past (d ∷ ds) = ap suc (declsLong k (past ++ (d ∷ [])) ds)

@@ -64,7 +64,7 @@ before-ops rest (one-op {xs = xs} b n p) = go (before-ops rest p)
     go : beforeField (xs ++ rest) ≡ beforeField rest → beforeField (with (opRow b) n ∷ (xs ++ rest)) ≡ beforeField rest
     go e = unfold beforeField pick in rw (ne-eqb (codeIn (opRow b)) 1 (op-code b .0)) e
 
-ops-not-fresh : {os : List Operand} {xs : List Noted} (rest : List Noted) → Ops os xs → NotFresh rest → NotFresh (xs ++ rest)
+pub ops-not-fresh : {os : List Operand} {xs : List Noted} (rest : List Noted) → Ops os xs → NotFresh rest → NotFresh (xs ++ rest)
 ops-not-fresh rest no-ops f = f
 ops-not-fresh rest (one-op b n p) f = λ e. absurd (op-code b .1 e)
 

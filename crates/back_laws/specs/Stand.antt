@@ -44,7 +44,7 @@ with-length (x ∷ xs) (m ∷ ms) e = ap suc (with-length xs ms (omega arith))
 
 -- ---- rows that stand in bytes
 
-part-is : (p : Parts) (r : Row) → rawOf p ≡ encode r → p ≡ asParts r
+pub part-is : (p : Parts) (r : Row) → rawOf p ≡ encode r → p ≡ asParts r
 unfolding asParts
 part-is p r e = ap ofRaw e
 
@@ -53,7 +53,7 @@ unfolding rowsFrom allParts
 rows-are l i [] a = refl
 rows-are l i (r ∷ rs) a = ap₂ (λ (p : Parts) (ps : List Parts). p ∷ ps) (part-is (partsAt l i) r (a .0)) (rows-are l (i + 1) rs (a .1))
 
-row-size : (r : Row) → length (encodeRow r) ≡ 16
+pub row-size : (r : Row) → length (encodeRow r) ≡ 16
 row-size r = let e : rowsBytes (r ∷ []) ≡ encodeRow r = unfold rowsBytes in append-nil (encodeRow r) in rw (← e) (rows-length (r ∷ []))
 
 -- from row i on these rows stand there, with these notes

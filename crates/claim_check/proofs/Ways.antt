@@ -3,13 +3,11 @@ use mathlib.Core.Path.{_≡_, refl, sym, ap, _∙_}
 use mathlib.Core.List.{List, [], _∷_, _++_, append-nil}
 use Prim.Native.Nat.{ℕ, zero, suc, _+_, _*_, _%_, _<_, _≤_}
 use native.Mathlib.Omega.{arith}
-use native.Mathlib.Numerals.{add-one}
 use mathlib.Core.Bool.{false}
 use lib.ListN.{length, take, drop, set, replicate, length-set, length-replicate}
 use lib.Seq.{take-all, take-at, length-take-le}
 use borrow.Author.Needs.{needs}
 use Rattle.kit.specs.Out.{Out, _&_}
-use Rattle.kit.proofs.Laws.{take-next-set}
 use Rattle.names.specs.Table.{Slot, emptySlot}
 use Rattle.index.specs.Indexed.{Holds}
 use Rattle.index.proofs.Storey.{holds-none}
@@ -31,17 +29,6 @@ use Rattle.claim_check.specs.declared.Verdict.the-variants.{Yes}
 -- ---- the areas
 
 module _ {A : Type 0} where
-  copies-snoc : (n : ℕ) (z : A) → replicate n z ++ (z ∷ []) ≡ replicate (suc n) z
-  copies-snoc zero z = refl
-  copies-snoc (suc n) z = ap (λ (l : List A). z ∷ l) (copies-snoc n z)
-
-  module _ (l : List A) (i : ℕ) (z : A) (h : take i l ≡ replicate i z) where
-    pub clear-turn : i < length l → take (i + 1) (set l i z) ≡ replicate (i + 1) z
-    clear-turn g = take-next-set l i z g ∙ rw (h, add-one i) (copies-snoc i z)
-
-    pub clear-end : (n : ℕ) → length l ≤ i → i ≤ n → length l ≡ n → l ≡ replicate n z
-    clear-end n g k e = let q : i ≡ n = omega arith in sym (take-all i l (omega arith)) ∙ rw q (rw q at h)
-
   -- the whole of a short one, and the front of a long one
   pub cleared-all : (l l′ : List A) (size : ℕ) (z : A) → length l < size → l′ ≡ replicate (length l) z → l′ ≡ cleared size z l
   unfolding cleared
@@ -56,11 +43,6 @@ module _ {A : Type 0} where
   pub cleared-front : (l l′ : List A) (size : ℕ) (z : A) → l′ ≡ replicate (length (take size l)) z → l′ ++ drop size l ≡ cleared size z l
   unfolding cleared
   cleared-front l l′ size z e = rw e
-
-pub start-none : {A : Type 0} (l : List A) (z : A) → take 0 l ≡ replicate 0 z
-start-none l z = refl
-
-pub ruleset clearing = (clear-turn, clear-end, start-none, needs)
 
 pub ruleset fronts = (cleared-all, cleared-front, needs)
 

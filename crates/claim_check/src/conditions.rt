@@ -1,7 +1,7 @@
 // Conditions 2 to 4 in their order, on the rows of both forms. Where the table and its index begin, nothing is asked of what
 // they hold.
 use crate::Verdict;
-use crate::area::clear_links;
+use areas::zero_links;
 use claim_aliases::try_aliases;
 use claim_numbers::enter::enter_all;
 use claim_operands::run::try_operands;
@@ -13,7 +13,7 @@ ghost use lib.ListN.{length};
 ghost use Rattle.claim_check.specs.Run.{Fit, noT, fourthT, thirdT, conditionsT};
 
 // The condition is broken, first at this row.
-fn no(condition: u32, row: usize) -> Verdict
+fn no(condition: u8, row: usize) -> Verdict
     ensures { λ r. ⌜ r ≡ noT condition row ⌝ }
 {
     Verdict::No {
@@ -26,7 +26,7 @@ fn try_fourth(input: &[u8], claim: &[u8], table: &mut [Slot], index: &mut [u16])
     requires { ⌜ Fit (length (now table)) (length (now index)) ⌝ }
     ensures { λ r. ⌜ r ≡ fourthT (now (input .entry)) (now (claim .entry)) (length (now (table .entry))) ⌝ }
 {
-    clear_links(index);
+    zero_links(index);
     let used = enter_all(claim, table, index);
     match try_operands(input, claim, table, index, used) {
         Tried::Passes => Verdict::Yes,
@@ -38,7 +38,7 @@ fn try_third(input: &[u8], claim: &[u8], table: &mut [Slot], index: &mut [u16]) 
     requires { ⌜ Fit (length (now table)) (length (now index)) ⌝ }
     ensures { λ r. ⌜ r ≡ thirdT (now (input .entry)) (now (claim .entry)) (length (now (table .entry))) ⌝ }
 {
-    clear_links(index);
+    zero_links(index);
     match try_aliases(claim, table, index) {
         Tried::Passes => try_fourth(input, claim, table, index),
         Tried::Breaks(row) => no(3, row),

@@ -16,31 +16,56 @@ use files::read::Loaded;
 use files::read::load;
 use files::standard::error_noted;
 use files::write::save;
-use known::file::refuse_form;
-use known::file::say_refused;
+use known::file::refuse_told;
+use known::file::say_told;
 use libc::STDOUT_FILENO;
+use moved::run::Answer as Listing;
+use moved::run::moved as list_moved;
 use resolver::run::Answer;
 use resolver::run::resolve;
 use view::accepted::say_accepted;
 use words::say;
+use words::say_number;
 
 // ---- resolve
 
-fn save_form(form: &[u8], path: &[u8]) -> u8 {
+// The warning that a written number counts to something else now.
+fn say_moved(talk: i32, moved: u32) {
+    if 0 < moved {
+        say(talk, b"written numbers that mean another declaration now: ");
+        say_number(talk, moved);
+        say(talk, b" (wnt moved says which)\n");
+    }
+}
+
+fn save_form(form: &[u8], path: &[u8], moved: u32) -> u8 {
     if save(path, form) {
         let before = error_noted();
-        say_accepted(talk_beside(path), form);
+        let talk = talk_beside(path);
+        say_accepted(talk, form);
+        say_moved(talk, moved);
         said(DONE, before)
     } else {
         FAILED
     }
 }
 
+// How many written numbers of an accepted form mean another declaration in its output. The two lists have room for every form.
+fn moved_in(form: &[u8]) -> u32 {
+    let mut buffer = io::large_buffer();
+    let mut moved = [0u8; 16384];
+    let mut apart = [0u8; 12288];
+    match list_moved(form, &mut buffer, &mut moved, &mut apart) {
+        Listing::Listed(listed) => listed.moved,
+        Listing::Refused(_) => 0,
+    }
+}
+
 fn resolve_form(form: &[u8], path: &[u8]) -> u8 {
     let mut buffer = io::large_buffer();
     match resolve(form, &mut buffer) {
-        Answer::Accepted(rows) => save_form(part(&buffer, bytes_of(rows)), path),
-        Answer::Refused(refusal) => refuse_form(form, path, refusal),
+        Answer::Accepted(rows) => save_form(part(&buffer, bytes_of(rows)), path, moved_in(form)),
+        Answer::Refused(refusal, told) => refuse_told(form, path, refusal, told),
     }
 }
 
@@ -70,7 +95,7 @@ pub fn resolve_command(task: Task, first: u8) -> u8 {
         Task::Run => run_resolve(first),
         Task::Help => say_topic(
             b"resolve IN OUT",
-            b"Resolves the form IN, writes the resolved form to OUT, and says how many rows and inserted\naliases it has. A file OUT is written whole or not at all. A form that is refused is not\nwritten: the refusal is printed, with its number, its place and what it means.\n",
+            b"Resolves the form IN, writes the resolved form to OUT, and says how many rows and inserted\naliases it has, and how many written numbers mean another declaration now, if any do. A file\nOUT is written whole or not at all. A form that is refused is not written: the refusal is\nprinted, with its number, its place and what it means.\n",
             b"accepted, and written",
             b"refused",
             b"resolve driver.wnt resolved.wnt",
@@ -87,8 +112,8 @@ fn check_form(form: &[u8]) -> u8 {
             say_accepted(STDOUT_FILENO, part(&buffer, bytes_of(rows)));
             DONE
         }
-        Answer::Refused(refusal) => {
-            say_refused(STDOUT_FILENO, form, refusal);
+        Answer::Refused(refusal, told) => {
+            say_told(STDOUT_FILENO, form, refusal, told);
             NO
         }
     }

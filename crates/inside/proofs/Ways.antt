@@ -20,6 +20,7 @@ use Rattle.rules.specs.Tree.{Scope, flatten}
 use Rattle.rules.specs.Answer.{hasHeader}
 use Rattle.batching.specs.Batch.{rootOf, insideAnswer, insideOutput}
 use Rattle.refusal.specs.declared.Refusal.{Refusal}
+use Rattle.refusal.specs.Refusals.{untold}
 use Rattle.parts.specs.Apart.{partsAt}
 use Rattle.parts.specs.declared.Parts.{Parts}
 use Rattle.limits.specs.declared.Limits.{Limits}
@@ -195,7 +196,7 @@ unfolding fillT
 fills-as walk walk′ front e = rw e
 
 module _ (input old : List ℕ) (f : Form) (w : f ≡ formOf (admit S input (length old))) (enough : Enough f S input (length old)) where
-  pub resolves-early : (root : List ℕ) (why : Refusal) → f ≡ NotWhole why → Resolves root input old old (Refused why)
+  pub resolves-early : (root : List ℕ) (why : Refusal) → f ≡ NotWhole why → Resolves root input old old (Refused why untold)
   resolves-early root why e t R = (inside-early version1 (rootOf t) input (length old) why (sym e ∙ w), inside-stays version1 (rootOf t) input (length old) why (sym e ∙ w) old refl)
 
   module _ (rows : ℕ) (e : f ≡ Whole rows) where

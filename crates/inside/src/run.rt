@@ -9,6 +9,7 @@ use parts::parts_at;
 use prelude_root::enter_root;
 use refusal::ROOM;
 use refusal::Refusal;
+use refusal::Told;
 use resolver::run::Answer;
 use resolver::run::blank;
 use resolver::run::finish;
@@ -87,13 +88,16 @@ fn fill_inside(root: &[u8], rows: &[u8], front: &mut [u8]) -> Answer
     ensures { λ r. ⌜ (r & now (front .exit)) ≡ fillT (setting 0) (walkAround (now (root .entry)) (now (rows .entry))) (now (front .entry)) ⌝ }
 {
     if front.len() < HEADER {
-        return Answer::Refused(Refusal {
-            number: ROOM,
-            place: 0,
-        });
+        return Answer::Refused(
+            Refusal {
+                number: ROOM,
+                place: 0,
+            },
+            Told { space: 0, first: 0 },
+        );
     }
     match walk_inside(root, rows, &mut front[HEADER..]) {
-        Walked::Refused(number, place) => blank(front, number, place),
+        Walked::Refused(refusal, told) => blank(front, refusal, told),
         Walked::Done(s) => finish(front, 0, s.to),
     }
 }
@@ -103,7 +107,7 @@ pub fn resolve_inside(root: &[u8], form: &[u8], out: &mut [u8]) -> Answer
     ensures { λ r. ⌜ Resolves (now (root .entry)) (now (form .entry)) (now (out .entry)) (now (out .exit)) r ⌝ }
 {
     match admitted_inside(form, out.len()) {
-        Form::Refused(why) => Answer::Refused(why),
+        Form::Refused(why) => Answer::Refused(why, Told { space: 0, first: 0 }),
         Form::Whole(rows) => {
             let size = HEADER + 64 * rows;
             fill_inside(root, &form[HEADER..], &mut out[..size])

@@ -26,7 +26,8 @@ use Rattle.batching.specs.Laws.MemberLaws.{prelude-told}
 use Rattle.limits.specs.Held.{setting}
 use Rattle.stores.specs.Zeros.{zeroFrom}
 use Rattle.refusal.specs.declared.Refusal.{Refusal}
-use Rattle.resolver.specs.Meaning.{Numbers, numbers, meaning, ruled}
+use Rattle.refusal.specs.declared.Told.{Told}
+use Rattle.resolver.specs.Meaning.{Numbers, numbers, Said, meaning, ruled}
 use Rattle.resolver.specs.declared.run.Answer.{Answer}
 use Rattle.resolver.specs.declared.run.Answer.the-variants.{Accepted, Refused}
 use Rattle.resolver.proofs.Bytes.{all-bytes}
@@ -108,22 +109,22 @@ rows-in l count to from e f =
 -- ---- said
 
 module _ (a : Answer) where
-  pub said-accepted : (rows : ℕ) → a ≡ Accepted rows → numbers 0 rows ≡ meaning a
+  pub said-accepted : (rows : ℕ) → a ≡ Accepted rows → numbers 0 rows ≡ meaning a .plain
   said-accepted rows q = rw q
 
-  pub said-refused : (r : Refusal) → a ≡ Refused r → numbers (r .number) (r .place) ≡ meaning a
-  said-refused r q = rw q
+  pub said-refused : (r : Refusal) (t : Told) → a ≡ Refused r t → numbers (r .number) (r .place) ≡ meaning a .plain
+  said-refused r t q = rw q
 
 -- ---- resolve_member
 
-is-refused : (a : rules.Answer) (n p : ℕ) → numbers n p ≡ ruled a → (n ≡ 0 → ⊥) → (c : List ℕ) × (a ≡ refused n p c)
+is-refused : (a : rules.Answer) (n p : ℕ) → numbers n p ≡ ruled a .plain → (n ≡ 0 → ⊥) → (c : List ℕ) × (a ≡ refused n p c)
 is-refused (refused k z c) n p e h =
     let x : n ≡ k = ap (λ (q : Numbers). q .number) e in
     let y : p ≡ z = ap (λ (q : Numbers). q .place) e in
     (c, rw (x, y))
 is-refused (accepted rs) n p e h = absurd (h (ap (λ (q : Numbers). q .number) e))
 
-is-accepted : (a : rules.Answer) (n p : ℕ) → Counted a → numbers n p ≡ ruled a → n ≡ 0 → (rs : List Row) × (a ≡ accepted rs) × (p ≡ length rs)
+is-accepted : (a : rules.Answer) (n p : ℕ) → Counted a → numbers n p ≡ ruled a .plain → n ≡ 0 → (rs : List Row) × (a ≡ accepted rs) × (p ≡ length rs)
 is-accepted (refused k z c) n p h e q = let x : n ≡ k = ap (λ (y : Numbers). y .number) e in absurd (omega (arith, x, q, h))
 is-accepted (accepted rs) n p h e q = (rs, refl, ap (λ (y : Numbers). y .place) e)
 
@@ -132,9 +133,9 @@ unfolding mapAnswer
 prelude-refused (refused k z d) n p c e = cc
 prelude-refused (accepted q) n p c e = let z : _≡_ {A = ℕ} 0 1 = cc in absurd (omega arith)
 
-module _ (prelude area : List ℕ) (said : Refusal) (a : Answer) (told : numbers (said .number) (said .place) ≡ meaning a) (ran : meaning a ≡ ruled (answer base prelude (length area))) where
-  as-ruled : numbers (said .number) (said .place) ≡ ruled (answer base prelude (length area))
-  as-ruled = told ∙ ran
+module _ (prelude area : List ℕ) (said : Refusal) (a : Answer) (told : numbers (said .number) (said .place) ≡ meaning a .plain) (ran : meaning a ≡ ruled (answer base prelude (length area))) where
+  as-ruled : numbers (said .number) (said .place) ≡ ruled (answer base prelude (length area)) .plain
+  as-ruled = told ∙ ap (λ (x : Said). x .plain) ran
 
   module _ (h : said .number ≡ 0 → ⊥) where
     is-told : (c : List ℕ) × (preludeOf base prelude (length area) ≡ refused (said .number) (said .place) c)
@@ -145,8 +146,8 @@ module _ (prelude area : List ℕ) (said : Refusal) (a : Answer) (told : numbers
     pub told-low : said .number ≤ 13
     told-low = prelude-told base prelude (length area) [] 0 (said .number) (said .place) (is-told .0) (is-told .1) .1
 
-    pub told-answers : (member : List ℕ) (room : ℕ) (r : Answer) → meaning r ≡ numbers (200 + said .number) (said .place) → meaning r ≡ ruled (memberAnswer base prelude (length area) member room)
-    told-answers member room r e = e ∙ sym (ap ruled (prelude-told base prelude (length area) member room (said .number) (said .place) (is-told .0) (is-told .1) .0))
+    pub told-answers : (member : List ℕ) (room : ℕ) (r : Refusal) → r ≡ record { number = 200 + said .number; place = said .place } → numbers (r .number) (r .place) ≡ ruled (memberAnswer base prelude (length area) member room) .plain
+    told-answers member room r e = rw e (sym (ap (λ (x : rules.Answer). ruled x .plain) (prelude-told base prelude (length area) member room (said .number) (said .place) (is-told .0) (is-told .1) .0)))
 
     pub told-stays : (member old : List ℕ) → old ≡ memberOutput base prelude (length area) member old
     unfolding memberOutput
@@ -162,9 +163,9 @@ module _ (prelude area : List ℕ) (said : Refusal) (a : Answer) (told : numbers
       inside : (meaning r ≡ ruled (insideAnswer (setting 0) (rootOf (found .tree)) member (length old))) × (new ≡ insideOutput (setting 0) (rootOf (found .tree)) member old)
       inside = resolves (found .tree) (subst (RootIn (found .tree)) (sym (rows ∙ ap (λ (o : List ℕ). take (16 * said .place) (drop 8 o)) left)) (found .root))
 
-      pub inside-answers : meaning r ≡ ruled (memberAnswer base prelude (length area) member (length old))
+      pub inside-answers : (q : Refusal) → numbers (q .number) (q .place) ≡ meaning r .plain → numbers (q .number) (q .place) ≡ ruled (memberAnswer base prelude (length area) member (length old)) .plain
       unfolding memberAnswer
-      inside-answers = rw (found .is) (inside .0)
+      inside-answers q e = rw (found .is) (e ∙ ap (λ (x : Said). x .plain) (inside .0))
 
       pub inside-leaves : new ≡ memberOutput base prelude (length area) member old
       unfolding memberOutput
@@ -216,8 +217,8 @@ module _ (prelude member old work : List ℕ) (room : ℕ) (is : room ≡ roomWi
   front : length (take room work) ≡ roomWith (ltb (length work) 65480) 65480
   front = length-take-le room work less ∙ is
 
-  pub as-answered : (a b : Answer) → a ≡ b → meaning a ≡ ruled (memberAnswer base prelude (length (take room work)) member (length old)) → meaning b ≡ ruled (memberAnswer base prelude (roomWith (ltb (length work) 65480) 65480) member (length old))
-  as-answered a b e m = rw e at (m ∙ ap (λ (n : ℕ). ruled (memberAnswer base prelude n member (length old))) front)
+  pub as-answered : (r : Refusal) → numbers (r .number) (r .place) ≡ ruled (memberAnswer base prelude (length (take room work)) member (length old)) .plain → numbers (r .number) (r .place) ≡ ruled (memberAnswer base prelude (roomWith (ltb (length work) 65480) 65480) member (length old)) .plain
+  as-answered r m = m ∙ ap (λ (n : ℕ). ruled (memberAnswer base prelude n member (length old)) .plain) front
 
   pub as-left : (new : List ℕ) → new ≡ memberOutput base prelude (length (take room work)) member old → new ≡ memberOutput base prelude (roomWith (ltb (length work) 65480) 65480) member old
   as-left new e = e ∙ ap (λ (n : ℕ). memberOutput base prelude n member old) front

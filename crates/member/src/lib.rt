@@ -38,16 +38,16 @@ pub fn rows_of(form: &[u8], count: u32) -> &[u8]
     &form[from..to]
 }
 
-// What the resolver answers, as a refusal: its number is 0 if there is none, and its place the number of rows.
+// The number and the place of an answer: 0 and the number of rows if nothing is refused.
 pub fn said(answer: Answer) -> Refusal
-    ensures { λ r. ⌜ numbers (r .number) (r .place) ≡ meaning answer ⌝ }
+    ensures { λ r. ⌜ numbers (r .number) (r .place) ≡ meaning answer .plain ⌝ }
 {
     match answer {
         Answer::Accepted(rows) => Refusal {
             number: 0,
             place: rows,
         },
-        Answer::Refused(refusal) => Refusal {
+        Answer::Refused(refusal, _) => Refusal {
             number: refusal.number,
             place: refusal.place,
         },
@@ -55,25 +55,25 @@ pub fn said(answer: Answer) -> Refusal
 }
 
 // A prelude's refusal, told from the member's own.
-fn of_prelude(why: Refusal) -> Answer
+fn of_prelude(why: Refusal) -> Refusal
     requires { ⌜ why .number ≤ 13 ⌝ }
-    ensures { λ r. ⌜ meaning r ≡ numbers (200 + why .number) (why .place) ⌝ }
+    ensures { λ r. ⌜ r ≡ record { number = 200 + why .number; place = why .place } ⌝ }
 {
-    Answer::Refused(Refusal {
+    Refusal {
         number: OF_PRELUDE + why.number,
         place: why.place,
-    })
+    }
 }
 
 // The prelude is resolved into `area`, and the member inside its root into `out`.
-fn resolve_member(prelude: &[u8], member: &[u8], out: &mut [u8], area: &mut [u8]) -> Answer
-    ensures { λ r. ⌜ (meaning r ≡ ruled (memberAnswer base (now (prelude .entry)) (length (now (area .entry))) (now (member .entry)) (length (now (out .entry))))) × (now (out .exit) ≡ memberOutput base (now (prelude .entry)) (length (now (area .entry))) (now (member .entry)) (now (out .entry))) ⌝ }
+fn resolve_member(prelude: &[u8], member: &[u8], out: &mut [u8], area: &mut [u8]) -> Refusal
+    ensures { λ r. ⌜ (numbers (r .number) (r .place) ≡ ruled (memberAnswer base (now (prelude .entry)) (length (now (area .entry))) (now (member .entry)) (length (now (out .entry)))) .plain) × (now (out .exit) ≡ memberOutput base (now (prelude .entry)) (length (now (area .entry))) (now (member .entry)) (now (out .entry))) ⌝ }
 {
     let of = said(resolve(prelude, area));
     if of.number != 0 {
         return of_prelude(of);
     }
-    resolve_inside(rows_of(area, of.place), member, out)
+    said(resolve_inside(rows_of(area, of.place), member, out))
 }
 
 // The room of a working area: none where it is below its size.
@@ -91,21 +91,15 @@ fn clear(work: &mut [u8])
     zero_from(&mut work[..size], 0);
 }
 
-// Resolves a member as if its root lay inside the resolved prelude's root. Of `work` the first AREA bytes are zero afterwards.
-pub fn member(prelude: &[u8], member: &[u8], out: &mut [u8], work: &mut [u8]) -> Answer
-    ensures { λ r. ⌜ meaning r ≡ ruled (memberAnswer base (now (prelude .entry)) (roomWith (ltb (length (now (work .entry))) 65480) 65480) (now (member .entry)) (length (now (out .entry)))) ⌝ }
+// Resolves a member as if its root lay inside the resolved prelude's root: number and place of the refusal, or 0 and the number of
+// rows. Of `work` the first AREA bytes are zero afterwards.
+pub fn member(prelude: &[u8], member: &[u8], out: &mut [u8], work: &mut [u8]) -> Refusal
+    ensures { λ r. ⌜ numbers (r .number) (r .place) ≡ ruled (memberAnswer base (now (prelude .entry)) (roomWith (ltb (length (now (work .entry))) 65480) 65480) (now (member .entry)) (length (now (out .entry)))) .plain ⌝ }
     ensures { λ _. ⌜ now (out .exit) ≡ memberOutput base (now (prelude .entry)) (roomWith (ltb (length (now (work .entry))) 65480) 65480) (now (member .entry)) (now (out .entry)) ⌝ }
     ensures { λ _. ⌜ now (work .exit) ≡ cleared 0 65480 (now (work .entry)) ⌝ }
 {
     let room = room_in(work.len());
-    match resolve_member(prelude, member, out, &mut work[..room]) {
-        Answer::Accepted(rows) => {
-            clear(work);
-            Answer::Accepted(rows)
-        }
-        Answer::Refused(why) => {
-            clear(work);
-            Answer::Refused(why)
-        }
-    }
+    let answer = resolve_member(prelude, member, out, &mut work[..room]);
+    clear(work);
+    answer
 }

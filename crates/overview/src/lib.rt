@@ -25,6 +25,10 @@ fn say_commands(talk: i32) {
     );
     say(
         talk,
+        b"  wnt moved FORM          say which written numbers mean another declaration once it is resolved\n",
+    );
+    say(
+        talk,
         b"  wnt anonymise FORM OUT  write the form to OUT with 1, 2, 3, .. for its names; print the key\n",
     );
     say(

@@ -114,7 +114,7 @@ body-long : (v : Setting) (bs : List ℕ) (n : ℕ) → 8 ≤ v .version .header
 body-long v bs n h long = let l = length-drop (v .version .header - 8) bs in omega (arith, l, h, long)
 
 -- the output begins with the form's bytes
-begins : (settings : List Setting) (input old : List ℕ) (v : Setting) (t : Scope) → settingOf settings input ≡ some v → formIn [] v input (length old) ≡ accepted t
+pub begins : (settings : List Setting) (input old : List ℕ) (v : Setting) (t : Scope) → settingOf settings input ≡ some v → formIn [] v input (length old) ≡ accepted t
     → (rest : List ℕ) × (output settings input old ≡ formBytes v (flatten t) ++ rest)
 unfolding output Answer.outputInside Answer.outputFor Answer.outputAfter written answerIn mapAnswer
 begins settings input old v t e f = (
@@ -205,3 +205,11 @@ module _ (settings : List Setting) (usual : AllUsual settings) (within : AllWith
       let countable = trees .usual .countable in
       let few : length out < 256 ^ v .version .counting = omega (arith, four, counted, countable) in
       begin-rows (formBytes v out) [] (sym whole) (ap (rowsIn (asClaimed v)) (sym whole) ∙ out-rows v out [] (trees .usual .header) few (trees .fit))
+
+  pub rows-of-file-are : parts.rowsIn (body v (formBytes v out)) ≡ length (flatten (trees .after))
+  rows-of-file-are =
+      let long = form-long v out (trees .usual .header) in
+      let l = length-drop (v .version .header - 8) (formBytes v out) in
+      let h = inside .header in
+      let n = ap length (trees .of-tree) in
+      rows-just (body v (formBytes v out)) (length (flatten (trees .after))) (omega (arith, long, l, h, n)) few-after

@@ -1,4 +1,4 @@
--- Ways through the areas' sizes and zeros.
+-- Ways through the areas' sizes, and what is left of an area whose front is zeroed.
 use mathlib.Core.Path.{_≡_, refl, sym, ap, _∙_}
 use mathlib.Core.Bool.{Bool, true, false, _&&_}
 use mathlib.Core.Logic.{_⊎_, inl, inr}
@@ -27,21 +27,6 @@ module _ (i : ℕ) (l : Limits) (e : l ≡ limitsOf (setting i)) where
 
   pub rows-few : l .rows ≤ 16383
   rows-few = omega (arith, rows-are, few-rows i)
-
--- ---- zeros
-
-copies-snoc : {A : Type 0} (n : ℕ) (z : A) → replicate n z ++ (z ∷ []) ≡ replicate (suc n) z
-copies-snoc zero z = refl
-copies-snoc (suc n) z = ap (λ (l : List _). z ∷ l) (copies-snoc n z)
-
-module _ {A : Type 0} (z : A) (l : List A) (i : ℕ) (inv : take i l ≡ replicate i z) where
-  pub zero-turn : i < length l → take (i + 1) (set l i z) ≡ replicate (i + 1) z
-  zero-turn h = take-next-set l i z h ∙ ap (λ (x : List A). x ++ (z ∷ [])) inv ∙ copies-snoc i z ∙ ap (λ (n : ℕ). replicate n z) (sym (add-one i))
-
-  pub zero-end : (n : ℕ) → length l ≡ n → i ≤ length l → length l ≤ i → l ≡ replicate n z
-  zero-end n len le ge =
-      let e : i ≡ n = omega arith in
-      sym (take-all i l ge) ∙ inv ∙ ap (λ (k : ℕ). replicate k z) e
 
 -- ---- an area of which the front is lent
 
@@ -75,5 +60,3 @@ module _ (v : Version) (e n : List Slot) (k c m : List ℕ) (a b d f g : ℕ)
   pub exact-is : exactly v (lentOf (take a e) (take b n) (take d k) (take f c) (take g m)) ≡ roomy v (lentOf e n k c m)
   unfolding exactly roomy
   exact-is = rw (fits (slotsFor v) a e ea, fits (slotsFor v) b n eb, fits (linksFor v) d k ed, fits (linksFor v) f c ef, fits (slotsFor v) g m eg)
-
-pub ruleset ways = (rows-are, rows-few, zero-turn, zero-end, needs)

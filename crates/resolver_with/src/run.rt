@@ -1,10 +1,10 @@
 // The run on a form, in working areas that are lent.
-use crate::areas::least;
-use crate::areas::links_for;
-use crate::areas::slots_for;
-use crate::areas::zero_ends;
-use crate::areas::zero_links;
-use crate::areas::zero_slots;
+use crate::sizes::least;
+use crate::sizes::links_for;
+use crate::sizes::slots_for;
+use areas::zero_links;
+use areas::zero_numbers;
+use areas::zero_slots;
 use form::ends::mark_ends_to;
 use form::header::Header;
 use form::header::header_to;
@@ -14,6 +14,7 @@ use names::Scope;
 use names::Slot;
 use refusal::ROOM;
 use refusal::Refusal;
+use refusal::Told;
 use resolver::run::Answer;
 use resolver::run::admitted;
 use resolver::run::blank;
@@ -104,10 +105,13 @@ fn fill_in(
 {
     let header = header_size(i);
     if front.len() < header {
-        return Answer::Refused(Refusal {
-            number: ROOM,
-            place: 0,
-        });
+        return Answer::Refused(
+            Refusal {
+                number: ROOM,
+                place: 0,
+            },
+            Told { space: 0, first: 0 },
+        );
     }
     match walk_in(
         rows,
@@ -119,7 +123,7 @@ fn fill_in(
         chains,
         ends,
     ) {
-        Walked::Refused(number, place) => blank(front, number, place),
+        Walked::Refused(refusal, told) => blank(front, refusal, told),
         Walked::Done(s) => finish(front, i, s.to),
     }
 }
@@ -171,7 +175,7 @@ fn run_in(
         ends.len(),
     );
     match admitted(form, i, room_if(enough, out.len())) {
-        Form::Refused(why) => Answer::Refused(why),
+        Form::Refused(why) => Answer::Refused(why, Told { space: 0, first: 0 }),
         Form::Whole(rows) => {
             let header = header_size(i);
             let size = header + 64 * rows;
@@ -203,7 +207,7 @@ fn clear(
     zero_slots(names);
     zero_links(known);
     zero_links(chains);
-    zero_ends(ends);
+    zero_numbers(ends);
 }
 
 // The same run, after which all areas are zero.
@@ -225,9 +229,9 @@ fn run_cleared(
             clear(entered, names, known, chains, ends);
             Answer::Accepted(rows)
         }
-        Answer::Refused(why) => {
+        Answer::Refused(why, told) => {
             clear(entered, names, known, chains, ends);
-            Answer::Refused(why)
+            Answer::Refused(why, told)
         }
     }
 }

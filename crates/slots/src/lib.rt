@@ -13,12 +13,12 @@ ghost use Rattle.binding.specs.Sheet.{soundSheet, allNamed, slots};
 ghost use Rattle.slots.specs.Slots.{ruled, pairBytes, noted, answered};
 
 // The bytes of a slot, and of the longest sheet.
-const SLOT: usize = 12;
+pub const SLOT: usize = 12;
 
 const LONGEST: usize = 2400;
 
 // The bytes of an answer.
-const ANSWER: usize = 8;
+pub const ANSWER: usize = 8;
 
 fn wide(byte: u8) -> u32
     ensures { λ r. ⌜ (r ≡ byte) × (r < 256) ⌝ }

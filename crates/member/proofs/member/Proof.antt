@@ -15,13 +15,7 @@ member-spec =
     (λ c. search needs)  -- slice-relend-prefix-resolve-member
     (λ c. sym (length-take-le _ _ (omega arith)))  -- slice-aggregate-resolve-member
     (λ c κs. search needs)  -- resolve-member-requires
-    (λ c. search needs)  -- enum-known-rows
     (λ c κs. search needs)  -- clear-requires
-    (λ c. search needs)  -- enum-known-why
-    (λ c κs. search needs)  -- clear-requires-2
     (λ c. search needs)  -- same-length
     (λ c. search needs)  -- same-length-2
-    (λ c. (search returns, (search returns, search returns)))  -- returns
-    (λ c. search needs)  -- same-length-3
-    (λ c. search needs)  -- same-length-4
-    (λ c. (search returns, (search returns, search returns))))  -- returns-2
+    (λ c. (search returns, (search returns, search returns))))  -- returns

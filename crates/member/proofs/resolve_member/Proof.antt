@@ -15,6 +15,7 @@ resolve-member-spec =
     (λ c. (search (told-answers, needs), search (told-stays, needs)))  -- returns
     (λ c κs. search needs)  -- rows-of-requires
     (λ c κs. search needs)  -- resolve-inside-requires
+    (λ c κs. search needs)  -- said-requires-2
     (λ c. search needs)  -- same-length-2
     (λ c. search needs)  -- same-length-3
     (λ c. (search (inside-answers, needs), search (inside-leaves, needs))))  -- returns-2

@@ -30,12 +30,12 @@ use Rattle.unresolving.specs.Laws.Restored.{HeadBack, HeadMade, head-mad
 -- ---- inserted fields are collected, and go to the field that they stand before
 
 module _ (here : List Declaration) (outside : List (List Declaration)) where
-  unresolve-own : (j : Item) (fs : Fields) (waiting : List Head) → isInserted (headOf j) ≡ false
+  pub unresolve-own : (j : Item) (fs : Fields) (waiting : List Head) → isInserted (headOf j) ≡ false
       → unresolveFields (j ▸ fs) here outside waiting ≡ unresolveItem j here outside waiting ▸ unresolveFields fs here outside []
   unfolding unresolveScope if_then_else_
   unresolve-own j fs waiting e = rw e
 
-  unresolve-inserted : (h : Head) (fs : Fields) (waiting : List Head) → isInserted h ≡ true
+  pub unresolve-inserted : (h : Head) (fs : Fields) (waiting : List Head) → isInserted h ≡ true
       → unresolveFields (plain h ▸ fs) here outside waiting ≡ unresolveFields fs here outside (waiting ++ (h ∷ []))
   unfolding unresolveScope headOf if_then_else_
   unresolve-inserted h fs waiting e = rw e

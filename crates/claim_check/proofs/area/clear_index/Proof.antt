@@ -11,11 +11,11 @@ pub clear-index-spec : {M : Type 1} → statement M
 clear-index-spec =
     tie.close
     (tie.spec
-    (λ c κs. search needs)  -- clear-links-requires
+    (λ c κs. search needs)  -- zero-links-requires
     (λ c. search needs)  -- same-length
     (λ c. search fronts)  -- returns
-    (λ c. search needs)  -- slice-relend-prefix-clear-links
-    (λ c. sym (length-take-le _ _ (omega arith)))  -- slice-aggregate-clear-links
-    (λ c κs. search needs)  -- clear-links-requires-2
+    (λ c. search needs)  -- slice-relend-prefix-zero-links
+    (λ c. sym (length-take-le _ _ (omega arith)))  -- slice-aggregate-zero-links
+    (λ c κs. search needs)  -- zero-links-requires-2
     (λ c. search needs)  -- same-length-2
     (λ c. search fronts))  -- returns-2

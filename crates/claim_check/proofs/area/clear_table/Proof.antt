@@ -11,11 +11,11 @@ pub clear-table-spec : {M : Type 1} → statement M
 clear-table-spec =
     tie.close
     (tie.spec
-    (λ c κs. search needs)  -- clear-slots-requires
+    (λ c κs. search needs)  -- zero-slots-requires
     (λ c. search needs)  -- same-length
     (λ c. search fronts)  -- returns
-    (λ c. search needs)  -- slice-relend-prefix-clear-slots
-    (λ c. sym (length-take-le _ _ (omega arith)))  -- slice-aggregate-clear-slots
-    (λ c κs. search needs)  -- clear-slots-requires-2
+    (λ c. search needs)  -- slice-relend-prefix-zero-slots
+    (λ c. sym (length-take-le _ _ (omega arith)))  -- slice-aggregate-zero-slots
+    (λ c κs. search needs)  -- zero-slots-requires-2
     (λ c. search needs)  -- same-length-2
     (λ c. search fronts))  -- returns-2

@@ -8,7 +8,7 @@ pub try-fourth-spec : {M : Type 1} → statement M
 try-fourth-spec =
     tie.close
     (tie.spec
-    (λ c κs. search needs)  -- clear-links-requires
+    (λ c κs. search needs)  -- zero-links-requires
     (λ c κs. search fourths)  -- enter-all-requires
     (λ c κs. search needs)  -- try-operands-requires
     (λ c. search needs)  -- enum-told

@@ -8,7 +8,7 @@ pub try-third-spec : {M : Type 1} → statement M
 try-third-spec =
     tie.close
     (tie.spec
-    (λ c κs. search needs)  -- clear-links-requires
+    (λ c κs. search needs)  -- zero-links-requires
     (λ c κs. search thirds)  -- try-aliases-requires
     (λ c. search needs)  -- enum-told
     (λ c κs. search needs)  -- try-fourth-requires

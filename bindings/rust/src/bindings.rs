@@ -1,0 +1,119 @@
+//! A binding sheet held against a form and its resolved form.
+
+use crate::Refusal;
+
+/// The most slots that a sheet may have.
+pub const MAX_SLOTS: usize = 200;
+
+/// The bytes of a slot.
+pub const SLOT_SIZE: usize = 12;
+
+/// The bytes of an answer to a slot.
+pub const ANSWER_SIZE: usize = 8;
+
+/// The bytes of the working area.
+pub const SHEET_AREA_SIZE: usize = 65480;
+
+extern "C" {
+    fn wnt_sheet(
+        form: *const u8,
+        form_len: usize,
+        resolved: *const u8,
+        resolved_len: usize,
+        sheet: *const u8,
+        sheet_len: usize,
+        answers: *mut u8,
+        answers_len: usize,
+        work: *mut u8,
+        work_len: usize,
+    ) -> u64;
+}
+
+/// What a reference must mean.
+#[derive(Clone, Copy, Debug, PartialEq, Eq, Hash)]
+pub struct Slot {
+    /// The meter family. It is the caller's own.
+    pub family: u32,
+    /// The place of the reference.
+    pub place: u32,
+    /// The name of the declaration that it must mean, not 0.
+    pub name: u32,
+}
+
+/// What a slot is bound to.
+#[derive(Clone, Copy, Debug, PartialEq, Eq, Hash)]
+pub enum Binding {
+    /// The one reference at the place reaches a declaration of the slot's name.
+    AsWritten,
+    /// It reaches another declaration.
+    Elsewhere {
+        /// The row of the resolved form that declares it, 0 if nothing is reached.
+        row: usize,
+    },
+    /// No reference of the form is at the place.
+    NoReference,
+    /// Several references of the form are.
+    Several,
+}
+
+/// A sheet as bytes: three little-endian numbers a slot.
+pub fn sheet_bytes(slots: &[Slot]) -> Vec<u8> {
+    slots.iter().flat_map(|slot| [slot.family, slot.place, slot.name]).flat_map(u32::to_le_bytes).collect()
+}
+
+/// Answers each slot, in order: by what the reference at its place reaches in `resolved`, which must be the very bytes that
+/// [`crate::resolve`] gives for `form`. The sheet passes if all are [`Binding::AsWritten`].
+///
+/// It is refused with [`Refusal::NotItsSheet`] alone: there are more than [`MAX_SLOTS`] slots, one has name 0, the form is
+/// refused, or the other is not its resolved form.
+pub fn sheet(form: &[u8], resolved: &[u8], slots: &[Slot]) -> Result<Vec<Binding>, Refusal> {
+    let mut answers = vec![0; ANSWER_SIZE * slots.len()];
+    sheet_into(form, resolved, &sheet_bytes(slots), &mut answers, &mut vec![0; SHEET_AREA_SIZE])?;
+    Ok(answers.chunks_exact(ANSWER_SIZE).map(binding).collect())
+}
+
+/// The same in lent buffers: `answers` then holds eight bytes a slot, the kind (0 to 3, as [`Binding`] has them) and the row or
+/// 0, and the number of slots that are not bound as written is answered. A refusal leaves `answers` as it was.
+///
+/// `work` may hold anything; afterwards it is zero up to [`SHEET_AREA_SIZE`], all of it where it is shorter. It is refused with
+/// [`Refusal::Room`] also: a working area that is too small, once the sheet is one, and answers with no room, once all else is
+/// right.
+pub fn sheet_into(
+    form: &[u8],
+    resolved: &[u8],
+    sheet: &[u8],
+    answers: &mut [u8],
+    work: &mut [u8],
+) -> Result<usize, Refusal> {
+    // SAFETY: the five buffers are valid for their lengths while the call lasts, and those that are written overlap nothing,
+    // since they are borrowed alone. The library writes to the last two only and keeps no pointer.
+    let answer = unsafe {
+        wnt_sheet(
+            form.as_ptr(),
+            form.len(),
+            resolved.as_ptr(),
+            resolved.len(),
+            sheet.as_ptr(),
+            sheet.len(),
+            answers.as_mut_ptr(),
+            answers.len(),
+            work.as_mut_ptr(),
+            work.len(),
+        )
+    };
+    match (answer >> 32) as u32 {
+        0 => Ok(answer as u32 as usize),
+        number => Err(Refusal::of(number, answer as u32)),
+    }
+}
+
+/// An answer out of its eight bytes.
+fn binding(answer: &[u8]) -> Binding {
+    let word = |i: usize| u32::from_le_bytes(answer[i..i + 4].try_into().expect("four bytes are four"));
+    match word(0) {
+        0 => Binding::AsWritten,
+        1 => Binding::Elsewhere { row: word(4) as usize },
+        2 => Binding::NoReference,
+        _ => Binding::Several,
+    }
+}

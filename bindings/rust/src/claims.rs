@@ -1,0 +1,87 @@
+//! Another assembler's output, checked.
+
+use crate::refusal::Refusal;
+
+/// The slots that the table must have, six numbers each.
+pub const CHECK_SLOTS: usize = 2046;
+
+/// The numbers that the index must have.
+pub const CHECK_LINKS: usize = 3070;
+
+extern "C" {
+    fn wnt_check(
+        form: *const u8,
+        form_len: usize,
+        claim: *const u8,
+        claim_len: usize,
+        table: *mut [u32; 6],
+        slots: usize,
+        index: *mut u16,
+        links: usize,
+    ) -> u64;
+}
+
+/// What a claimed output must be, in the order in which it is tried.
+#[derive(Clone, Copy, Debug, PartialEq, Eq, Hash)]
+pub enum Condition {
+    /// 1: it is a form like the input's, with names from 2147483648 up and four times the rows allowed.
+    Form,
+    /// 2: without its added fields it has the input's rows, but for PATH rows and the operands.
+    Rows,
+    /// 3: its added fields are aliases with new names, and their operands are numbers.
+    Aliases,
+    /// 4: every operand of the input is the number that it must be.
+    Operands,
+}
+
+/// What is said of a claimed output.
+#[derive(Clone, Copy, Debug, PartialEq, Eq, Hash)]
+pub enum Verdict {
+    /// It is a resolved form of the input.
+    Yes,
+    /// It is none.
+    No {
+        /// The first condition that is broken.
+        condition: Condition,
+        /// The first claimed row that breaks it: 0 for the header, the row count where a row is missing.
+        row: u32,
+    },
+}
+
+/// Says whether `claim` is a resolved form of `form`, whoever wrote it; an input that is refused has none.
+///
+/// Its areas have the sizes that the check needs, so it is never refused with [`Refusal::Room`].
+pub fn check(form: &[u8], claim: &[u8]) -> Result<Verdict, Refusal> {
+    let (mut table, mut index) = (vec![[0; 6]; CHECK_SLOTS], vec![0; CHECK_LINKS]);
+    check_with(form, claim, &mut table, &mut index)
+}
+
+/// The same in lent areas, of [`CHECK_SLOTS`] and [`CHECK_LINKS`], or more.
+///
+/// Whatever they held, both are zero afterwards up to these sizes, and as they were beyond.
+pub fn check_with(form: &[u8], claim: &[u8], table: &mut [[u32; 6]], index: &mut [u16]) -> Result<Verdict, Refusal> {
+    let (slots, links) = (table.len(), index.len());
+    // SAFETY: the four buffers are valid for their lengths while the call lasts, and the areas overlap nothing, since they
+    // are borrowed alone. The library writes to the areas only and keeps no pointer.
+    let answer = unsafe {
+        wnt_check(
+            form.as_ptr(),
+            form.len(),
+            claim.as_ptr(),
+            claim.len(),
+            table.as_mut_ptr(),
+            slots,
+            index.as_mut_ptr(),
+            links,
+        )
+    };
+    let (number, row) = ((answer >> 32) as u32, answer as u32);
+    match number {
+        0 => Ok(Verdict::Yes),
+        101 => Ok(Verdict::No { condition: Condition::Form, row }),
+        102 => Ok(Verdict::No { condition: Condition::Rows, row }),
+        103 => Ok(Verdict::No { condition: Condition::Aliases, row }),
+        104 => Ok(Verdict::No { condition: Condition::Operands, row }),
+        _ => Err(Refusal::of(number, row)),
+    }
+}

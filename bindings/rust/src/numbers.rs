@@ -1,0 +1,93 @@
+//! Written numbers that inserted aliases have moved.
+
+use crate::{form_size, out_size, rows_in, Refusal};
+
+extern "C" {
+    fn wnt_moved(
+        form: *const u8,
+        form_len: usize,
+        out: *mut u8,
+        out_len: usize,
+        moved: *mut u8,
+        moved_len: usize,
+        apart: *mut u8,
+        apart_len: usize,
+    ) -> u64;
+}
+
+/// A written number that means another declaration in the resolved form than it did in the input.
+#[derive(Clone, Copy, Debug, PartialEq, Eq, Hash)]
+pub struct Moved {
+    /// The place of the number's row.
+    pub place: u32,
+    /// The space in which it counts.
+    pub space: u32,
+    /// The row of the input that declares what it meant.
+    pub meant: usize,
+    /// The row of the resolved form that declares what it now gets.
+    pub gets: usize,
+}
+
+/// A written number that counted to no declaration of the input.
+#[derive(Clone, Copy, Debug, PartialEq, Eq, Hash)]
+pub struct Apart {
+    /// The place of the number's row.
+    pub place: u32,
+    /// The space in which it counts.
+    pub space: u32,
+    /// The number.
+    pub number: u32,
+}
+
+/// A resolved form, and the written numbers of its input that have moved or had no item, each list in row order.
+#[derive(Clone, Debug, PartialEq, Eq, Hash)]
+pub struct Numbers {
+    /// What [`crate::resolve`] gives.
+    pub resolved: Vec<u8>,
+    /// The numbers that have moved.
+    pub moved: Vec<Moved>,
+    /// The numbers that had no item.
+    pub apart: Vec<Apart>,
+}
+
+/// Resolves a form and lists its written numbers that inserted aliases have moved, and apart those that had no item.
+///
+/// The buffers have the room that the form needs, so it is never refused with [`Refusal::Room`].
+pub fn moved(form: &[u8]) -> Result<Numbers, Refusal> {
+    let rows = rows_in(form);
+    let (mut out, mut moved, mut apart) = (vec![0; out_size(rows)], vec![0; 16 * rows], vec![0; 12 * rows]);
+    // SAFETY: the four buffers are valid for their lengths while the call lasts, and do not overlap. The library writes
+    // to the last three only and keeps no pointer.
+    let answer = unsafe {
+        wnt_moved(
+            form.as_ptr(),
+            form.len(),
+            out.as_mut_ptr(),
+            out.len(),
+            moved.as_mut_ptr(),
+            moved.len(),
+            apart.as_mut_ptr(),
+            apart.len(),
+        )
+    };
+    let (number, rest) = ((answer >> 32) as u32, answer as u32);
+    if number != 0 {
+        return Err(Refusal::of(number, rest));
+    }
+    out.truncate(form_size(usize::from(u16::from_le_bytes([out[6], out[7]]))));
+    Ok(Numbers {
+        resolved: out,
+        moved: entries(&moved, (rest % 65536) as usize)
+            .map(|[place, space, meant, gets]| Moved { place, space, meant: meant as usize, gets: gets as usize })
+            .collect(),
+        apart: entries(&apart, (rest / 65536) as usize)
+            .map(|[place, space, number]| Apart { place, space, number })
+            .collect(),
+    })
+}
+
+/// The first entries of a list, so many of N numbers each.
+fn entries<const N: usize>(list: &[u8], count: usize) -> impl Iterator<Item = [u32; N]> + '_ {
+    let word = |four: &[u8]| u32::from_le_bytes(four.try_into().expect("four bytes are four"));
+    list.chunks_exact(4 * N).take(count).map(move |entry| std::array::from_fn(|i| word(&entry[4 * i..4 * i + 4])))
+}

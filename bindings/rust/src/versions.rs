@@ -1,0 +1,173 @@
+//! Both versions of the row form: resolved in a working area that is lent, and converted from one to the other.
+
+use crate::{Refusal, HEADER_SIZE, MAX_ROWS, ROW_SIZE};
+
+/// A slot of a table.
+type Slot = [u32; 6];
+
+extern "C" {
+    fn wnt_resolve_with(
+        form: *const u8,
+        form_len: usize,
+        out: *mut u8,
+        out_len: usize,
+        entered: *mut Slot,
+        entered_len: usize,
+        names: *mut Slot,
+        names_len: usize,
+        known: *mut u16,
+        known_len: usize,
+        chains: *mut u16,
+        chains_len: usize,
+        ends: *mut u32,
+        ends_len: usize,
+    ) -> u64;
+    fn wnt_convert(form: *const u8, form_len: usize, version: u32, out: *mut u8, out_len: usize) -> u64;
+}
+
+/// A version of the row form.
+#[derive(Clone, Copy, Debug, PartialEq, Eq, Hash)]
+pub enum Version {
+    /// A header of 8 bytes, up to 1,023 rows and 32 scopes.
+    One,
+    /// A header of 16 bytes, up to 16,383 rows and 64 scopes.
+    Two,
+}
+
+impl Version {
+    /// The version that a form's header says; none where it says another.
+    pub fn of(form: &[u8]) -> Option<Version> {
+        match form.get(..5)? {
+            b"WNT\x01\x00" => Some(Version::One),
+            b"WNT\x02\x00" => Some(Version::Two),
+            _ => None,
+        }
+    }
+
+    /// Its number, 1 or 2.
+    pub const fn number(self) -> u32 {
+        match self {
+            Version::One => 1,
+            Version::Two => 2,
+        }
+    }
+
+    /// The bytes of its header.
+    pub const fn header_size(self) -> usize {
+        match self {
+            Version::One => HEADER_SIZE,
+            Version::Two => 2 * HEADER_SIZE,
+        }
+    }
+
+    /// The most rows that an input may have.
+    pub const fn max_rows(self) -> usize {
+        match self {
+            Version::One => MAX_ROWS,
+            Version::Two => 16_383,
+        }
+    }
+
+    /// The bytes of a form with so many rows.
+    pub const fn form_size(self, rows: usize) -> usize {
+        self.header_size() + ROW_SIZE * rows
+    }
+
+    /// The bytes that the output must have at least for an input of so many rows.
+    pub const fn out_size(self, rows: usize) -> usize {
+        self.header_size() + 4 * ROW_SIZE * rows
+    }
+
+    /// How many rows a form of that length has, if its header says so too; no more than any may have.
+    fn rows_in(self, form: &[u8]) -> usize {
+        (form.len().saturating_sub(self.header_size()) / ROW_SIZE).min(self.max_rows())
+    }
+}
+
+/// What [`resolve_with`] works in: two tables, the index of each, and the ends of fields. It can be used for any number of
+/// calls, and is zero after each.
+#[derive(Clone, Debug)]
+pub struct WorkingArea {
+    entered: Vec<Slot>,
+    names: Vec<Slot>,
+    known: Vec<u16>,
+    chains: Vec<u16>,
+    ends: Vec<u32>,
+}
+
+impl WorkingArea {
+    /// An area for forms of that version: 61,440 bytes for the first, 983,040 for the second, which serves both.
+    pub fn new(version: Version) -> WorkingArea {
+        let slots = version.max_rows() + 1;
+        WorkingArea {
+            entered: vec![[0; 6]; slots],
+            names: vec![[0; 6]; slots],
+            known: vec![0; 2 * slots],
+            chains: vec![0; 2 * slots],
+            ends: vec![0; slots],
+        }
+    }
+}
+
+/// Resolves a form of either version and gives the resolved one, of the same version, without anything behind it.
+///
+/// Its output has the room that the form needs. So it is refused with [`Refusal::Room`] only if the form is of version 2
+/// and the area for version 1.
+pub fn resolve_with(form: &[u8], area: &mut WorkingArea) -> Result<Vec<u8>, Refusal> {
+    let version = Version::of(form).unwrap_or(Version::One);
+    let mut out = vec![0; version.out_size(version.rows_in(form))];
+    let rows = resolve_into_with(form, &mut out, area)?;
+    out.truncate(version.form_size(rows));
+    Ok(out)
+}
+
+/// Resolves a form of either version into `out` and gives the number of rows written.
+///
+/// What `out` needs, and what it holds afterwards, is as for [`resolve_into`](crate::resolve_into), with the sizes of the
+/// form's version.
+pub fn resolve_into_with(form: &[u8], out: &mut [u8], area: &mut WorkingArea) -> Result<usize, Refusal> {
+    let WorkingArea { entered, names, known, chains, ends } = area;
+    // SAFETY: every buffer is valid for its length while the call lasts, and all that are written are borrowed alone, so
+    // that none overlaps another. The library keeps no pointer.
+    let answer = unsafe {
+        wnt_resolve_with(
+            form.as_ptr(),
+            form.len(),
+            out.as_mut_ptr(),
+            out.len(),
+            entered.as_mut_ptr(),
+            entered.len(),
+            names.as_mut_ptr(),
+            names.len(),
+            known.as_mut_ptr(),
+            known.len(),
+            chains.as_mut_ptr(),
+            chains.len(),
+            ends.as_mut_ptr(),
+            ends.len(),
+        )
+    };
+    rows_or_refusal(answer)
+}
+
+/// Converts a form to that version: the same rows behind the other header. A form that has it already is given back.
+///
+/// The output has the room that is needed, so it is never refused with [`Refusal::Room`].
+pub fn convert(form: &[u8], version: Version) -> Result<Vec<u8>, Refusal> {
+    let mut out = vec![0; form.len() + HEADER_SIZE];
+    // SAFETY: both buffers are valid for their lengths while the call lasts, and `out` is borrowed alone. The library
+    // writes to `out` only and keeps no pointer.
+    let answer = unsafe { wnt_convert(form.as_ptr(), form.len(), version.number(), out.as_mut_ptr(), out.len()) };
+    let rows = rows_or_refusal(answer)?;
+    out.truncate(version.form_size(rows));
+    Ok(out)
+}
+
+/// The rows that an answer says, or its refusal.
+fn rows_or_refusal(answer: u64) -> Result<usize, Refusal> {
+    let (number, rest) = ((answer >> 32) as u32, answer as u32);
+    match number {
+        0 => Ok(rest as usize),
+        _ => Err(Refusal::of(number, rest)),
+    }
+}

@@ -1,0 +1,86 @@
+// The command moved: the written numbers that inserted aliases have moved, in words.
+mod entries;
+
+use command::arguments::behind;
+use command::arguments::has_words;
+use command::arguments::wrong_count;
+use command::forms::part;
+use command::status::DONE;
+use command::status::FAILED;
+use command::status::NO;
+use command::status::said;
+use command::topic::Task;
+use command::topic::say_topic;
+use entries::say_apart;
+use entries::say_moved;
+use files::read::Loaded;
+use files::read::load;
+use files::standard::error_noted;
+use known::file::say_refused;
+use libc::STDOUT_FILENO;
+use moved::run::Answer;
+use moved::run::moved as list_moved;
+use moved_list::Listed;
+use words::say;
+
+// Of both lists, with so many entries: a line for each, or one for there being none.
+fn say_lists(form: &[u8], out: &[u8], moved: &[u8], apart: &[u8], listed: Listed) -> u8 {
+    if (listed.moved == 0) & (listed.apart == 0) {
+        say(
+            STDOUT_FILENO,
+            b"no number has moved: each means what it meant as it was written\n",
+        );
+        return DONE;
+    }
+    say_moved(STDOUT_FILENO, form, out, moved, listed.moved);
+    say_apart(STDOUT_FILENO, apart, listed.apart);
+    NO
+}
+
+// The lists have room for every form that is not refused.
+fn say_of_form(form: &[u8]) -> u8 {
+    let mut out = io::large_buffer();
+    let mut moved = [0u8; 16384];
+    let mut apart = [0u8; 12288];
+    match list_moved(form, &mut out, &mut moved, &mut apart) {
+        Answer::Listed(listed) => say_lists(form, &out, &moved, &apart, listed),
+        Answer::Refused(refusal) => {
+            say_refused(STDOUT_FILENO, form, refusal);
+            NO
+        }
+    }
+}
+
+fn say_of_path(path: &[u8]) -> u8 {
+    let mut buffer = io::large_buffer();
+    match load(path, &mut buffer) {
+        Loaded::Bytes(length) => {
+            let before = error_noted();
+            said(say_of_form(part(&buffer, length)), before)
+        }
+        Loaded::Failed => FAILED,
+    }
+}
+
+fn run_moved(first: u8) -> u8 {
+    if !has_words(first, 2) {
+        wrong_count(b"wnt moved FORM");
+        return FAILED;
+    }
+    let mut path = io::buffer();
+    let length = os::arg(behind(first, 1), &mut path);
+    say_of_path(&path[..length])
+}
+
+pub fn moved_command(task: Task, first: u8) -> u8 {
+    match task {
+        Task::Run => run_moved(first),
+        Task::Help => say_topic(
+            b"moved FORM",
+            b"Prints a line for each written number of the input FORM that means another declaration once\nthe form is resolved, since inserted aliases come before what it meant: the place, what the\nnumber meant (a row of FORM) and what it gets (a row of the resolved form). Then one for each\nnumber that counts to no declaration. Writes no file.\n",
+            b"no number has moved, and each counts to a declaration",
+            b"a number is printed, or the form is refused",
+            b"moved driver.wnt",
+        ),
+    }
+}

@@ -1,0 +1,2 @@
+-- That each no of the checker is justified.
+pub mod Justified

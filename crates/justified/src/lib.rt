@@ -1,0 +1,1 @@
+// Theorems on the no of a checked claim, and no code.

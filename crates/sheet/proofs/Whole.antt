@@ -1,0 +1,210 @@
+-- The ways through the whole, under the settings in force.
+use mathlib.Core.Path.{_≡_, refl, ap, ap₂, sym, _∙_, subst}
+use mathlib.Core.Bool.{Bool, true, false, not}
+use mathlib.Core.Option.{Option, none, some}
+use mathlib.Core.List.{List, [], _++_, map}
+use native.Mathlib.Omega.{arith}
+use native.Mathlib.Nat.{zero-add}
+use Prim.Native.Nat.{ℕ, zero, suc, _+_, _*_, _-_, _/_, _≤_, _<_}
+use lib.Dec.{ltb}
+use lib.ListN.{length, getD, take, drop, replicate, length-replicate, length-map}
+use lib.Seq.{sets, sets-eq}
+use borrow.Author.Needs.{needs}
+use mir.Syntax.{w8}
+use mir.Val.{Fits}
+use Rattle.kit.specs.Out.{_&_}
+use Rattle.kit.proofs.Laws.{tests}
+use Rattle.rules.specs.Tools.{if_then_else_}
+use Rattle.rules.specs.Versions.{Setting, base}
+use Rattle.rules.specs.Rows.{Row}
+use Rattle.rules.specs.Tree.{Scope, form as tree}
+use Rattle.rules.specs.Reader.{read}
+use Rattle.rules.specs.Rules.{resolve}
+use Rattle.rules.specs.Answer.{AnswerOf, refused, accepted, sameNumbers, rowsIn, answer, formBytes}
+use Rattle.rules.specs.Laws.ToolLaws.{false-not}
+use Rattle.rules.specs.Laws.RowLaws.{Bytes}
+use Rattle.rules.specs.Laws.Results.{ok-same, some-same}
+use Rattle.rules.specs.Laws.Demand3.{base-usual}
+use Rattle.moving.specs.Laws.Lists.{same-lists}
+use Rattle.binding.specs.Sheet.{Slot, Binding, SheetAnswer, Run, runOf, slotsOf, slots, soundSheet, bindings, failing, answersBytes, workAfter, answerFor, sheetAnswer, answersAfter}
+use Rattle.binding.specs.Sheet
+use Rattle.binding.specs.Laws.Runs.{Agree}
+use Rattle.reading_laws.specs.OnBytes
+use Rattle.reading_laws.specs.OnBytes.{base-within, body}
+use Rattle.resolver.specs.Meaning.{numbers}
+use Rattle.resolver.proofs.Bytes.{all-bytes}
+use Rattle.slots.specs.Slots.{answerTo, noted, answered}
+use Rattle.slots.proofs.Ways.{answers-size}
+use Rattle.sheet_laws.specs.Agrees.{slots-agree}
+use Rattle.sheet.specs.Meaning.{meaning, ruled}
+use Rattle.sheet.specs.Run.{refusedT, isOutput, cleared}
+use Rattle.sheet.specs.declared.Answer.{Answer}
+use Rattle.sheet.specs.declared.Answer.the-variants.{Answered}
+use Rattle.sheet.proofs.Runs.{is-one, area-is, agrees}
+
+pub work-is : (form old new : List ℕ) → new ≡ cleared old → new ≡ workAfter base form old
+unfolding workAfter cleared
+work-is form old new e = rw (area-is form) e
+
+-- what is lent of the area is zero, and the rest as it was
+pub area-cleared : (form old new : List ℕ) → new ≡ replicate (length (take 65480 old)) 0 → new ++ drop 65480 old ≡ workAfter base form old
+unfolding workAfter
+area-cleared form old new e = rw (area-is form, e)
+
+slots-count : (count : ℕ) (sheet : List ℕ) → length (slotsOf count sheet) ≡ count
+unfolding slotsOf
+slots-count zero sheet = refl
+slots-count (suc count) sheet = ap suc (slots-count count (drop 12 sheet))
+
+count-is : (sheet : List ℕ) → length (slots sheet) ≡ length sheet / 12
+unfolding slots
+count-is sheet = slots-count (length sheet / 12) sheet
+
+-- ---- the slots, answered on a run's bytes
+
+slots-of-run : (form : List ℕ) → Bytes form → (run : Run) → runOf base form ≡ some run → (ss : List Slot) → map (answerTo (run .bytes)) ss ≡ bindings (run .before) (run .after) ss
+unfolding resolve
+slots-of-run form bs run e ss = go (answer base form (length area)) refl (subst (λ (r : Option Run). Agree base form r (answer base form (length area))) e (agrees form area bs (let l = length-replicate {A = ℕ} 65480 0 in omega (arith, l))))
+  where
+    area : List ℕ
+    area = replicate 65480 0
+
+    go : (a : AnswerOf (List Row)) → answer base form (length area) ≡ a → Agree base form (some run) a → map (answerTo (run .bytes)) ss ≡ bindings (run .before) (run .after) ss
+    go (accepted rs) q M =
+        let T = OnBytes.trees base base-usual base-within form area bs rs q in
+        let v = T .setting in
+        let same : M .setting ≡ v = some-same _ _ (sym (M .asked-for) ∙ T .asked-for) in
+        let bytes-are : body v (formBytes v rs) ≡ run .bytes = ap (λ (u : Setting). body u (formBytes v rs)) (sym (is-one form v (T .asked-for))) ∙ (ap (λ (u : Setting). formBytes u rs) (sym same) ∙ sym (M .bytes)) in
+        let trees : T .before ≡ run .before = (let forms : tree (T .before) ≡ tree (run .before) = sym (T .reads) ∙ (ap (λ (u : Setting). read (u .rules) (u .version .scopes) (rowsIn u form)) (sym same) ∙ M .reads) in cc) in
+        let oks = sym (T .resolves) ∙ (ap₂ (λ (u : Setting) (s : Scope). resolve (u .rules) s) (sym same) trees ∙ M .resolves) in
+        let afters : T .after ≡ run .after = ap (λ (x : Scope × ℕ). x .0) (ok-same (T .after, T .next) (run .after, M .next) oks) in
+        let found = slots-agree (body v (formBytes v rs)) (T .before) (T .after) (v .rules) (OnBytes.good-after base base-usual base-within form area bs rs q) (OnBytes.rows-of-file base base-usual base-within form area bs rs q)
+        (OnBytes.rows-of-file-are base base-usual base-within form area bs rs q) (T .keeps) (T .numbered) ss in
+        ap (λ (x : List ℕ). map (answerTo x) ss) (sym bytes-are) ∙ (found ∙ ap₂ (λ (b a : Scope). bindings b a ss) trees afters)
+
+-- ---- the answer
+
+no-not : (b : Bool) → not b ≡ false → b ≡ true
+no-not true e = refl
+no-not false e = sym e
+
+module _ (form resolved sheet answers work : List ℕ) where
+  abbrev A : SheetAnswer
+  A = sheetAnswer base form resolved sheet (length answers) (length work)
+
+  says : (number : ℕ) → A ≡ refused number 0 [] → (r : Answer) → r ≡ refusedT number → meaning r ≡ ruled A
+  says number e r is = rw (is, e)
+
+  leaves : (number : ℕ) → A ≡ refused number 0 [] → answers ≡ answersAfter A answers
+  unfolding answersAfter
+  leaves number e = rw e
+
+  -- no sheet
+  module _ (b : Bool) (sound : b ≡ soundSheet sheet) (no : not b ≡ true) where
+    unsound : A ≡ refused 15 0 []
+    unfolding sheetAnswer if_then_else_
+    unsound = rw (← sound, no)
+
+    pub unsound-says : (r : Answer) → r ≡ refusedT 15 → meaning r ≡ ruled A
+    unsound-says r is = says 15 unsound r is
+
+    pub unsound-leaves : answers ≡ answersAfter A answers
+    unsound-leaves = leaves 15 unsound
+
+  module _ (b : Bool) (sound : b ≡ soundSheet sheet) (so : not b ≡ false) where
+    -- the working area is too small
+    module _ (h : length work < 65480) where
+      small : A ≡ refused 3 0 []
+      unfolding sheetAnswer if_then_else_
+      small = let t : ltb (length work) 65480 ≡ true = omega tests in rw (← sound, so, area-is form, t)
+
+      pub small-says : (r : Answer) → r ≡ refusedT 3 → meaning r ≡ ruled A
+      small-says r is = says 3 small r is
+
+      pub small-leaves : answers ≡ answersAfter A answers
+      small-leaves = leaves 3 small
+
+    module _ (h : 65480 ≤ length work) where
+      roomy : A ≡ answerFor (runOf base form) resolved (slots sheet) (length answers)
+      unfolding sheetAnswer if_then_else_
+      roomy = let t : ltb (length work) 65480 ≡ false = omega tests in rw (← sound, so, area-is form, t)
+
+      -- not the resolved form of an accepted input
+      module _ (s : Bool) (same : s ≡ isOutput (runOf base form) resolved) (no : not s ≡ true) where
+        other : A ≡ refused 15 0 []
+        unfolding answerFor isOutput if_then_else_
+        other = roomy ∙ go (runOf base form) (ap not (sym same) ∙ no)
+          where
+            go : (r : Option Run) → not (isOutput r resolved) ≡ true → answerFor r resolved (slots sheet) (length answers) ≡ refused 15 0 []
+            go none e = refl
+            go (some run) e = rw e
+
+        pub other-says : (r : Answer) → r ≡ refusedT 15 → meaning r ≡ ruled A
+        other-says r is = says 15 other r is
+
+        pub other-leaves : answers ≡ answersAfter A answers
+        other-leaves = leaves 15 other
+
+      module _ (s : Bool) (same : s ≡ isOutput (runOf base form) resolved) (its : not s ≡ false) where
+        record Its : Type 0 where
+          run : Run
+          runs : runOf base form ≡ some run
+          bytes : resolved ≡ run .bytes
+          asked : A ≡ (if ltb (length answers) (8 * (length sheet / 12)) then refused 3 0 [] else accepted (bindings (run .before) (run .after) (slots sheet)))
+
+        it : Its
+        unfolding answerFor isOutput if_then_else_
+        it = go (runOf base form) refl (ap not (sym same) ∙ its)
+          where
+            go : (r : Option Run) → runOf base form ≡ r → not (isOutput r resolved) ≡ false → Its
+            go none q e = false-not (sym e)
+            go (some run) q e =
+                record {
+                  run = run;
+                  runs = q;
+                  bytes = same-lists resolved (run .bytes) (no-not (sameNumbers resolved (run .bytes)) e);
+                  asked = roomy ∙ rw (q, e, count-is sheet);
+                }
+
+        -- no room for the answers
+        module _ (size : ℕ) (sized : size ≡ 8 * (length sheet / 12)) (short : length answers < size) where
+          no-room : A ≡ refused 3 0 []
+          unfolding if_then_else_
+          no-room = let t : ltb (length answers) (8 * (length sheet / 12)) ≡ true = omega (tests, sized, short) in it .asked ∙ rw t
+
+          pub no-room-says : (r : Answer) → r ≡ refusedT 3 → meaning r ≡ ruled A
+          no-room-says r is = says 3 no-room r is
+
+          pub no-room-leaves : answers ≡ answersAfter A answers
+          no-room-leaves = leaves 3 no-room
+
+        -- every slot is answered
+        module _ (size : ℕ) (sized : size ≡ 8 * (length sheet / 12)) (room : size ≤ length answers) (fits : (i : ℕ) → Fits w8 (getD form i 0)) (n : ℕ) (new : List ℕ) (written : (n & new) ≡ answered resolved sheet answers) where
+          bs : List Binding
+          bs = bindings (it .run .before) (it .run .after) (slots sheet)
+
+          found : A ≡ accepted bs
+          unfolding bs if_then_else_
+          found = let t : ltb (length answers) (8 * (length sheet / 12)) ≡ false = omega (tests, sized, room) in it .asked ∙ rw t
+
+          noted-is : (n & new) ≡ noted 0 0 answers bs
+          unfolding answered bs
+          noted-is = written ∙ ap (noted 0 0 answers) (ap (λ (x : List ℕ). map (answerTo x) (slots sheet)) (it .bytes) ∙ slots-of-run form (all-bytes form fits) (it .run) (it .runs) (slots sheet))
+
+          fitting : length (answersBytes bs) ≤ length answers
+          unfolding bs bindings
+          fitting = let all = answers-size bs in let count = length-map (slots sheet) (Sheet.binding (it .run .before) (it .run .after)) in let c = count-is sheet in omega (arith, all, count, c, sized, room)
+
+          pub answered-says : meaning (Answered n) ≡ ruled A
+          unfolding noted
+          answered-says = let count : n ≡ 0 + failing bs = (let w = noted-is in cc) in ap (numbers 0) (count ∙ zero-add (failing bs)) ∙ ap ruled (sym found)
+
+          pub answered-leaves : new ≡ answersAfter A answers
+          unfolding noted answersAfter
+          answered-leaves =
+              let held : new ≡ sets answers 0 (answersBytes bs) = (let w = noted-is in cc) in
+              let s = fitting in
+              let z : 0 + length (answersBytes bs) ≡ 8 * length bs = zero-add (length (answersBytes bs)) ∙ answers-size bs in
+              held ∙ (sets-eq (answersBytes bs) answers 0 (omega (arith, s)) ∙ (ap (λ (k : ℕ). answersBytes bs ++ drop k answers) z ∙ ap (λ (a : SheetAnswer). answersAfter a answers) (sym found)))
+
+pub ruleset whole-ways = (work-is, area-cleared, unsound-says, unsound-leaves, small-says, small-leaves, other-says, other-leaves, no-room-says, no-room-leaves, needs)

@@ -1,0 +1,34 @@
+-- `sheet::resolves_to` meets its contract.
+use denote.Ref.{now}
+use borrow.Author.Needs.{needs}
+use Rattle.sheet.proofs.Runs.{none-written, other-length, bytes-compared}
+use Rattle.sheet.proofs.resolves_to.Statement.{statement}
+use Rattle.sheet.proofs.resolves_to.Tie as tie
+
+pub resolves-to-spec : {M : Type 1} → statement M
+resolves-to-spec =
+    tie.close
+    (tie.spec
+    (λ c κs. search needs)  -- resolve-requires
+    (λ c κs. search needs)  -- rows-written-requires
+    (λ c. search needs)  -- same-length
+    (λ c.
+    let ran = c .before .before .before .before in
+    let start = ran .before .before .before .before in
+    (none-written _ _ (now (start .before .args .area)) (start .shared-slice-known .given) (start .before .pre) (ran .resolve .result) (ran .resolve .ensures .0) _ (c .before .rows-written .ensures) (c .if1 .taken), ran .resolve .ensures .1))  -- returns
+    (λ c. search needs)  -- cast-if2
+    (λ c. search needs)  -- mul-if2
+    (λ c. search needs)  -- add-if2
+    (λ c. search needs)  -- same-length-2
+    (λ c.
+    let wrote = c .before .before in
+    let ran = wrote .before .before .before in
+    let start = ran .before .before .before .before in
+    (other-length _ _ (now (start .before .args .area)) (start .shared-slice-known .given) (start .before .pre) (ran .resolve .result) (ran .resolve .ensures .0) _ (wrote .rows-written .ensures) (c .if2 .taken), ran .resolve .ensures .1))  -- returns-2
+    (λ c κs. search needs)  -- begins-requires
+    (λ c. search needs)  -- same-length-3
+    (λ c.
+    let wrote = c .before .before .before .before in
+    let ran = wrote .before .before .before in
+    let start = ran .before .before .before .before in
+    (bytes-compared _ _ (now (start .before .args .area)) (start .shared-slice-known .given) (start .before .pre) (ran .resolve .result) (ran .resolve .ensures .0) _ (wrote .rows-written .ensures) (c .before .before .before .if1 .left) (c .before .before .if2 .left) _ (ran .resolve .ensures .1) _ (c .begins .ensures), ran .resolve .ensures .1)))  -- returns-3
