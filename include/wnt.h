@@ -137,7 +137,9 @@ enum wnt_number {
     /* The outer count is not below the number of open scopes. Place: z of the field. */
     WNT_COUNT_TOO_LARGE = 11,
     /* An earlier case of the field has that name. Place: z of the second case. */
-    WNT_DUPLICATE_CASE = 12
+    WNT_DUPLICATE_CASE = 12,
+    /* Of wnt_unresolve alone: no input has these bytes as its output. Place: 0. */
+    WNT_NO_INPUT = 14
 };
 
 /* What a refusal means, by its number; `wnt` says the same. */
@@ -273,6 +275,25 @@ uint64_t wnt_convert(const uint8_t *form, size_t form_len, uint32_t version, uin
  * The three buffers must not overlap, and for the rest what is said of wnt_resolve holds. */
 uint64_t wnt_resolve_told(const uint8_t *form, size_t form_len, uint8_t *out, size_t out_len, uint32_t *told,
                           size_t told_len);
+/* The sizes of the working areas of wnt_unresolve, in bytes. */
+#define WNT_RESTORED_SIZE WNT_MAX_FORM_SIZE
+#define WNT_AGAIN_SIZE WNT_MAX_OUT_SIZE
+
+/* Gives an input back for a resolved form: its inserted aliases are left out, and the references that they served are names
+ * and paths again; every other number stays. The input is written to the front of `out`, and wnt_resolve gives for it the
+ * very bytes of `form`. It succeeds exactly if there is an input that does; of several it is always the same one.
+ *
+ * On success the upper half is 0 and the lower the rows of the input: WNT_FORM_SIZE of them are written, and later bytes of
+ * `out` are as they were. A refusal is at place 0 and leaves all of `out` as it was. They come in this order:
+ *
+ *   3        `restored` has fewer than WNT_RESTORED_SIZE bytes, or `again` fewer than WNT_AGAIN_SIZE
+ *   14       no input has these bytes as its output, whatever they are
+ *   3        the input is longer than `out`
+ *
+ * The two areas may hold anything. After every return they are zero up to those sizes, all of them where they are shorter,
+ * and later bytes are as they were. No two buffers may overlap, and for the rest what is said of wnt_resolve holds. */
+uint64_t wnt_unresolve(const uint8_t *form, size_t form_len, uint8_t *out, size_t out_len, uint8_t *restored,
+                       size_t restored_len, uint8_t *again, size_t again_len);
 
 /* Mends the form in the first `length` bytes of `buffer`, whose other bytes are room for added rows: a part row is
  * dropped, rows after the root's CLOSE are cut, missing CLOSE rows are added at the end, the row count is set to the rows

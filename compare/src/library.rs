@@ -23,6 +23,16 @@ unsafe extern "C" {
         list: *mut u8,
         list_len: usize,
     ) -> u64;
+    fn wnt_unresolve(
+        form: *const u8,
+        form_len: usize,
+        out: *mut u8,
+        out_len: usize,
+        restored: *mut u8,
+        restored_len: usize,
+        again: *mut u8,
+        again_len: usize,
+    ) -> u64;
     fn wnt_resolve_with(
         form: *const u8,
         form_len: usize,
@@ -147,6 +157,24 @@ pub fn compare(left: &[u8], right: &[u8], choice: u32, list: &mut [u8]) -> u64 {
 pub fn meant(prelude: &[u8], member: &[u8], row: u32) -> u64 {
     // SAFETY: both parts are valid for their lengths for as long as the call lasts.
     unsafe { wnt_meant(prelude.as_ptr(), prelude.len(), member.as_ptr(), member.len(), row) }
+}
+
+/// The answer of `wnt_unresolve`, which may write into the last three parts.
+pub fn unresolve(form: &[u8], out: &mut [u8], restored: &mut [u8], again: &mut [u8]) -> u64 {
+    // SAFETY: all parts are valid for their lengths, and those that are written apart from each other and from the form, for as
+    // long as the call lasts.
+    unsafe {
+        wnt_unresolve(
+            form.as_ptr(),
+            form.len(),
+            out.as_mut_ptr(),
+            out.len(),
+            restored.as_mut_ptr(),
+            restored.len(),
+            again.as_mut_ptr(),
+            again.len(),
+        )
+    }
 }
 
 /// The answer of `wnt_moved`, which may write into the last three parts.

@@ -15,6 +15,7 @@ mod library;
 mod meant;
 mod mend;
 mod moved;
+mod names_back;
 mod oracle;
 mod partner;
 mod recognise;
@@ -67,10 +68,12 @@ compare --mend N [--seed S]                    mend N spoilt forms, and compare 
 compare --meant N [--seed S]                   ask what the names of N members mean, and compare with a second reading
 compare --moved N [--seed S]                   list the moved numbers of N forms, and compare with a second reading
 compare --sheet N [--seed S]                   hold a binding sheet against N forms, and compare with a second reading
+compare --sheet-vectors N [--seed S] > OTHER   write fixed vectors of binding sheets, at most N of each outcome
 compare --check N [--seed S]                   check N claimed outputs, and compare with a checker written for it
 compare --check-bench N                        time checking beside resolving, the shortest of N calls each
 compare --check-vectors N [--seed S] > OTHER   write fixed vectors of claims, at most N of each kind and verdict
-compare --told N [--seed S]                    compare on N forms what refusals tell besides";
+compare --told N [--seed S]                    compare on N forms what refusals tell besides
+compare --unresolve N [--seed S]               send N outputs of random forms back to names and round, and damaged ones";
 
 /// The value after `--name`, read as a number.
 fn number(arguments: &[String], name: &str) -> Option<u64> {
@@ -177,11 +180,16 @@ fn main() -> ExitCode {
         moved::run(number(&arguments, "--seed").unwrap_or(1), forms)
     } else if let Some(forms) = number(&arguments, "--sheet") {
         sheet::run(number(&arguments, "--seed").unwrap_or(1), forms)
+    } else if let Some(most) = number(&arguments, "--sheet-vectors") {
+        let vectors = sheet::vectors(number(&arguments, "--seed").unwrap_or(1), most as usize);
+        std::io::stdout().write_all(&vectors).is_ok()
     } else if let Some(repetitions) = number(&arguments, "--check-bench") {
         bench::check(repetitions as usize);
         true
     } else if let Some(pairs) = number(&arguments, "--check") {
         verify::run(&comparison(), number(&arguments, "--seed").unwrap_or(1), pairs)
+    } else if let Some(outputs) = number(&arguments, "--unresolve") {
+        names_back::run(&comparison(), number(&arguments, "--seed").unwrap_or(1), outputs)
     } else if let Some(forms) = number(&arguments, "--told") {
         told::run(&comparison(), number(&arguments, "--seed").unwrap_or(1), forms)
     } else if let Some(pairs) = number(&arguments, "--builds") {

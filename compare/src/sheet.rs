@@ -6,6 +6,7 @@ use crate::library;
 use crate::moved::{Scopes, numbered, places};
 use crate::rows::{self, DECL, FIELD, FIRST_INSERTED, OUTER, REF, Row};
 use crate::shapes::Shapes;
+use std::collections::{BTreeMap, BTreeSet};
 
 /// What the buffers are filled with, to see which bytes were changed.
 const FILLED: u8 = 0xa5;
@@ -70,7 +71,13 @@ fn placed(form: &[Row], chance: &mut Chance) -> Vec<Row> {
 /// A slot: its place one of the form's or any, its name what is reached there, another of the form, or 0.
 fn slot(form: &[Row], out: Option<&[Row]>, chance: &mut Chance, nameless: bool) -> [u32; 3] {
     let row = form[chance.below(form.len())];
-    let place = if chance.percent(85) { row.z } else { chance.below(2000) as u32 };
+    let references: Vec<u32> = form.iter().filter(|row| row.code == REF).map(|row| row.z).collect();
+    let place = match chance.below(20) {
+        0 => chance.below(2000) as u32,
+        1 | 2 => row.z,
+        _ if references.is_empty() => row.z,
+        _ => chance.pick(&references),
+    };
     let reaches = out.and_then(|out| {
         let [kind, decl] = answer(form, out, place, 0);
         (kind == 1 && decl != 0).then(|| out[decl as usize].x)
@@ -112,6 +119,72 @@ fn claimed(form: &[u8], resolved: &[u8], chance: &mut Chance) -> Vec<u8> {
     bytes
 }
 
+/// A form with a sheet, and what is given for its resolved form.
+struct Case {
+    form: Vec<Row>,
+    /// The bytes that the resolver writes for it, if it is accepted.
+    resolved: Option<Vec<u8>>,
+    claim: Vec<u8>,
+    slots: Vec<[u32; 3]>,
+    /// The slots as bytes, at times with some behind them.
+    sheet: Vec<u8>,
+    /// The bytes that are lent for the answers and for working.
+    room: usize,
+    work: usize,
+}
+
+impl Case {
+    fn draw(shapes: &Shapes, chance: &mut Chance) -> Case {
+        let mut form = placed(&generate::form(shapes, chance.next()), chance);
+        if chance.percent(50) {
+            form = numbered(&form, chance);
+        }
+        let bytes = rows::encode(&form);
+        let mut area = vec![FILLED; rows::output_size(form.len())];
+        let answer = library::resolve(&bytes, &mut area);
+        let resolved = (answer >> 32 == 0).then(|| area[..rows::HEADER + rows::ROW * answer as usize].to_vec());
+        let out = resolved.as_deref().map(rows::decode);
+        let (count, more) = size(chance);
+        let nameless = chance.percent(5);
+        let slots: Vec<[u32; 3]> = (0..count).map(|_| slot(&form, out.as_deref(), chance, nameless)).collect();
+        let mut sheet: Vec<u8> = slots.iter().flatten().flat_map(|word| word.to_le_bytes()).collect();
+        sheet.extend(std::iter::repeat_n(1, more));
+        let claim = claimed(&bytes, resolved.as_deref().unwrap_or(&[]), chance);
+        let room = (8 * count + chance.below(20)).saturating_sub(if chance.percent(5) { 20 } else { 0 });
+        let work = if chance.percent(3) { chance.below(AREA) } else { AREA + chance.below(9) };
+        Case { form, resolved, claim, slots, sheet, room, work }
+    }
+
+    /// The answer by document 02, and the answers that are written.
+    fn wanted(&self) -> (u64, Vec<[u32; 2]>) {
+        let count = self.slots.len();
+        let whole = self.sheet.len() == 12 * count && count <= 200;
+        if !whole || self.slots.iter().any(|[_, _, name]| *name == 0) {
+            return (15 << 32, vec![]);
+        }
+        if self.work < AREA {
+            return (3 << 32, vec![]);
+        }
+        if self.resolved.as_ref() != Some(&self.claim) {
+            return (15 << 32, vec![]);
+        }
+        if self.room < 8 * count {
+            return (3 << 32, vec![]);
+        }
+        let out = rows::decode(&self.claim);
+        let all: Vec<[u32; 2]> =
+            self.slots.iter().map(|[_, place, name]| answer(&self.form, &out, *place, *name)).collect();
+        (all.iter().filter(|[kind, _]| *kind != 0).count() as u64, all)
+    }
+}
+
+/// What the buffer for the answers then holds.
+fn held(written: &[[u32; 2]], room: usize) -> Vec<u8> {
+    let mut bytes: Vec<u8> = written.iter().flatten().flat_map(|word| word.to_le_bytes()).collect();
+    bytes.resize(room, FILLED);
+    bytes
+}
+
 /// How often something came up.
 #[derive(Default)]
 struct Counts {
@@ -123,59 +196,36 @@ struct Counts {
     nothing: u64,
 }
 
+impl Counts {
+    fn count(&mut self, wanted: u64, written: &[[u32; 2]]) {
+        match wanted >> 32 {
+            0 => self.answered += 1,
+            3 => self.short += 1,
+            _ => self.refused += 1,
+        }
+        self.passed += u64::from(wanted == 0);
+        for [kind, row] in written {
+            self.kinds[*kind as usize] += 1;
+            self.nothing += u64::from(*kind == 1 && *row == 0);
+        }
+    }
+}
+
 /// One form with one sheet: what the library answers and writes, held to the second reading. What differs, in words.
 fn one(shapes: &Shapes, chance: &mut Chance, counts: &mut Counts) -> Result<(), String> {
-    let mut form = placed(&generate::form(shapes, chance.next()), chance);
-    if chance.percent(50) {
-        form = numbered(&form, chance);
-    }
-    let bytes = rows::encode(&form);
-    let mut area = vec![FILLED; rows::output_size(form.len())];
-    let accepted = library::resolve(&bytes, &mut area);
-    let resolved = if accepted >> 32 == 0 { &area[..rows::HEADER + rows::ROW * accepted as usize] } else { &[][..] };
-    let out = (accepted >> 32 == 0).then(|| rows::decode(resolved));
-    let (count, more) = size(chance);
-    let nameless = chance.percent(5);
-    let slots: Vec<[u32; 3]> = (0..count).map(|_| slot(&form, out.as_deref(), chance, nameless)).collect();
-    let mut sheet: Vec<u8> = slots.iter().flatten().flat_map(|word| word.to_le_bytes()).collect();
-    sheet.extend(std::iter::repeat_n(1, more));
-    let claim = claimed(&bytes, resolved, chance);
-    let mut answers =
-        vec![FILLED; (8 * count + chance.below(20)).saturating_sub(if chance.percent(5) { 20 } else { 0 })];
-    let mut work = vec![FILLED; if chance.percent(3) { chance.below(AREA) } else { AREA + chance.below(9) }];
-    let (left, zeroed) = (answers.len(), work.len().min(AREA));
-
-    let got = library::sheet(&bytes, &claim, &sheet, &mut answers, &mut work);
-    let sound = more == 0 && count <= 200 && slots.iter().all(|[_, _, name]| *name != 0);
-    let ours = out.filter(|_| claim == resolved);
-    let (wanted, written): (u64, Vec<[u32; 2]>) = match ours {
-        _ if !sound => (15 << 32, vec![]),
-        _ if work.len() < AREA => (3 << 32, vec![]),
-        None => (15 << 32, vec![]),
-        Some(_) if left < 8 * count => (3 << 32, vec![]),
-        Some(out) => {
-            let all: Vec<[u32; 2]> = slots.iter().map(|[_, place, name]| answer(&form, &out, *place, *name)).collect();
-            (all.iter().filter(|[kind, _]| *kind != 0).count() as u64, all)
-        }
-    };
-    match wanted >> 32 {
-        0 => counts.answered += 1,
-        3 => counts.short += 1,
-        _ => counts.refused += 1,
-    }
-    counts.passed += u64::from(wanted == 0);
-    for [kind, row] in &written {
-        counts.kinds[*kind as usize] += 1;
-        counts.nothing += u64::from(*kind == 1 && *row == 0);
-    }
-    let mut held: Vec<u8> = written.iter().flatten().flat_map(|word| word.to_le_bytes()).collect();
-    held.resize(left, FILLED);
+    let case = Case::draw(shapes, chance);
+    let (mut answers, mut work) = (vec![FILLED; case.room], vec![FILLED; case.work]);
+    let got = library::sheet(&rows::encode(&case.form), &case.claim, &case.sheet, &mut answers, &mut work);
+    let (wanted, written) = case.wanted();
+    counts.count(wanted, &written);
+    let zeroed = work.len().min(AREA);
     let clean = work[..zeroed].iter().all(|byte| *byte == 0) && work[zeroed..].iter().all(|byte| *byte == FILLED);
-    if got == wanted && answers == held && clean {
+    if got == wanted && answers == held(&written, case.room) && clean {
         return Ok(());
     }
-    let rows: Vec<String> = form.iter().map(|row| format!("  {row}")).collect();
-    Err(format!("answer {got:#x}, wanted {wanted:#x}; slots {slots:?}\nwanted {written:?}\n{}", rows.join("\n")))
+    let rows: Vec<String> = case.form.iter().map(|row| format!("  {row}")).collect();
+    let words = format!("answer {got:#x}, wanted {wanted:#x}; slots {:?}\nwanted {written:?}", case.slots);
+    Err(format!("{words}\n{}", rows.join("\n")))
 }
 
 /// Compares on so many forms; the first that differs is printed and ends the run.
@@ -191,10 +241,47 @@ pub fn run(seed: u64, forms: u64) -> bool {
     }
     let Counts { answered, passed, refused, short, kinds: [written, elsewhere, none, several], nothing } = counts;
     println!(
-        "{forms} forms with a sheet each: {answered} answered, {passed} of them pass, {refused} refused with 15, {short} with 3"
+        "{forms} forms with a sheet each: {answered} answered, {passed} of them pass; {refused} refused with 15, {short} with 3"
     );
     println!(
-        "slots: {written} as written, {elsewhere} elsewhere ({nothing} reach nothing), {none} without a reference, {several} with several: 0 differences"
+        "slots: {written} as written, {elsewhere} elsewhere ({nothing} reach nothing), {none} without a reference, {several} with several"
     );
+    println!("0 differences");
     true
+}
+
+/// The most rows of a form and of slots of a vector, so that the file stays small.
+const FEW_ROWS: usize = 20;
+const FEW_SLOTS: usize = 12;
+
+/// Fixed vectors: at most so many of each outcome, by the answer's number and the kinds of the slots' answers.
+///
+/// A vector begins with seven words, little endian: how long form, resolved form, sheet, answers and working area are, and
+/// the two halves of the answer. The first three follow, and what the answers then hold. Before the call every byte of
+/// the answers and of the working area is 165.
+pub fn vectors(seed: u64, most: usize) -> Vec<u8> {
+    let shapes = Shapes::new();
+    let mut like = BTreeMap::new();
+    let mut bytes = Vec::new();
+    for number in 0..20_000 {
+        let case = Case::draw(&shapes, &mut Chance::new(seed.rotate_left(32) ^ number));
+        if case.form.len() > FEW_ROWS || case.slots.len() > FEW_SLOTS && case.slots.len() != 200 {
+            continue;
+        }
+        let (wanted, written) = case.wanted();
+        let kinds: BTreeSet<u32> = written.iter().map(|[kind, _]| *kind).collect();
+        let alike: &mut usize = like.entry((wanted >> 32, case.claim.len() % 16, case.work < AREA, kinds)).or_default();
+        *alike += 1;
+        if *alike > most {
+            continue;
+        }
+        let form = rows::encode(&case.form);
+        let lengths =
+            [form.len(), case.claim.len(), case.sheet.len(), case.room, case.work].map(|length| length as u32);
+        for word in lengths.into_iter().chain([(wanted >> 32) as u32, wanted as u32]) {
+            bytes.extend(word.to_le_bytes());
+        }
+        bytes.extend([form, case.claim, case.sheet, held(&written, case.room)].concat());
+    }
+    bytes
 }

@@ -70,6 +70,8 @@ pub enum Refusal {
         /// The second case's.
         place: u32,
     },
+    /// 14, on the way back alone: no input has these bytes as its output.
+    NoInput,
     /// 15: these bytes are no binding sheet, or the form is refused, or the other form is not its resolved form.
     NotItsSheet,
 }
@@ -92,6 +94,7 @@ impl Refusal {
             10 => Refusal::UnknownScope { place },
             11 => Refusal::CountTooLarge { place },
             12 => Refusal::DuplicateCase { place },
+            14 => Refusal::NoInput,
             15 => Refusal::NotItsSheet,
             _ => unreachable!("the static library is of another version: it answered refusal {number}"),
         }
@@ -108,7 +111,7 @@ impl Refusal {
         }
     }
 
-    /// Its number, 1 to 12, or 15 of a binding sheet.
+    /// Its number: 1 to 12, 14 on the way back, 15 of a binding sheet.
     pub fn number(self) -> u32 {
         match self {
             Refusal::Header => 1,
@@ -123,14 +126,15 @@ impl Refusal {
             Refusal::UnknownScope { .. } => 10,
             Refusal::CountTooLarge { .. } => 11,
             Refusal::DuplicateCase { .. } => 12,
+            Refusal::NoInput => 14,
             Refusal::NotItsSheet => 15,
         }
     }
 
-    /// Its place: 0 for refusals 1 to 3 and 15, a row for 4 and 5, the place of a row for 6 to 12.
+    /// Its place: 0 for refusals 1 to 3, 14 and 15, a row for 4 and 5, the place of a row for 6 to 12.
     pub fn place(self) -> u32 {
         match self {
-            Refusal::Header | Refusal::RowCount | Refusal::Room | Refusal::NotItsSheet => 0,
+            Refusal::Header | Refusal::RowCount | Refusal::Room | Refusal::NoInput | Refusal::NotItsSheet => 0,
             Refusal::Broken { row } | Refusal::Deep { row } => row,
             Refusal::DuplicateName { place, .. }
             | Refusal::NotExported { place }
@@ -177,6 +181,7 @@ impl Refusal {
             Refusal::UnknownScope { .. } => "no open scope has the name of the outer scope",
             Refusal::CountTooLarge { .. } => "the outer count is not below the number of open scopes",
             Refusal::DuplicateCase { .. } => "an earlier case of this field has that name",
+            Refusal::NoInput => "no input has these bytes as its output",
             Refusal::NotItsSheet => "no sheet, or not an accepted form and its resolved form",
         }
     }
@@ -201,7 +206,7 @@ impl fmt::Display for Refusal {
     fn fmt(&self, f: &mut fmt::Formatter<'_>) -> fmt::Result {
         let (number, place, meaning) = (self.number(), self.place(), self.meaning());
         match number {
-            1..=3 | 15 => write!(f, "refused {number}: {meaning}"),
+            1..=3 | 14 | 15 => write!(f, "refused {number}: {meaning}"),
             4..=5 => write!(f, "refused {number} at row {place}: {meaning}"),
             _ => write!(f, "refused {number} at place {place}: {meaning}"),
         }?;

@@ -65,7 +65,8 @@ fn next_reference(form: &[u8], place: u32, from: u16) -> u16
     row
 }
 
-fn reference_at(form: &[u8], place: u32) -> Reference
+// The reference at a place, if there is one and no more.
+pub fn reference_at(form: &[u8], place: u32) -> Reference
     ensures { λ r. ⌜ r ≡ referenceAt (now (form .entry)) place ⌝ }
 {
     let rows = rows_in(form);

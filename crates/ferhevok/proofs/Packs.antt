@@ -6,7 +6,7 @@ use borrow.Author.Needs.{needs}
 use Rattle.rules.specs.Answer.{Answer as Ruled}
 use Rattle.refusal.specs.declared.Refusal.{Refusal}
 use Rattle.refusal.specs.declared.Told.{Told}
-use Rattle.resolver.specs.Meaning.{meaning, ruled}
+use Rattle.resolver.specs.Meaning.{Said, meaning, ruled}
 use Rattle.resolver.specs.declared.run.Answer.{Answer}
 use Rattle.resolver.specs.declared.run.Answer.the-variants.{Accepted, Refused}
 use Rattle.mending.specs.Mend.{Mending}
@@ -31,6 +31,10 @@ pub ruleset packs = (packs-accepted, packs-refused, needs)
 
 pub packs-ruled : (a : Answer) (x : Ruled) (r : ℕ) → meaning a ≡ ruled x → r ≡ packed (meaning a .plain) → r ≡ packed (ruled x .plain)
 packs-ruled a x r e h = rw e at h
+
+-- of the way back
+pub packs-back : (a : Answer) (n : Said) (r : ℕ) → meaning a ≡ n → r ≡ packed (meaning a .plain) → r ≡ packed (n .plain)
+packs-back a n r e h = rw e at h
 
 -- ---- of a mending
 
