@@ -16,11 +16,13 @@ use entries::say_moved;
 use files::read::Loaded;
 use files::read::load;
 use files::standard::error_noted;
-use known::file::say_refused;
+use known::file::say_told;
 use libc::STDOUT_FILENO;
 use moved::run::Answer;
 use moved::run::moved as list_moved;
 use moved_list::Listed;
+use resolver::run::Answer as Resolved;
+use resolver::run::resolve;
 use words::say;
 
 // Of both lists, with so many entries: a line for each, or one for there being none.
@@ -37,6 +39,18 @@ fn say_lists(form: &[u8], out: &[u8], moved: &[u8], apart: &[u8], listed: Listed
     NO
 }
 
+// A form for which there are no lists: the resolver says why, and what it tells.
+fn say_of_refused(form: &[u8]) -> u8 {
+    let mut out = io::large_buffer();
+    match resolve(form, &mut out) {
+        Resolved::Accepted(_) => FAILED,
+        Resolved::Refused(refusal, told) => {
+            say_told(STDOUT_FILENO, form, refusal, told);
+            NO
+        }
+    }
+}
+
 // The lists have room for every form that is not refused.
 fn say_of_form(form: &[u8]) -> u8 {
     let mut out = io::large_buffer();
@@ -44,10 +58,7 @@ fn say_of_form(form: &[u8]) -> u8 {
     let mut apart = [0u8; 12288];
     match list_moved(form, &mut out, &mut moved, &mut apart) {
         Answer::Listed(listed) => say_lists(form, &out, &moved, &apart, listed),
-        Answer::Refused(refusal) => {
-            say_refused(STDOUT_FILENO, form, refusal);
-            NO
-        }
+        Answer::Refused(_) => say_of_refused(form),
     }
 }
 

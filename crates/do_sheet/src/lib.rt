@@ -15,7 +15,7 @@ use command::topic::say_topic;
 use files::read::Loaded;
 use files::read::load;
 use files::standard::error_noted;
-use known::file::say_refused;
+use known::file::say_told;
 use libc::STDOUT_FILENO;
 use resolver::run::Answer as Resolved;
 use resolver::run::resolve;
@@ -55,7 +55,7 @@ fn say_why(form: &[u8], sheet: &[u8]) {
             STDOUT_FILENO,
             b"refused 15: the second form is not what wnt resolve writes for the first\n",
         ),
-        Resolved::Refused(refusal, _) => say_refused(STDOUT_FILENO, form, refusal),
+        Resolved::Refused(refusal, told) => say_told(STDOUT_FILENO, form, refusal, told),
     }
 }
 

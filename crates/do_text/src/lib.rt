@@ -16,7 +16,7 @@ use files::read::Loaded;
 use files::read::load;
 use files::standard::error_noted;
 use files::write::save;
-use known::file::say_refused;
+use known::file::say_told;
 use libc::STDOUT_FILENO;
 use resolver::run::Answer;
 use resolver::run::resolve;
@@ -37,8 +37,8 @@ fn refuse_rows(form: &[u8]) -> u8 {
     let mut buffer = io::large_buffer();
     match resolve(form, &mut buffer) {
         Answer::Accepted(_) => DONE,
-        Answer::Refused(refusal, _) => {
-            say_refused(STDOUT_FILENO, form, refusal);
+        Answer::Refused(refusal, told) => {
+            say_told(STDOUT_FILENO, form, refusal, told);
             NO
         }
     }
