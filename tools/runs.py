@@ -12,6 +12,14 @@ def form(rows, count=None, mark=b"WNT\x01\x00\x00"):
     return mark + struct.pack("<H", count) + b"".join(struct.pack("<BBHIII", *r) for r in rows)
 
 
+def total(buffer):
+    """the sum that the programs print"""
+    sum = 0
+    for b in buffer:
+        sum = (sum * 31 + b) % 2**32
+    return sum
+
+
 def run(name, data, room, number, place, out=None):
     """number and place of a refusal, or 0 and the rows `out`"""
     share = 8 + 64 * ((len(data) - 8) // 16)
@@ -21,10 +29,7 @@ def run(name, data, room, number, place, out=None):
         buffer = new + bytes(share - len(new)) + buffer[share:]
     elif number > 5:
         buffer = bytes(share) + buffer[share:]
-    total = 0
-    for b in buffer:
-        total = (total * 31 + b) % 2**32
-    runs.append((name, data, room, number, place, total))
+    runs.append((name, data, room, number, place, total(buffer), out))
 
 
 def rows_run(name, rows, number, place=0, out=None, spare=1):
@@ -81,8 +86,8 @@ run("a byte more", form(empty) + b"\0", 136, 2, 0)
 run("a row less", form(empty, 3), 200, 2, 0)
 
 with open("crates/runs/stdin", "wb") as f:
-    for name, data, room, number, place, total in runs:
+    for name, data, room, *_ in runs:
         f.write(name.encode().ljust(16) + struct.pack("<II", len(data), room) + data)
 with open("crates/runs/stdout", "w") as f:
-    for name, data, room, number, place, total in runs:
-        f.write(f"{name.ljust(16)} {number} {place} {total}\n")
+    for name, _, _, number, place, sum, _ in runs:
+        f.write(f"{name.ljust(16)} {number} {place} {sum}\n")
