@@ -1,12 +1,18 @@
-/* Calls wnt_resolve so many times on a form, for a profiler to count; docs/BENCHMARK.md says how it is built. */
-#include <stdint.h>
+/* Calls wnt_resolve so many times on a form, or wnt_resolve_with on one of version 2, for a profiler to count;
+ * docs/BENCHMARK.md says how it is built. */
+#include "../include/wnt.h"
 #include <stdio.h>
 #include <stdlib.h>
 
-uint64_t wnt_resolve(const uint8_t *form, size_t form_len, uint8_t *out, size_t out_len);
+static uint8_t form[WNT_MAX_FORM_SIZE_2];
+static uint8_t out[WNT_MAX_OUT_SIZE_2];
+static size_t form_len;
+static struct wnt_work_2 work;
 
-static uint8_t form[8 + 16 * 1023];
-static uint8_t out[8 + 64 * 1023];
+static uint64_t call(void) {
+    if (form[3] == 2) return wnt_resolve_with(form, form_len, out, sizeof out, WNT_LENT(&work));
+    return wnt_resolve(form, form_len, out, sizeof out);
+}
 
 int main(int argc, char **argv) {
     if (argc != 3) {
@@ -18,10 +24,10 @@ int main(int argc, char **argv) {
         perror(argv[2]);
         return 1;
     }
-    size_t form_len = fread(form, 1, sizeof form, file);
+    form_len = fread(form, 1, sizeof form, file);
     fclose(file);
     uint64_t answer = 0;
-    for (long times = atol(argv[1]); times > 0; times--) answer = wnt_resolve(form, form_len, out, sizeof out);
+    for (long times = atol(argv[1]); times > 0; times--) answer = call();
     printf("number %u, place or rows %u\n", (unsigned)(answer >> 32), (unsigned)answer);
     return 0;
 }

@@ -1,25 +1,60 @@
-/* How much stack a call of wnt_resolve takes: it runs on a stack of its own that is painted before, and what lost its paint
- * is counted. docs/BENCHMARK.md says how it is built. */
-#include <stdint.h>
+/* How much stack each call of the library takes on a form: it runs on a stack of its own that is painted before, and what
+ * lost its paint is counted. docs/BENCHMARK.md says how it is built. */
 #include <stdio.h>
 #include <string.h>
 #include <ucontext.h>
 
-uint64_t wnt_resolve(const uint8_t *form, size_t form_len, uint8_t *out, size_t out_len);
+#include "wnt.h"
 
-enum { STACK = 1 << 20, PAINT = 0xa5 };
+enum { STACK = 1 << 20, PAINT = 0xa5, SLOTS = 2046, LINKS = 3070 };
 
 static uint8_t stack[STACK];
-static uint8_t form[8 + 16 * 1023];
-static uint8_t out[8 + 64 * 1023];
+static uint8_t form[WNT_MAX_FORM_SIZE_2], mended[WNT_MAX_FORM_SIZE], out[WNT_MAX_OUT_SIZE_2], list[1 << 20];
+static uint8_t moved[WNT_MOVED_LIST_SIZE(WNT_MAX_ROWS)], apart[WNT_APART_LIST_SIZE(WNT_MAX_ROWS)];
+static wnt_slot table[SLOTS];
+static uint16_t index_of[LINKS];
+static struct wnt_work_2 work;
 static size_t form_len;
 static uint64_t answer;
 static ucontext_t here, there;
 
-static void call(void) { answer = wnt_resolve(form, form_len, out, sizeof out); }
+static void resolve(void) { answer = wnt_resolve(form, form_len, out, sizeof out); }
+
+static void check(void)
+{
+    answer = wnt_check(form, form_len, out, WNT_FORM_SIZE(out[6] + 256u * out[7]), table, SLOTS, index_of, LINKS);
+}
+
+static void list_moved(void)
+{
+    answer = wnt_moved(form, form_len, out, sizeof out, moved, sizeof moved, apart, sizeof apart);
+}
+
+static void resolve_with(void) { answer = wnt_resolve_with(form, form_len, out, sizeof out, WNT_LENT(&work)); }
+
+static void mend(void)
+{
+    memcpy(mended, form, sizeof mended);
+    answer = wnt_mend(mended, sizeof mended, form_len, list, sizeof list);
+}
+
+static void compare(void) { answer = wnt_compare(form, form_len, form, form_len, 0, list, sizeof list); }
+
+static void convert(void) { answer = wnt_convert(form, form_len, 2, list, sizeof list); }
+
+static void meant(void) { answer = wnt_meant(form, form_len, form, form_len, 5); }
+
+static const struct {
+    const char *name;
+    void (*call)(void);
+} calls[] = {
+    {"wnt_resolve", resolve}, {"wnt_check", check}, {"wnt_moved", list_moved}, {"wnt_resolve_with", resolve_with},
+    {"wnt_mend", mend},       {"wnt_compare", compare}, {"wnt_convert", convert}, {"wnt_meant", meant},
+};
 
 /* The bytes of the stack that were touched by one call. */
-static size_t touched(void) {
+static size_t touched(void (*call)(void))
+{
     size_t untouched = 0;
     memset(stack, PAINT, sizeof stack);
     getcontext(&there);
@@ -32,7 +67,8 @@ static size_t touched(void) {
     return sizeof stack - untouched;
 }
 
-int main(int argc, char **argv) {
+int main(int argc, char **argv)
+{
     for (int i = 1; i < argc; i++) {
         FILE *file = fopen(argv[i], "rb");
         if (!file) {
@@ -41,8 +77,11 @@ int main(int argc, char **argv) {
         }
         form_len = fread(form, 1, sizeof form, file);
         fclose(file);
-        size_t bytes = touched();
-        printf("%s: number %u, place or rows %u, %zu bytes of stack\n", argv[i], (unsigned)(answer >> 32), (unsigned)answer, bytes);
+        for (size_t k = 0; k < sizeof calls / sizeof *calls; k++) {
+            size_t bytes = touched(calls[k].call);
+            printf("%s: %s: number %u, place or rest %u, %zu bytes of stack\n", argv[i], calls[k].name,
+                   (unsigned)(answer >> 32), (unsigned)answer, bytes);
+        }
     }
     return 0;
 }

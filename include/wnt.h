@@ -30,6 +30,83 @@ extern "C" {
 #define WNT_MAX_FORM_SIZE 16376
 #define WNT_MAX_OUT_SIZE 65480
 
+/* The version of the library that this header belongs to: that of `wnt --version`. */
+#define WNT_VERSION "0.2.0-dev"
+
+/* ---- What rows are made of. A row is `[code b e x y z]`: bytes 0, 1, 2 to 3, 4 to 7, 8 to 11 and 12 to 15. */
+
+/* The codes of rows. */
+enum wnt_row {
+    WNT_ROW_FIELD = 1,
+    WNT_ROW_DECL = 2,
+    WNT_ROW_REF = 3,
+    WNT_ROW_PATH = 4,
+    WNT_ROW_OUTER = 5,
+    WNT_ROW_CASE = 6,
+    WNT_ROW_OPEN = 7,
+    WNT_ROW_CLOSE = 8,
+    WNT_ROW_EXPORT = 9
+};
+
+/* The spaces: b of DECL, REF and OUTER. */
+enum wnt_space {
+    WNT_SPACE_CORE_FUNC = 0,
+    WNT_SPACE_CORE_GLOBAL = 1,
+    WNT_SPACE_CORE_TABLE = 2,
+    WNT_SPACE_CORE_MEMORY = 3,
+    WNT_SPACE_CORE_TYPE = 4,
+    WNT_SPACE_CORE_TAG = 5,
+    WNT_SPACE_CORE_INSTANCE = 6,
+    WNT_SPACE_CORE_MODULE = 7,
+    WNT_SPACE_FUNC = 8,
+    WNT_SPACE_TYPE = 9,
+    WNT_SPACE_INSTANCE = 10,
+    WNT_SPACE_COMPONENT = 11,
+    WNT_SPACE_VALUE = 12
+};
+
+/* The kinds of scopes: b of OPEN. */
+enum wnt_scope {
+    WNT_SCOPE_COMPONENT = 0,
+    WNT_SCOPE_COMPONENT_TYPE = 1,
+    WNT_SCOPE_INSTANCE_TYPE = 2,
+    WNT_SCOPE_MODULE_TYPE = 3
+};
+
+/* The codes of fields: b of FIELD. */
+enum wnt_field {
+    WNT_FIELD_CORE_MODULE = 1,
+    WNT_FIELD_CORE_INSTANTIATE = 2,
+    WNT_FIELD_CORE_EXPORTS = 3,
+    WNT_FIELD_CORE_TYPE = 4,
+    WNT_FIELD_CORE_REC = 5,
+    WNT_FIELD_COMPONENT = 6,
+    WNT_FIELD_INSTANTIATE = 7,
+    WNT_FIELD_EXPORTS = 8,
+    WNT_FIELD_ALIAS_EXPORT = 9,
+    WNT_FIELD_ALIAS_CORE_EXPORT = 10,
+    WNT_FIELD_ALIAS_OUTER = 11,
+    WNT_FIELD_DEFINED_TYPE = 12,
+    WNT_FIELD_FUNC_TYPE = 13,
+    WNT_FIELD_COMPONENT_TYPE = 14,
+    WNT_FIELD_INSTANCE_TYPE = 15,
+    WNT_FIELD_RESOURCE_TYPE = 16,
+    WNT_FIELD_CORE_MODULE_TYPE = 17,
+    WNT_FIELD_LIFT = 18,
+    WNT_FIELD_BUILTIN = 19,
+    WNT_FIELD_START = 20,
+    WNT_FIELD_IMPORT = 21,
+    WNT_FIELD_EXPORT = 22,
+    WNT_FIELD_EXPORT_DECLARATION = 23,
+    WNT_FIELD_CORE_IMPORT_OR_EXPORT = 24,
+    WNT_FIELD_CUSTOM = 25
+};
+
+/* The first name that an inserted field can have: names of an input are 1 to one less. */
+#define WNT_FIRST_FRESH 2147483648u
+
+/* ---- Answers. */
+
 /* The numbers of the answers, and the place of each refusal. A row is counted from 0; z is a row's last part, which the
  * caller chose. 1, 2 and 3 are looked for in this order, then 4 and 5 by row, then 6 to 12 as the steps of the rules
  * meet them. */
@@ -60,8 +137,37 @@ enum wnt_number {
     /* The outer count is not below the number of open scopes. Place: z of the field. */
     WNT_COUNT_TOO_LARGE = 11,
     /* An earlier case of the field has that name. Place: z of the second case. */
-    WNT_DUPLICATE_CASE = 12
+    WNT_DUPLICATE_CASE = 12,
+    /* Of wnt_unresolve alone: no input has these bytes as its output. Place: 0. */
+    WNT_NO_INPUT = 14
 };
+
+/* What a refusal means, by its number; `wnt` says the same. */
+static inline const char *wnt_text(uint32_t number)
+{
+    switch (number) {
+    case WNT_ACCEPTED: return "accepted";
+    case WNT_HEADER: return "this is no form: it does not begin with WNT and version 1";
+    case WNT_ROW_COUNT: return "the row count is 0 or above 1023, or the length is not 8 + 16 x rows";
+    case WNT_ROOM: return "the output buffer is too short";
+    case WNT_BROKEN: return "this row cannot stand here: no form begins with the rows up to it";
+    case WNT_DEEP: return "a scope is opened while 32 are open";
+    case WNT_DUPLICATE_NAME: return "a name is declared twice";
+    case WNT_NOT_EXPORTED: return "a core instance has no such export";
+    case WNT_NOT_OUTER: return "the name means something of a scope further out that cannot be had from there";
+    case WNT_UNKNOWN_NAME: return "an unknown name";
+    case WNT_UNKNOWN_SCOPE: return "no open scope has the name of the outer scope";
+    case WNT_COUNT_TOO_LARGE: return "the outer count is not below the number of open scopes";
+    case WNT_DUPLICATE_CASE: return "an earlier case of this field has that name";
+    default: return "no refusal has that number";
+    }
+}
+
+/* The stack that is enough for any call on a form of version 1. Measured on x86-64 (compare/stack.c) at the driver of the
+ * examples and at 32 open scopes: wnt_resolve 66,432 and 90,360 bytes, wnt_moved 66,656 and 90,584, wnt_check 71,472 and
+ * 95,400, wnt_resolve_with 10,400 and 28,184, wnt_mend 24,160, wnt_compare 8,032, wnt_convert 7,888, wnt_meant 528. It does
+ * not depend on the rows. */
+#define WNT_STACK_SIZE 131072
 
 /* The answer's upper half: one of the numbers above. */
 #define WNT_NUMBER(answer) ((uint32_t)((answer) >> 32))
@@ -108,9 +214,9 @@ typedef uint32_t wnt_slot[6];
 #define WNT_SLOTS_1 1024
 #define WNT_LINKS_1 2048
 #define WNT_SLOTS_2 16384
-#define WNT_LINKS_2 17408
+#define WNT_LINKS_2 32768
 
-/* All areas for a version in one piece: 61440 bytes, and 921600. Both are too large for many a thread's stack; where one
+/* All areas for a version in one piece: 61440 bytes, and 983040. Both are too large for many a thread's stack; where one
  * is static or allocated it need not be zeroed before the first call. */
 struct wnt_work_1 {
     wnt_slot entered[WNT_SLOTS_1], names[WNT_SLOTS_1];
@@ -156,6 +262,38 @@ uint64_t wnt_resolve_with(const uint8_t *form, size_t form_len, uint8_t *out, si
  * A version 2 form with 1 in byte 5, the rule set of the newer tools, is taken as well and keeps it. The two buffers must
  * not overlap, and for the rest what is said of wnt_resolve holds. */
 uint64_t wnt_convert(const uint8_t *form, size_t form_len, uint32_t version, uint8_t *out, size_t out_len);
+/* How many numbers wnt_resolve_told tells, and which: the space of the name (0 to 12, refusals 6, 8 and 9; of 9 at a path
+ * that of the path's instance), and the place of the first declaration of the name (refusal 6). */
+#define WNT_TOLD 2
+#define WNT_TOLD_SPACE 0
+#define WNT_TOLD_FIRST 1
+
+/* The same as wnt_resolve, and tells what a refusal is about: the first WNT_TOLD of `told` are then what is said above, or
+ * 0 where the answer has no such number. Those behind them never change. If `told_len` is below WNT_TOLD, the answer is
+ * that to an output of no bytes (1, 2 or 3), and `out` and `told` stay as they were.
+ *
+ * The three buffers must not overlap, and for the rest what is said of wnt_resolve holds. */
+uint64_t wnt_resolve_told(const uint8_t *form, size_t form_len, uint8_t *out, size_t out_len, uint32_t *told,
+                          size_t told_len);
+/* The sizes of the working areas of wnt_unresolve, in bytes. */
+#define WNT_RESTORED_SIZE WNT_MAX_FORM_SIZE
+#define WNT_AGAIN_SIZE WNT_MAX_OUT_SIZE
+
+/* Gives an input back for a resolved form: its inserted aliases are left out, and the references that they served are names
+ * and paths again; every other number stays. The input is written to the front of `out`, and wnt_resolve gives for it the
+ * very bytes of `form`. It succeeds exactly if there is an input that does; of several it is always the same one.
+ *
+ * On success the upper half is 0 and the lower the rows of the input: WNT_FORM_SIZE of them are written, and later bytes of
+ * `out` are as they were. A refusal is at place 0 and leaves all of `out` as it was. They come in this order:
+ *
+ *   3        `restored` has fewer than WNT_RESTORED_SIZE bytes, or `again` fewer than WNT_AGAIN_SIZE
+ *   14       no input has these bytes as its output, whatever they are
+ *   3        the input is longer than `out`
+ *
+ * The two areas may hold anything. After every return they are zero up to those sizes, all of them where they are shorter,
+ * and later bytes are as they were. No two buffers may overlap, and for the rest what is said of wnt_resolve holds. */
+uint64_t wnt_unresolve(const uint8_t *form, size_t form_len, uint8_t *out, size_t out_len, uint8_t *restored,
+                       size_t restored_len, uint8_t *again, size_t again_len);
 
 /* Mends the form in the first `length` bytes of `buffer`, whose other bytes are room for added rows: a part row is
  * dropped, rows after the root's CLOSE are cut, missing CLOSE rows are added at the end, the row count is set to the rows
@@ -246,7 +384,7 @@ enum wnt_condition {
  * The areas may hold anything. After every return both are zero up to these sizes, all of them where they are shorter,
  * and as they were beyond. `table_len` counts slots and `index_len` numbers. The areas must overlap nothing; `form` and
  * `claim` may be the same, and for the rest what is said of wnt_resolve holds. */
-uint64_t wnt_check(const uint8_t *form, size_t form_len, const uint8_t *claim, size_t claim_len, uint32_t (*table)[6],
+uint64_t wnt_check(const uint8_t *form, size_t form_len, const uint8_t *claim, size_t claim_len, wnt_slot *table,
                    size_t table_len, uint16_t *index, size_t index_len);
 /* A binding sheet: what each reference of a driver must mean, written down once. It has up to 200 slots, each three little
  * endian numbers of four bytes: the meter family (the caller's own), the place of a reference, the name of the declaration

@@ -5,14 +5,14 @@
 
 use crate::component::*;
 use crate::core;
-use crate::rows::{CASE, CLOSE, DECL, EXPORT, FIELD, FIRST_INSERTED, OPEN, OUTER, REF, Row};
+use crate::rows::{CASE, CLOSE, DECL, EXPORT, FIELD, FIRST_INSERTED, OPEN, OUTER, REF, Row, SECOND};
 use crate::token::{Id, Index, Span};
 use std::collections::HashMap;
 
 mod funcs;
 
 /// The most names that one run can insert: each uses up a row of the input.
-const MOST_INSERTED: u32 = 1023;
+const MOST_INSERTED: u32 = SECOND.rows as u32;
 
 /// The number k of each name that the crate generates, counted from 0.
 pub struct Generated {

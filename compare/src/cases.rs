@@ -2,7 +2,7 @@
 //! with an ascribed type, and forms on both sides of each limit.
 
 use crate::compare::Case;
-use crate::rows::{Answer, CLOSE, DECL, FIELD, MOST_ROWS, MOST_SCOPES, OPEN, PATH, REF, Row, encode, output_size};
+use crate::rows::{Answer, CLOSE, DECL, FIELD, OPEN, PATH, REF, Row, Version};
 
 /// A form of document 01 and the answer it states.
 pub struct Stated {
@@ -157,7 +157,7 @@ fn aliases_of_both() -> Stated {
 
 /// Exports with an ascribed type that end too early, have one reference too many or one that may not stand there;
 /// and e above 1.
-fn broken_exports() -> Vec<Case> {
+fn broken_exports(version: Version) -> Vec<Case> {
     let to = |space: u8| (3, space, 0, 0, 0, 52);
     let (by_path, path) = ((3, 9, 0, 0, 1, 52), (4, 0, 0, 5, 0, 0));
     let operands: [(u8, &[Parts]); 9] = [
@@ -176,35 +176,35 @@ fn broken_exports() -> Vec<Case> {
         forms.push([&[ROOT][..], &typed_export(space), operands, &[END]].concat());
     }
     forms.extend([2, 3, 48, 256].map(|e| vec![ROOT, (1, 22, e, 0, 0, 50), (2, 8, 0, 0, 0, 51), to(8), END]));
-    forms.iter().map(|form| exact(rows(form))).collect()
+    forms.iter().map(|form| exact(version, rows(form))).collect()
 }
 
-/// Forms at and beyond each limit.
-pub fn limits() -> Vec<Case> {
-    let mut cases = Vec::new();
-    for count in [1, 2, MOST_ROWS - 1, MOST_ROWS, MOST_ROWS + 1, 65_535] {
-        cases.push(exact(padded(count)));
+/// Forms of a version at and beyond each limit.
+pub fn limits(version: Version) -> Vec<Case> {
+    let (most, deepest) = (version.rows, version.scopes);
+    let mut forms: Vec<Vec<Row>> = [1, 2, most - 1, most, most + 1, 65_535].map(padded).to_vec();
+    for depth in [1, 2, deepest - 1, deepest, deepest + 1, deepest + 2] {
+        forms.push(nested(depth, COMPONENT_FIELD));
+        forms.push(nested(depth, TYPE_FIELD));
     }
-    for depth in [1, 2, MOST_SCOPES - 1, MOST_SCOPES, MOST_SCOPES + 1, MOST_SCOPES + 2] {
-        cases.push(exact(nested(depth, COMPONENT_FIELD)));
-        cases.push(exact(nested(depth, TYPE_FIELD)));
+    let mut spoilt = nested(deepest + 1, COMPONENT_FIELD);
+    spoilt[3 * deepest].x = 9;
+    forms.push(spoilt);
+    for paths in [1, 100, most as u32 - 7] {
+        forms.push(long_path(paths, paths));
+        forms.push(long_path(paths, paths + 1));
+        forms.push(long_path(paths, u32::MAX));
     }
-    let mut spoilt = nested(MOST_SCOPES + 1, COMPONENT_FIELD);
-    spoilt[3 * MOST_SCOPES].x = 9;
-    cases.push(exact(spoilt));
-    for paths in [1, 100, MOST_ROWS as u32 - 7] {
-        cases.push(exact(long_path(paths, paths)));
-        cases.push(exact(long_path(paths, paths + 1)));
-        cases.push(exact(long_path(paths, u32::MAX)));
-    }
-    cases.extend(short_outputs(&nested(4, COMPONENT_FIELD)));
-    cases.extend(headers());
-    cases.extend(broken_exports());
+    let mut cases: Vec<Case> = forms.into_iter().map(|rows| exact(version, rows)).collect();
+    cases.extend(short_outputs(version, nested(4, COMPONENT_FIELD)));
+    cases.extend(headers(version));
+    cases.extend(broken_exports(version));
     cases
 }
 
-fn exact(rows: Vec<Row>) -> Case {
-    Case { out_len: output_size(rows.len()), form: encode(&rows), fill: 0x5a5a_a5a5_0f0f_f0f1, choice: 1 }
+fn exact(version: Version, rows: Vec<Row>) -> Case {
+    let out_len = version.output_size(rows.len());
+    Case { out_len, form: version.encode(&rows), fill: 0x5a5a_a5a5_0f0f_f0f1, choice: 1 }
 }
 
 /// A component of this many rows, as far as rows allow: two for the scope, the others empty fields.
@@ -241,17 +241,17 @@ fn long_path(paths: u32, stated: u32) -> Vec<Row> {
     rows
 }
 
-fn short_outputs(rows: &[Row]) -> Vec<Case> {
-    let enough = exact(rows.to_vec());
+fn short_outputs(version: Version, rows: Vec<Row>) -> Vec<Case> {
+    let enough = exact(version, rows);
     let lengths = [0, 1, 7, 8, enough.out_len / 4, enough.out_len - 1, enough.out_len, enough.out_len + 1];
     lengths.into_iter().map(|out_len| Case { out_len, ..enough.clone() }).collect()
 }
 
 /// Every front part of a small form, one with every header byte changed, and ones with bytes behind.
-fn headers() -> Vec<Case> {
-    let whole = exact(nested(2, COMPONENT_FIELD));
+fn headers(version: Version) -> Vec<Case> {
+    let whole = exact(version, nested(2, COMPONENT_FIELD));
     let fronts = (0..whole.form.len()).map(|length| whole.form[..length].to_vec());
-    let changed = (0..8).flat_map(|at| {
+    let changed = (0..version.header).flat_map(|at| {
         let form = &whole.form;
         [1, 0x80].map(|bits| {
             let mut bytes = form.clone();

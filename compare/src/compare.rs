@@ -3,7 +3,7 @@
 use crate::chance::Chance;
 use crate::oracle::Oracle;
 use crate::recognise::recognise;
-use crate::rows::{Answer, HEADER, encode, output_size};
+use crate::rows::{Answer, Version};
 use crate::shapes::Shapes;
 
 /// A resolver as a C program calls it: `wnt_resolve`, or a copy of its answers with a planted change.
@@ -21,7 +21,7 @@ pub struct Case {
 impl Case {
     /// A case with an output that is exact, longer or, now and then, too short.
     pub fn new(form: Vec<u8>, chance: &mut Chance) -> Case {
-        let enough = output_size(stated_rows(&form));
+        let enough = needed(&form);
         let out_len = match chance.below(40) {
             0 => enough.saturating_sub(1),
             1 => chance.below(enough + 1),
@@ -33,19 +33,18 @@ impl Case {
 
     /// A case with an output that is just long enough.
     pub fn exact(form: Vec<u8>, chance: &mut Chance) -> Case {
-        let out_len = output_size(stated_rows(&form));
-        Case { form, out_len, fill: chance.next(), choice: chance.next() }
+        Case { out_len: needed(&form), form, fill: chance.next(), choice: chance.next() }
     }
 
     /// The same case on another form, with as much room beyond what is needed.
     pub fn with_form(&self, form: Vec<u8>) -> Case {
-        let more = self.out_len as isize - output_size(stated_rows(&self.form)) as isize;
-        let out_len = output_size(stated_rows(&form)).saturating_add_signed(more);
+        let more = self.out_len as isize - needed(&self.form) as isize;
+        let out_len = needed(&form).saturating_add_signed(more);
         Case { form, out_len, ..self.clone() }
     }
 
     /// What the output holds before the call.
-    fn pattern(&self) -> Vec<u8> {
+    pub fn pattern(&self) -> Vec<u8> {
         let words = (0..self.out_len.div_ceil(8)).map(|at| self.fill.rotate_left(at as u32 % 61) | 1);
         let mut bytes: Vec<u8> = words.flat_map(u64::to_le_bytes).collect();
         bytes.truncate(self.out_len);
@@ -53,10 +52,10 @@ impl Case {
     }
 }
 
-/// The row count of a header, at most as many as the form's bytes hold.
-fn stated_rows(form: &[u8]) -> usize {
-    let count = form.get(6..HEADER).map_or(0, |part| usize::from(part[0]) + 256 * usize::from(part[1]));
-    count.min(form.len() / 16)
+/// How long an output must be by a form's header, whose row count is cut to what the form's bytes hold.
+pub fn needed(form: &[u8]) -> usize {
+    let version = Version::of(form);
+    version.output_size(version.count(form).min(form.len() / 16))
 }
 
 /// What one side did: its answer and the output afterwards.
@@ -106,13 +105,13 @@ impl Comparison {
 }
 
 /// The output after this answer.
-fn after(answer: &Answer, form: &[u8], mut out: Vec<u8>) -> Vec<u8> {
+pub fn after(answer: &Answer, form: &[u8], mut out: Vec<u8>) -> Vec<u8> {
     let written = match answer {
-        Answer::Accepted(rows) => encode(rows),
+        Answer::Accepted(rows) => Version::of(form).encode(rows),
         Answer::Refused { number: 6.., .. } => Vec::new(),
         Answer::Refused { .. } | Answer::Panicked => return out,
     };
-    let front = &mut out[..output_size(stated_rows(form))];
+    let front = &mut out[..needed(form)];
     front.fill(0);
     front[..written.len()].copy_from_slice(&written);
     out

@@ -1,17 +1,22 @@
 //! Damaged forms: bytes that were a form before a few things were changed.
 
 use crate::chance::Chance;
-use crate::rows::{FIELD, FIRST_INSERTED, HEADER, ROW, Row, encode};
+use crate::rows::{FIELD, FIRST, FIRST_INSERTED, ROW, Row, Version};
 
-/// The bytes of the rows after one to three changes.
+/// The bytes of the rows, as a form of version 1, after one to three changes.
 pub fn damage(rows: &[Row], chance: &mut Chance) -> Vec<u8> {
+    damage_as(FIRST, rows, chance)
+}
+
+/// The same as a form of this version.
+pub fn damage_as(version: Version, rows: &[Row], chance: &mut Chance) -> Vec<u8> {
     let mut rows = rows.to_vec();
     for _ in 0..chance.below(3) {
         damage_rows(&mut rows, chance);
     }
-    let mut bytes = encode(&rows);
+    let mut bytes = version.encode(&rows);
     if chance.percent(50) {
-        damage_bytes(&mut bytes, chance);
+        damage_bytes(version, &mut bytes, chance);
     }
     bytes
 }
@@ -46,11 +51,11 @@ fn damage_part(row: &mut Row, chance: &mut Chance) {
     }
 }
 
-fn damage_bytes(bytes: &mut Vec<u8>, chance: &mut Chance) {
+fn damage_bytes(version: Version, bytes: &mut Vec<u8>, chance: &mut Chance) {
     let at = chance.below(bytes.len());
     match chance.below(6) {
         0 | 1 => bytes[at] ^= 1 << chance.below(8),
-        2 => bytes[chance.below(HEADER)] = chance.below(5) as u8,
+        2 => bytes[chance.below(version.header)] = chance.below(5) as u8,
         3 => bytes.truncate(at),
         4 => bytes.extend(vec![0; chance.pick(&[1, ROW])]),
         _ => bytes[at] = chance.next() as u8,

@@ -1,8 +1,11 @@
 //! Random well-formed forms, the same for the same seed: first rows by their shapes, then the operands.
 
 use crate::chance::Chance;
-use crate::rows::{CASE, CLOSE, DECL, EXPORT, FIELD, FIRST_INSERTED, OPEN, OUTER, PATH, REF, Row};
+use crate::rows::{
+    CASE, CLOSE, DECL, EXPORT, FIELD, FIRST, FIRST_INSERTED, OPEN, OUTER, PATH, REF, Row, SECOND, Version,
+};
 use crate::shapes::{COMPONENT, FIELDS, FOUR, Shape, Shapes, Want, allowed, values_of_e};
+use std::collections::HashSet;
 
 /// What a form is like: how large, how deep, how many names it has to choose from, how often it is wrong.
 #[derive(Clone)]
@@ -39,12 +42,30 @@ impl Mood {
             opening: chance.pick(&[1, 3, 8]),
         }
     }
+
+    /// The same for forms of version 2: some are deeper, a few far larger.
+    fn larger(chance: &mut Chance) -> Mood {
+        let mut mood = Mood::of(chance);
+        mood.depth = chance.pick(&[mood.depth, mood.depth, 33, 64, 68]);
+        if chance.percent(2) {
+            mood.rows = chance.pick(&[1100, 2500, 6000, 16_300]);
+            mood.fields = chance.pick(&[40, 400, 8000]);
+            mood.names = chance.pick(&[60, 500, 4000]);
+            mood.first_name = chance.pick(&[1, 700, FIRST_INSERTED - mood.names]);
+        }
+        mood
+    }
 }
 
-/// A well-formed form, though it may be too long or too deep.
+/// A well-formed form of version 1, though it may be too long or too deep.
 pub fn form(shapes: &Shapes, seed: u64) -> Vec<Row> {
+    form_of(FIRST, shapes, seed)
+}
+
+/// The same for this version.
+pub fn form_of(version: Version, shapes: &Shapes, seed: u64) -> Vec<Row> {
     let mut chance = Chance::new(seed);
-    let mood = Mood::of(&mut chance);
+    let mood = if version == SECOND { Mood::larger(&mut chance) } else { Mood::of(&mut chance) };
     let mut sketch = Sketch { shapes, chance, mood, rows: Vec::new(), depth: 0 };
     let name = sketch.name();
     sketch.scope(COMPONENT, name);
@@ -219,11 +240,11 @@ impl Sketch<'_> {
     }
 }
 
-/// A scope of a sketch: what surrounds it, its name, what it declares.
+/// A scope of a sketch: what surrounds it, its name, what it declares in each space.
 struct Declared {
     around: Option<usize>,
     name: u32,
-    names: Vec<(u8, u32)>,
+    names: [Vec<u32>; 13],
 }
 
 /// Which names each scope has, and in which scope each row stands.
@@ -241,7 +262,7 @@ impl Filling {
                 OPEN => {
                     let around = open.last().copied();
                     open.push(filling.scopes.len());
-                    filling.scopes.push(Declared { around, name: row.x, names: Vec::new() });
+                    filling.scopes.push(Declared { around, name: row.x, names: Default::default() });
                 }
                 CLOSE => {
                     filling.scope_of.push(open.pop().expect("scopes close once"));
@@ -249,7 +270,7 @@ impl Filling {
                 }
                 DECL if row.x != 0 => {
                     let here = *open.last().expect("a scope is open");
-                    filling.scopes[here].names.push((row.b, row.x));
+                    filling.scopes[here].names[usize::from(row.b)].push(row.x);
                 }
                 _ => {}
             }
@@ -268,9 +289,8 @@ impl Filling {
         }
     }
 
-    fn names_in(&self, scope: usize, space: u8) -> Vec<u32> {
-        let names = &self.scopes[scope].names;
-        names.iter().filter(|(of, _)| *of == space).map(|(_, name)| *name).collect()
+    fn names_in(&self, scope: usize, space: u8) -> &[u32] {
+        &self.scopes[scope].names[usize::from(space)]
     }
 
     fn outward(&self, scope: usize) -> Vec<usize> {
@@ -279,10 +299,10 @@ impl Filling {
 
     /// A name of this space that some scope further out declares and this one does not.
     fn name_outside(&self, scope: usize, space: u8, chance: &mut Chance) -> Option<u32> {
-        let here = self.names_in(scope, space);
+        let here: HashSet<u32> = self.names_in(scope, space).iter().copied().collect();
         let around = self.outward(scope).split_off(1);
-        let names: Vec<u32> = around.iter().flat_map(|s| self.names_in(*s, space)).collect();
-        let hidden: Vec<u32> = names.into_iter().filter(|name| !here.contains(name)).collect();
+        let names = around.iter().flat_map(|s| self.names_in(*s, space));
+        let hidden: Vec<u32> = names.copied().filter(|name| !here.contains(name)).collect();
         (!hidden.is_empty()).then(|| chance.pick(&hidden))
     }
 
@@ -302,7 +322,7 @@ impl Filling {
         } else if here.is_empty() || chance.percent(mood.numbers) {
             None
         } else {
-            Some(chance.pick(&here))
+            Some(chance.pick(here))
         };
         match name {
             Some(name) => (row.e, row.x) = (1, name),
@@ -324,11 +344,11 @@ impl Filling {
             (row.e, row.x) = (1, mood.first_name);
         }
         let meant = if row.e == 1 { around.iter().copied().find(|s| self.scopes[*s].name == row.x) } else { target };
-        let names = meant.map_or(Vec::new(), |meant| self.names_in(meant, row.b));
+        let names = meant.map_or(&[][..], |meant| self.names_in(meant, row.b));
         if faulty && chance.percent(60) {
             (row.e, row.y) = (row.e | 2, mood.first_name + chance.below(mood.names as usize) as u32);
         } else if !names.is_empty() && chance.percent(70) {
-            (row.e, row.y) = (row.e | 2, chance.pick(&names));
+            (row.e, row.y) = (row.e | 2, chance.pick(names));
         } else {
             row.y = small_or_any(chance);
         }

@@ -1,7 +1,18 @@
 //! Our resolver, called as a C program calls it.
 
+/// A slot of the tables that are lent.
+pub type Slot = [u32; 6];
+
 unsafe extern "C" {
     fn wnt_resolve(form: *const u8, form_len: usize, out: *mut u8, out_len: usize) -> u64;
+    fn wnt_resolve_told(
+        form: *const u8,
+        form_len: usize,
+        out: *mut u8,
+        out_len: usize,
+        told: *mut u32,
+        told_len: usize,
+    ) -> u64;
     fn wnt_mend(buffer: *mut u8, buffer_len: usize, length: usize, list: *mut u8, list_len: usize) -> u64;
     fn wnt_compare(
         left: *const u8,
@@ -12,6 +23,33 @@ unsafe extern "C" {
         list: *mut u8,
         list_len: usize,
     ) -> u64;
+    fn wnt_unresolve(
+        form: *const u8,
+        form_len: usize,
+        out: *mut u8,
+        out_len: usize,
+        restored: *mut u8,
+        restored_len: usize,
+        again: *mut u8,
+        again_len: usize,
+    ) -> u64;
+    fn wnt_resolve_with(
+        form: *const u8,
+        form_len: usize,
+        out: *mut u8,
+        out_len: usize,
+        entered: *mut Slot,
+        entered_len: usize,
+        names: *mut Slot,
+        names_len: usize,
+        known: *mut u16,
+        known_len: usize,
+        chains: *mut u16,
+        chains_len: usize,
+        ends: *mut u32,
+        ends_len: usize,
+    ) -> u64;
+    fn wnt_convert(form: *const u8, form_len: usize, version: u32, out: *mut u8, out_len: usize) -> u64;
     fn wnt_check(
         form: *const u8,
         form_len: usize,
@@ -53,6 +91,53 @@ pub fn resolve(form: &[u8], out: &mut [u8]) -> u64 {
     unsafe { wnt_resolve(form.as_ptr(), form.len(), out.as_mut_ptr(), out.len()) }
 }
 
+/// The answer of `wnt_resolve_told`, which may write into `out` and `told`.
+pub fn resolve_told(form: &[u8], out: &mut [u8], told: &mut [u32]) -> u64 {
+    // SAFETY: as above.
+    unsafe {
+        wnt_resolve_told(form.as_ptr(), form.len(), out.as_mut_ptr(), out.len(), told.as_mut_ptr(), told.len())
+    }
+}
+
+/// The working areas of `wnt_resolve_with`.
+pub struct Areas<'a> {
+    pub entered: &'a mut [Slot],
+    pub names: &'a mut [Slot],
+    pub known: &'a mut [u16],
+    pub chains: &'a mut [u16],
+    pub ends: &'a mut [u32],
+}
+
+/// The answer of `wnt_resolve_with`, which may write into `out` and into the areas.
+pub fn resolve_with(form: &[u8], out: &mut [u8], areas: &mut Areas) -> u64 {
+    let Areas { entered, names, known, chains, ends } = areas;
+    // SAFETY: all parts are valid for their lengths, apart from each other, for as long as the call lasts.
+    unsafe {
+        wnt_resolve_with(
+            form.as_ptr(),
+            form.len(),
+            out.as_mut_ptr(),
+            out.len(),
+            entered.as_mut_ptr(),
+            entered.len(),
+            names.as_mut_ptr(),
+            names.len(),
+            known.as_mut_ptr(),
+            known.len(),
+            chains.as_mut_ptr(),
+            chains.len(),
+            ends.as_mut_ptr(),
+            ends.len(),
+        )
+    }
+}
+
+/// The answer of `wnt_convert`, which may write into `out`.
+pub fn convert(form: &[u8], version: u32, out: &mut [u8]) -> u64 {
+    // SAFETY: as above.
+    unsafe { wnt_convert(form.as_ptr(), form.len(), version, out.as_mut_ptr(), out.len()) }
+}
+
 /// The answer of `wnt_mend`, which may write into both parts.
 pub fn mend(buffer: &mut [u8], length: usize, list: &mut [u8]) -> u64 {
     // SAFETY: as above.
@@ -72,6 +157,24 @@ pub fn compare(left: &[u8], right: &[u8], choice: u32, list: &mut [u8]) -> u64 {
 pub fn meant(prelude: &[u8], member: &[u8], row: u32) -> u64 {
     // SAFETY: both parts are valid for their lengths for as long as the call lasts.
     unsafe { wnt_meant(prelude.as_ptr(), prelude.len(), member.as_ptr(), member.len(), row) }
+}
+
+/// The answer of `wnt_unresolve`, which may write into the last three parts.
+pub fn unresolve(form: &[u8], out: &mut [u8], restored: &mut [u8], again: &mut [u8]) -> u64 {
+    // SAFETY: all parts are valid for their lengths, and those that are written apart from each other and from the form, for as
+    // long as the call lasts.
+    unsafe {
+        wnt_unresolve(
+            form.as_ptr(),
+            form.len(),
+            out.as_mut_ptr(),
+            out.len(),
+            restored.as_mut_ptr(),
+            restored.len(),
+            again.as_mut_ptr(),
+            again.len(),
+        )
+    }
 }
 
 /// The answer of `wnt_moved`, which may write into the last three parts.

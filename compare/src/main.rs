@@ -7,12 +7,15 @@ mod cases;
 mod chance;
 mod claims;
 mod compare;
+mod convert;
 mod damage;
 mod generate;
+mod lent;
 mod library;
 mod meant;
 mod mend;
 mod moved;
+mod names_back;
 mod oracle;
 mod partner;
 mod recognise;
@@ -32,6 +35,7 @@ mod spoil;
 mod standins;
 mod sweep;
 mod tally;
+mod told;
 mod tree;
 mod vectors;
 mod verify;
@@ -53,16 +57,23 @@ compare --sensitivity [--seed S]               plant changes on both sides and s
 compare --vectors N [--seed S] [--onto FILE] > OTHER
                                                write fixed vectors, at most N of each refusal, behind those of FILE
 compare --renaming N [--seed S]                resolve N random forms again with other names, and compare the two
-compare --bench FILE [--repetitions N]         time both sides; the picture goes to FILE as SVG
-compare --shapes FOLDER                        write the benchmark's forms of about 1,000 rows, for a profiler
+compare --bench FILE [--repetitions N] [--larger] [--least]
+                                               time both sides; the picture goes to FILE as SVG. With --larger forms of
+                                               version 2, with --least the least time of each form, not the median
+compare --shapes FOLDER                        write the benchmark's largest forms of both versions, for a profiler
 compare --samples FOLDER [--forms N]           write accepted random forms and their outputs, for readings.py
+compare --lent N [--seed S]                    resolve N forms of both versions in areas that are lent, and compare
+compare --convert N [--seed S]                 convert N forms, and compare with a converter written for it
 compare --mend N [--seed S]                    mend N spoilt forms, and compare with a mender written for it
 compare --meant N [--seed S]                   ask what the names of N members mean, and compare with a second reading
 compare --moved N [--seed S]                   list the moved numbers of N forms, and compare with a second reading
 compare --sheet N [--seed S]                   hold a binding sheet against N forms, and compare with a second reading
 compare --sheet-vectors N [--seed S] > OTHER   write fixed vectors of binding sheets, at most N of each outcome
 compare --check N [--seed S]                   check N claimed outputs, and compare with a checker written for it
-compare --check-bench N                        time checking beside resolving, the shortest of N calls each";
+compare --check-bench N                        time checking beside resolving, the shortest of N calls each
+compare --check-vectors N [--seed S] > OTHER   write fixed vectors of claims, at most N of each kind and verdict
+compare --told N [--seed S]                    compare on N forms what refusals tell besides
+compare --unresolve N [--seed S]               send N outputs of random forms back to names and round, and damaged ones";
 
 /// The value after `--name`, read as a number.
 fn number(arguments: &[String], name: &str) -> Option<u64> {
@@ -113,8 +124,13 @@ fn write_vectors(arguments: &[String], count: u64) -> bool {
 }
 
 fn bench(arguments: &[String], file: &str) -> bool {
-    let repetitions = number(arguments, "--repetitions").unwrap_or(1001);
-    let picture = bench::run(repetitions as usize);
+    let has = |name: &str| arguments.iter().any(|argument| argument == name);
+    let bench = bench::Bench {
+        version: if has("--larger") { rows::SECOND } else { rows::FIRST },
+        repetitions: number(arguments, "--repetitions").unwrap_or(1001) as usize,
+        counted: if has("--least") { bench::least } else { bench::median },
+    };
+    let picture = bench.run();
     is_written(file, std::fs::write(file, picture))
 }
 
@@ -149,10 +165,17 @@ fn main() -> ExitCode {
         write_vectors(&arguments, count)
     } else if let Some(forms) = number(&arguments, "--renaming") {
         renaming::run(&comparison(), number(&arguments, "--seed").unwrap_or(1), forms)
+    } else if let Some(forms) = number(&arguments, "--lent") {
+        lent::run(&comparison(), number(&arguments, "--seed").unwrap_or(1), forms)
+    } else if let Some(forms) = number(&arguments, "--convert") {
+        convert::run(number(&arguments, "--seed").unwrap_or(1), forms)
     } else if let Some(count) = number(&arguments, "--mend") {
         spoil::run(number(&arguments, "--seed").unwrap_or(1), count)
     } else if let Some(pairs) = number(&arguments, "--meant") {
         meant::run(number(&arguments, "--seed").unwrap_or(1), pairs)
+    } else if let Some(each) = number(&arguments, "--check-vectors") {
+        let seed = number(&arguments, "--seed").unwrap_or(1);
+        std::io::stdout().write_all(&verify::vectors(&comparison(), seed, each as usize)).is_ok()
     } else if let Some(forms) = number(&arguments, "--moved") {
         moved::run(number(&arguments, "--seed").unwrap_or(1), forms)
     } else if let Some(forms) = number(&arguments, "--sheet") {
@@ -165,6 +188,10 @@ fn main() -> ExitCode {
         true
     } else if let Some(pairs) = number(&arguments, "--check") {
         verify::run(&comparison(), number(&arguments, "--seed").unwrap_or(1), pairs)
+    } else if let Some(outputs) = number(&arguments, "--unresolve") {
+        names_back::run(&comparison(), number(&arguments, "--seed").unwrap_or(1), outputs)
+    } else if let Some(forms) = number(&arguments, "--told") {
+        told::run(&comparison(), number(&arguments, "--seed").unwrap_or(1), forms)
     } else if let Some(pairs) = number(&arguments, "--builds") {
         builds::run(pairs, number(&arguments, "--seed").unwrap_or(1))
     } else if has("--sensitivity") {

@@ -144,8 +144,10 @@ fn one(shapes: &Shapes, chance: &mut Chance, counts: &mut Counts) -> Result<(), 
     let mut out = vec![FILLED; rows::output_size(form.len()) + chance.below(40)];
     let mut resolved = out.clone();
     let answer = library::resolve(&bytes, &mut resolved);
-    let longer = |chance: &mut Chance, share: usize| share + chance.below(20) - usize::from(chance.percent(3) && share > 0);
-    let (mut moved, mut apart) = (vec![FILLED; longer(chance, 16 * form.len())], vec![FILLED; longer(chance, 12 * form.len())]);
+    let longer =
+        |chance: &mut Chance, share: usize| share + chance.below(20) - usize::from(chance.percent(3) && share > 0);
+    let (mut moved, mut apart) =
+        (vec![FILLED; longer(chance, 16 * form.len())], vec![FILLED; longer(chance, 12 * form.len())]);
     let got = library::moved(&bytes, &mut out, &mut moved, &mut apart);
     let short = moved.len() < 16 * form.len() || apart.len() < 12 * form.len();
     let asked = answer >> 32 != 1 && answer >> 32 != 2;
@@ -184,6 +186,8 @@ pub fn run(seed: u64, forms: u64) -> bool {
         }
     }
     let Counts { accepted, short, moved, apart } = counts;
-    println!("{forms} forms, {accepted} accepted, {short} with too short a list; {moved} numbers moved, {apart} without an item: 0 differences");
+    println!(
+        "{forms} forms, {accepted} accepted, {short} with too short a list; {moved} numbers moved, {apart} without an item: 0 differences"
+    );
     true
 }

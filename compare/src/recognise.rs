@@ -1,6 +1,6 @@
 //! Refusals 1 to 5 of document 01: which bytes are a form, and where others stop being one.
 
-use crate::rows::{CLOSE, DECL, FIELD, HEADER, MOST_ROWS, MOST_SCOPES, OPEN, REF, ROW, Row, decode, output_size};
+use crate::rows::{CLOSE, DECL, FIELD, FIRST, OPEN, REF, Row, Version};
 use crate::shapes::{COMPONENT, Shape, Shapes, Want, allowed, sound_field, sound_path};
 
 /// A refusal number and its place.
@@ -19,6 +19,7 @@ struct OpenField {
 
 struct Reading<'s> {
     shapes: &'s Shapes,
+    most: usize,
     scopes: Vec<Scope>,
     paths: u32,
 }
@@ -28,25 +29,39 @@ enum Bad {
     Depth,
 }
 
-/// The rows of a form that can be resolved into an output of this length.
+/// The rows of a form of version 1 that can be resolved into an output of this length.
 pub fn recognise(shapes: &Shapes, form: &[u8], out_len: usize) -> Result<Vec<Row>, Refusal> {
-    if form.len() < HEADER || form[..6] != *b"WNT\x01\x00\x00" {
-        return Err((1, 0));
-    }
-    let count = usize::from(u16::from_le_bytes([form[6], form[7]]));
-    if count == 0 || count > MOST_ROWS || form.len() != HEADER + ROW * count {
-        return Err((2, 0));
-    }
-    if out_len < output_size(count) {
-        return Err((3, 0));
-    }
-    let rows = decode(form);
-    read(shapes, &rows).map(|()| rows)
+    recognise_as(FIRST, shapes, form, out_len)
 }
 
-/// Refusals 4 and 5.
+/// The same for a form of this version.
+pub fn recognise_as(version: Version, shapes: &Shapes, form: &[u8], out_len: usize) -> Result<Vec<Row>, Refusal> {
+    if !version.begins(form, 0) {
+        return Err((1, 0));
+    }
+    let count = sized(version, form)?;
+    if out_len < version.output_size(count) {
+        return Err((3, 0));
+    }
+    let rows = version.decode(form);
+    read_within(shapes, &rows, version.scopes).map(|()| rows)
+}
+
+/// The row count that a header of this version states, if it may and the form is as long.
+pub fn sized(version: Version, form: &[u8]) -> Result<usize, Refusal> {
+    let count = version.count(form);
+    let sound = 0 < count && count <= version.rows && form.len() == version.form_size(count);
+    if sound { Ok(count) } else { Err((2, 0)) }
+}
+
+/// Refusals 4 and 5 of version 1.
 pub fn read(shapes: &Shapes, rows: &[Row]) -> Result<(), Refusal> {
-    let mut reading = Reading { shapes, scopes: Vec::new(), paths: 0 };
+    read_within(shapes, rows, FIRST.scopes)
+}
+
+/// The same with so many scopes open.
+pub fn read_within(shapes: &Shapes, rows: &[Row], most: usize) -> Result<(), Refusal> {
+    let mut reading = Reading { shapes, most, scopes: Vec::new(), paths: 0 };
     for (place, row) in rows.iter().enumerate() {
         reading.row(place, *row).map_err(|bad| match bad {
             Bad::Row => (4, place as u32),
@@ -105,7 +120,7 @@ impl Reading<'_> {
     }
 
     fn open(&mut self, kind: u8) -> Result<(), Bad> {
-        if self.scopes.len() == MOST_SCOPES {
+        if self.scopes.len() == self.most {
             return Err(Bad::Depth);
         }
         self.scopes.push(Scope { kind, field: None });

@@ -14,10 +14,79 @@ pub const EXPORT: u8 = 9;
 
 /// The first name that an inserted field can have; names of an input are below it.
 pub const FIRST_INSERTED: u32 = 1 << 31;
-pub const MOST_ROWS: usize = 1023;
-pub const MOST_SCOPES: usize = 32;
 pub const HEADER: usize = 8;
 pub const ROW: usize = 16;
+pub const MOST_ROWS: usize = FIRST.rows;
+
+/// A version of the row form: its number, the length of its header and of the row count in it, its limits.
+#[derive(Clone, Copy, Debug, PartialEq, Eq)]
+pub struct Version {
+    pub number: u8,
+    pub header: usize,
+    counting: usize,
+    pub rows: usize,
+    pub scopes: usize,
+}
+
+pub const FIRST: Version = Version { number: 1, header: HEADER, counting: 2, rows: 1023, scopes: 32 };
+pub const SECOND: Version = Version { number: 2, header: 16, counting: 4, rows: 16_383, scopes: 64 };
+
+impl Version {
+    /// The version whose number a form has; the first where it has neither.
+    pub fn of(form: &[u8]) -> Version {
+        if form.get(3..5) == Some(&[2, 0]) { SECOND } else { FIRST }
+    }
+
+    /// A header that states this row count, which is cut if it does not fit, and this rule set.
+    pub fn head(self, count: usize, rules: u8) -> Vec<u8> {
+        let mut bytes = b"WNT".to_vec();
+        bytes.extend([self.number, 0, rules]);
+        bytes.extend(&(count as u64).to_le_bytes()[..self.counting]);
+        bytes.resize(self.header, 0);
+        bytes
+    }
+
+    /// Whether a form begins with a header of this version and rule set, whatever its row count is.
+    pub fn begins(self, form: &[u8], rules: u8) -> bool {
+        let count = 6..6 + self.counting;
+        form.len() >= self.header && {
+            let wanted = self.head(0, rules);
+            (0..self.header).all(|at| count.contains(&at) || form[at] == wanted[at])
+        }
+    }
+
+    /// The row count that a header states, 0 where there is none.
+    pub fn count(self, form: &[u8]) -> usize {
+        let count = form.get(6..6 + self.counting).unwrap_or(&[]);
+        count.iter().rev().fold(0, |sum, byte| 256 * sum + usize::from(*byte))
+    }
+
+    /// The bytes of a form of this many rows.
+    pub fn form_size(self, rows: usize) -> usize {
+        self.header + ROW * rows
+    }
+
+    /// How long an output must be for a form of this many rows.
+    pub fn output_size(self, rows: usize) -> usize {
+        self.header + 4 * ROW * rows
+    }
+
+    /// The bytes of a form with these rows.
+    pub fn encode(self, rows: &[Row]) -> Vec<u8> {
+        let mut bytes = self.head(rows.len(), 0);
+        bytes.reserve(ROW * rows.len());
+        for row in rows {
+            row.encode_into(&mut bytes);
+        }
+        bytes
+    }
+
+    /// The rows behind a header, as many as are whole.
+    pub fn decode(self, form: &[u8]) -> Vec<Row> {
+        let rows = form.get(self.header..).unwrap_or(&[]);
+        rows.chunks_exact(ROW).map(Row::decode).collect()
+    }
+}
 
 #[derive(Clone, Copy, Debug, Default, PartialEq, Eq, Hash)]
 pub struct Row {
@@ -62,26 +131,19 @@ impl fmt::Display for Row {
     }
 }
 
-/// The bytes of a form with these rows; a count that does not fit is cut as the header cuts it.
+/// The bytes of a form of version 1 with these rows.
 pub fn encode(rows: &[Row]) -> Vec<u8> {
-    let mut bytes = Vec::with_capacity(HEADER + ROW * rows.len());
-    bytes.extend(*b"WNT\x01\x00\x00");
-    bytes.extend((rows.len() as u16).to_le_bytes());
-    for row in rows {
-        row.encode_into(&mut bytes);
-    }
-    bytes
+    FIRST.encode(rows)
 }
 
-/// The rows behind a header, as many as are whole.
+/// The rows of a form of version 1.
 pub fn decode(form: &[u8]) -> Vec<Row> {
-    let rows = form.get(HEADER..).unwrap_or(&[]);
-    rows.chunks_exact(ROW).map(Row::decode).collect()
+    FIRST.decode(form)
 }
 
-/// How long an output must be for a form of this many rows.
+/// How long an output must be for a form of version 1 with this many rows.
 pub fn output_size(rows: usize) -> usize {
-    HEADER + 4 * ROW * rows
+    FIRST.output_size(rows)
 }
 
 #[derive(Clone, Debug, PartialEq, Eq)]

@@ -16,7 +16,7 @@ pub enum Until {
 }
 
 /// Whether the crate answers what document 01 and docs/DIFFERENCES.md state.
-fn stated_cases_hold(comparison: &Comparison) -> bool {
+pub fn stated_cases_hold(comparison: &Comparison) -> bool {
     let wrong = cases::stated().into_iter().find(|case| comparison.oracle.answer(&case.rows, 0) != case.answer);
     if let Some(case) = &wrong {
         println!("{}: the crate does not answer what is stated", case.name);
@@ -57,7 +57,7 @@ pub fn run(comparison: &Comparison, seed: u64, until: Until) -> bool {
 }
 
 /// Whether a stage that makes well-formed forms made one; it may be too long or too deep, or its output too short.
-fn is_form(stage: Stage, answer: &Answer) -> bool {
+pub fn is_form(stage: Stage, answer: &Answer) -> bool {
     let broken = matches!(answer, Answer::Refused { number: 1 | 4, .. });
     !(broken && matches!(stage, Stage::Stated | Stage::Sweep | Stage::Random))
 }

@@ -210,14 +210,15 @@ fn open(space: u8, kind: u8) -> Shape {
     decl(space).then(Shape::One(Want::Open(kind)))
 }
 
-fn operands_of_builtin(code: u16) -> Shape {
+/// `heap` is the space of heap types.
+fn operands_of_builtin(code: u16, heap: u8) -> Shape {
     match code {
         0 => r(8).then(options()),
         1..=3 | 16 | 19..=24 | 27..=31 => r(9),
         4 => r(4),
         5 | 40 => r(4).then(r(2)),
         13 => p(9).maybe().then(options()),
-        14 | 15 => p(9).maybe(),
+        14 | 15 => p(heap).maybe(),
         17 | 18 | 25 | 26 => r(9).then(options()),
         32 | 33 => options(),
         35 | 36 => r(3),
@@ -225,7 +226,7 @@ fn operands_of_builtin(code: u16) -> Shape {
     }
 }
 
-fn shape(field: u8, e: u16) -> Shape {
+fn shape(field: u8, e: u16, heap: u8) -> Shape {
     let export = || Shape::One(Want::Export);
     match field {
         1 => decl(7),
@@ -246,10 +247,10 @@ fn shape(field: u8, e: u16) -> Shape {
         13 => decl(9).then(p(9).many()),
         14 => open(9, COMPONENT_TYPE),
         15 => open(9, INSTANCE_TYPE),
-        16 => decl(9).then(p(9).maybe()).then(r(0).maybe()),
+        16 => decl(9).then(p(heap).maybe()).then(r(0).maybe()),
         17 => open(4, MODULE_TYPE),
         18 => decl(8).then(r(9)).then(r(0)).then(options()),
-        BUILTIN_FIELD => decl(0).then(operands_of_builtin(e)),
+        BUILTIN_FIELD => decl(0).then(operands_of_builtin(e, heap)),
         20 => decl(12).many().then(p(8)).then(r(12).many()),
         21 | 23 => by_space(SIX, signature),
         EXPORT_FIELD if e == 0 => by_space(SIX, r),
@@ -265,8 +266,18 @@ pub struct Shapes {
 }
 
 impl Shapes {
+    /// Those of rule set 0.
     pub fn new() -> Shapes {
-        let by_e = |field| (0..values_of_e(field)).map(|e| shape(field, e)).collect();
+        Shapes::with_heap(9)
+    }
+
+    /// Those of rule set 1, whose heap types are core types.
+    pub fn newer() -> Shapes {
+        Shapes::with_heap(4)
+    }
+
+    fn with_heap(heap: u8) -> Shapes {
+        let by_e = |field| (0..values_of_e(field)).map(|e| shape(field, e, heap)).collect();
         Shapes { fields: (0..=FIELDS).map(by_e).collect() }
     }
 

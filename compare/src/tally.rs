@@ -1,7 +1,7 @@
 //! Counts of what a run has seen.
 
 use crate::compare::Case;
-use crate::rows::{Answer, CLOSE, DECL, FIELD, FIRST_INSERTED, OPEN, Row, decode};
+use crate::rows::{Answer, CLOSE, DECL, FIELD, FIRST_INSERTED, OPEN, Row, Version};
 use crate::shapes::{BUILTIN_FIELD, BUILTINS, EXPORT_FIELD, FIELDS, SIX, allowed};
 use crate::source::Stage;
 use std::collections::BTreeSet;
@@ -33,7 +33,7 @@ impl Tally {
         };
         self.answers[number] += 1;
         if number == 0 {
-            let rows = decode(&case.form);
+            let rows = Version::of(&case.form).decode(&case.form);
             self.rows += rows.len() as u64;
             self.cover(&rows);
         }

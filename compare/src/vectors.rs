@@ -1,15 +1,16 @@
 //! Fixed vectors: forms with the expected answers, chosen so that few of them show much, in a flat file.
 //!
-//! A vector begins with six words, little endian: how long the form is, how long the output that is lent, how much
+//! A vector begins with eight words, little endian: how long the form is, how long the output that is lent, how much
 //! of the output is written and how much of it is written or cleared, the refusal's number, and its place; or 0 and
-//! the number of rows. The form follows, then the bytes that are written. Before the call every byte of the output
-//! is 165.
+//! the number of rows; then what the refusal tells, the space and the place of the first declaration. The form
+//! follows, then the bytes that are written. Before the call every byte of the output is 165.
 
 use crate::compare::{Case, Comparison};
 use crate::rows::{Answer, CLOSE, FIELD, HEADER, OPEN, REF, ROW, Row, decode, encode, output_size};
 use crate::shapes::EXPORT_FIELD;
 use crate::source::{self, Stage};
 use crate::tally::Tally;
+use crate::told;
 use std::collections::BTreeSet;
 
 /// The most rows of a form of each stage, so that the file stays small.
@@ -44,7 +45,8 @@ pub fn file(comparison: &Comparison, kept: &[u8], most: usize, seed: u64) -> (Ve
         let features = features(&decode(&case.form), &answer);
         let new = features.iter().any(|feature| !shown.contains(feature));
         let room = matches!(answer, Answer::Accepted(_)) || like[number(&answer)] < most;
-        if (stage == Stage::Stated || (new && room)) && !forms.contains(&case.form) {
+        let fits = told::told(&case.form, &answer).is_some() && !forms.contains(&case.form);
+        if (stage == Stage::Stated || (new && room)) && fits {
             like[number(&answer)] += 1;
             shown.extend(features);
             append(&mut bytes, &case, &answer);
@@ -65,7 +67,7 @@ fn cases(mut bytes: &[u8]) -> Vec<Case> {
     while !bytes.is_empty() {
         let word = |at: usize| u32::from_le_bytes(bytes[4 * at..4 * at + 4].try_into().expect("four bytes")) as usize;
         let (form, out_len, written) = (word(0), word(1), word(2));
-        let words = 24;
+        let words = 32;
         cases.push(Case { form: bytes[words..words + form].to_vec(), out_len, fill: 0, choice: 0 });
         bytes = &bytes[words + form + written..];
     }
@@ -82,8 +84,9 @@ fn append(bytes: &mut Vec<u8>, case: &Case, answer: &Answer) {
         _ => output_size(decode(&case.form).len()),
     };
     let packed = answer.packed();
+    let told = told::told(&case.form, answer).expect("a vector's refusal tells one thing");
     let lengths = [case.form.len(), case.out_len, written.len(), cleared].map(|length| length as u32);
-    for word in lengths.into_iter().chain([(packed >> 32) as u32, packed as u32]) {
+    for word in lengths.into_iter().chain([(packed >> 32) as u32, packed as u32]).chain(told) {
         bytes.extend(word.to_le_bytes());
     }
     bytes.extend(&case.form);

@@ -177,3 +177,29 @@ pub fn run(comparison: &Comparison, seed: u64, pairs: u64) -> bool {
     println!("{pairs} pairs checked, seed {seed}: 0 differences");
     true
 }
+
+/// Fixed vectors for `crates/claim_vectors`, at most so many of each kind of claim and verdict: forms of at most 24 rows,
+/// claims of at most 60.
+pub fn vectors(comparison: &Comparison, seed: u64, each: usize) -> Vec<u8> {
+    let mut counts: BTreeMap<(Kind, String), usize> = BTreeMap::new();
+    let mut bytes = Vec::new();
+    for number in 0..100_000 {
+        let mut chance = Chance::new(seed.rotate_left(32) ^ number);
+        let pair = pair(comparison, &mut chance);
+        if pair.input.form.len() > HEADER + 24 * ROW || pair.claim.len() > HEADER + 60 * ROW {
+            continue;
+        }
+        let verdict = expected(comparison, &pair, SLOTS, LINKS);
+        let count = counts.entry((pair.kind, counted(verdict))).or_default();
+        if *count < each {
+            *count += 1;
+            let packed = verdict.packed();
+            for word in [pair.input.form.len() as u32, pair.claim.len() as u32, (packed >> 32) as u32, packed as u32] {
+                bytes.extend(word.to_le_bytes());
+            }
+            bytes.extend(&pair.input.form);
+            bytes.extend(&pair.claim);
+        }
+    }
+    bytes
+}

@@ -8,7 +8,7 @@ use crate::rows::{CLOSE, DECL, EXPORT, FIELD, FIRST_INSERTED, HEADER, OPEN, OUTE
 pub fn spoilt(claim: &[Row], input: &[Row], chance: &mut Chance) -> Vec<u8> {
     let mut rows = claim.to_vec();
     for _ in 0..1 + chance.below(6) / 5 {
-        match chance.below(12) {
+        match chance.below(13) {
             0 | 1 => number(&mut rows, chance),
             2 => alias(&mut rows, chance),
             3 => name_left(&mut rows, input, chance),
@@ -18,7 +18,8 @@ pub fn spoilt(claim: &[Row], input: &[Row], chance: &mut Chance) -> Vec<u8> {
             7 => place(&mut rows, chance),
             8 => swapped(&mut rows, chance),
             9 => one_alias_for_another(&mut rows, chance),
-            10 => return header(&rows, chance),
+            10 => no_alias(&mut rows, chance),
+            11 => return header(&rows, chance),
             _ => return damage(&rows, chance),
         }
     }
@@ -152,6 +153,18 @@ fn one_alias_for_another(rows: &mut [Row], chance: &mut Chance) {
             (rows[a + 2].x, rows[a + 2].y) = (rows[b + 2].x, rows[b + 2].y);
         }
     }
+}
+
+/// An added field that is no alias: a core type, a type or a component.
+fn no_alias(rows: &mut Vec<Row>, chance: &mut Chance) {
+    let Some(at) = one(rows, chance, |row| row.code == FIELD || row.code == CLOSE) else { return };
+    let name = FIRST_INSERTED + 50 + chance.below(9) as u32;
+    let (code, space) = chance.pick(&[(4, 4), (12, 9), (12, 9), (6, 11)]);
+    let mut field = vec![Row::new(FIELD, code, 0, 0, 0, 1), Row::new(DECL, space, 0, name, 0, 1)];
+    if code == 6 {
+        field.extend([Row::new(OPEN, 0, 0, name, 0, 0), Row::new(CLOSE, 0, 0, 0, 0, 0)]);
+    }
+    rows.splice(at..at, field);
 }
 
 fn header(rows: &[Row], chance: &mut Chance) -> Vec<u8> {

@@ -11,23 +11,6 @@
 static uint8_t form[WNT_MAX_FORM_SIZE + 1];
 static uint8_t out[WNT_MAX_OUT_SIZE];
 
-/* What each refusal means, by its number. */
-static const char *const words[] = {
-    "accepted",
-    "this is no form: it does not begin with WNT and version 1",
-    "the row count is 0 or above 1023, or the length is not 8 + 16 x rows",
-    "the output buffer is shorter than 8 + 64 x rows",
-    "no form begins with the rows up to it, or the form ends early if it has no such row",
-    "a scope is opened while 32 are open",
-    "this scope already has a declaration of that name in that space",
-    "a core type or a core instance cannot be an export of a core instance",
-    "the name means something of a scope further out that cannot be had from there",
-    "no scope in which it is looked up declares that name",
-    "no open scope has the name of the outer scope",
-    "the outer count is not below the number of open scopes",
-    "an earlier case of this field has that name",
-};
-
 /* Reads a file into the form's buffer, as much as fits; 0 if that fails. */
 static int read_form(const char *name, size_t *length)
 {
@@ -82,7 +65,7 @@ static void print_refusal(uint32_t number, uint32_t place)
     if (number >= WNT_BROKEN) {
         printf(" at %s %" PRIu32, number <= WNT_DEEP ? "row" : "place", place);
     }
-    printf(": %s\n", words[number]);
+    printf(": %s\n", wnt_text(number));
 }
 
 /* A sentence on a file, for the exit status 1. */

@@ -4,6 +4,8 @@
 //! `wnt_resolve` of the proved static library, whose answer and output are fixed for every input. This crate only lends
 //! it the buffers and puts its answer into a `Result`. Larger forms are of version 2, with a header of 16 bytes:
 //! [`resolve_with`] takes both versions, in a [`WorkingArea`], and [`convert`] goes from one to the other.
+//! `wnt_resolve_told` of the proved static library, whose answer and output are fixed for every input. This crate only lends
+//! it the buffers and puts its answer into a `Result`.
 //!
 //! ```
 //! // The empty component: its OPEN and its CLOSE. It has no names and is resolved to itself.
@@ -20,22 +22,28 @@
 #![warn(missing_docs)]
 
 mod bindings;
+mod back;
 mod builds;
 mod claims;
 mod members;
 mod mending;
 mod numbers;
 mod refusal;
+mod rows;
 mod versions;
+mod space;
 
 pub use bindings::{sheet, sheet_bytes, sheet_into, Binding, Slot, ANSWER_SIZE, MAX_SLOTS, SHEET_AREA_SIZE, SLOT_SIZE};
+pub use back::{unresolve, unresolve_into};
 pub use builds::{compare, Choice, Entry, Kind};
 pub use claims::{check, check_with, Condition, Verdict, CHECK_LINKS, CHECK_SLOTS};
 pub use members::{meant, Meant, Of};
 pub use mending::{mend, Change};
 pub use numbers::{moved, Apart, Moved, Numbers};
 pub use refusal::Refusal;
+pub use rows::{component, rows, Builder, Field, Name, Operand, Row, Scope, Space};
 pub use versions::{convert, resolve_into_with, resolve_with, Version, WorkingArea};
+pub use space::Space;
 
 /// The bytes of a form's header.
 pub const HEADER_SIZE: usize = 8;
@@ -53,7 +61,14 @@ pub const MAX_FORM_SIZE: usize = form_size(MAX_ROWS);
 pub const MAX_OUT_SIZE: usize = out_size(MAX_ROWS);
 
 extern "C" {
-    fn wnt_resolve(form: *const u8, form_len: usize, out: *mut u8, out_len: usize) -> u64;
+    fn wnt_resolve_told(
+        form: *const u8,
+        form_len: usize,
+        out: *mut u8,
+        out_len: usize,
+        told: *mut u32,
+        told_len: usize,
+    ) -> u64;
 }
 
 /// The bytes of a form with so many rows.
@@ -83,13 +98,16 @@ pub fn resolve(form: &[u8]) -> Result<Vec<u8>, Refusal> {
 /// [`form_size`] of the rows written are the resolved form and the rest of the needed bytes zero; after refusals 1 to 5
 /// all is as it was; after 6 to 12 the needed bytes are zero.
 pub fn resolve_into(form: &[u8], out: &mut [u8]) -> Result<usize, Refusal> {
-    // SAFETY: both buffers are valid for their lengths while the call lasts, and do not overlap, since `out` is
-    // borrowed alone. The library writes to `out` only and keeps no pointer.
-    let answer = unsafe { wnt_resolve(form.as_ptr(), form.len(), out.as_mut_ptr(), out.len()) };
+    let mut told = [0; 2];
+    // SAFETY: the three buffers are valid for their lengths while the call lasts, and do not overlap, since `out` is
+    // borrowed alone. The library writes to `out` and `told` only and keeps no pointer.
+    let answer = unsafe {
+        wnt_resolve_told(form.as_ptr(), form.len(), out.as_mut_ptr(), out.len(), told.as_mut_ptr(), told.len())
+    };
     let (number, rest) = ((answer >> 32) as u32, answer as u32);
     match number {
         0 => Ok(rest as usize),
-        _ => Err(Refusal::of(number, rest)),
+        _ => Err(Refusal::told(number, rest, told)),
     }
 }
 

@@ -1,12 +1,14 @@
 //! The refusals: their numbers, their places and their meaning in words.
 
+use crate::Space;
 use std::error::Error;
 use std::fmt;
 
 /// Why a form was refused, and where.
 ///
-/// A `row` is counted from 0. A `place` is the last part of a row, which the form's author chose. The limits named here are
-/// those of version 1; a form of version 2 has a header of 16 bytes, 16,383 rows and 64 scopes.
+/// A `row` is counted from 0. A `place` is the last part of a row, which the form's author chose. What is told besides is
+/// `None` where the function that refuses does not tell it: [`crate::resolve`] and [`crate::resolve_into`] always do. The
+/// limits named here are those of version 1; a form of version 2 has a header of 16 bytes, 16,383 rows and 64 scopes.
 #[derive(Clone, Copy, Debug, PartialEq, Eq, Hash)]
 pub enum Refusal {
     /// 1: fewer than 8 bytes, or bytes 0 to 5 are not those of the header.
@@ -29,6 +31,10 @@ pub enum Refusal {
     DuplicateName {
         /// The second declaration's.
         place: u32,
+        /// The space in which it is declared twice.
+        space: Option<Space>,
+        /// The place of the first declaration.
+        first: Option<u32>,
     },
     /// 7: a path to a core type or a core instance.
     NotExported {
@@ -39,11 +45,15 @@ pub enum Refusal {
     NotOuter {
         /// The reference's.
         place: u32,
+        /// The space asked for.
+        space: Option<Space>,
     },
     /// 9: no scope in which it is looked up declares the name.
     UnknownName {
         /// The reference's or the outer alias's.
         place: u32,
+        /// The space asked for; of a path, that of its instance.
+        space: Option<Space>,
     },
     /// 10: no open scope has the name of the outer scope.
     UnknownScope {
@@ -60,6 +70,8 @@ pub enum Refusal {
         /// The second case's.
         place: u32,
     },
+    /// 14, on the way back alone: no input has these bytes as its output.
+    NoInput,
     /// 15: these bytes are no binding sheet, or the form is refused, or the other form is not its resolved form.
     NotItsSheet,
 }
@@ -75,19 +87,31 @@ impl Refusal {
             3 => Refusal::Room,
             4 => Refusal::Broken { row: place },
             5 => Refusal::Deep { row: place },
-            6 => Refusal::DuplicateName { place },
+            6 => Refusal::DuplicateName { place, space: None, first: None },
             7 => Refusal::NotExported { place },
-            8 => Refusal::NotOuter { place },
-            9 => Refusal::UnknownName { place },
+            8 => Refusal::NotOuter { place, space: None },
+            9 => Refusal::UnknownName { place, space: None },
             10 => Refusal::UnknownScope { place },
             11 => Refusal::CountTooLarge { place },
             12 => Refusal::DuplicateCase { place },
+            14 => Refusal::NoInput,
             15 => Refusal::NotItsSheet,
             _ => unreachable!("the static library is of another version: it answered refusal {number}"),
         }
     }
 
-    /// Its number, 1 to 12, or 15 of a binding sheet.
+    /// The same with what the library tells besides: the space, and the place of the first declaration.
+    pub(crate) fn told(number: u32, place: u32, told: [u32; 2]) -> Refusal {
+        let space = Space::of(told[0]);
+        match number {
+            6 => Refusal::DuplicateName { place, space, first: Some(told[1]) },
+            8 => Refusal::NotOuter { place, space },
+            9 => Refusal::UnknownName { place, space },
+            _ => Refusal::of(number, place),
+        }
+    }
+
+    /// Its number: 1 to 12, 14 on the way back, 15 of a binding sheet.
     pub fn number(self) -> u32 {
         match self {
             Refusal::Header => 1,
@@ -102,26 +126,45 @@ impl Refusal {
             Refusal::UnknownScope { .. } => 10,
             Refusal::CountTooLarge { .. } => 11,
             Refusal::DuplicateCase { .. } => 12,
+            Refusal::NoInput => 14,
             Refusal::NotItsSheet => 15,
         }
     }
 
-    /// Its place: 0 for refusals 1 to 3 and 15, a row for 4 and 5, the place of a row for 6 to 12.
+    /// Its place: 0 for refusals 1 to 3, 14 and 15, a row for 4 and 5, the place of a row for 6 to 12.
     pub fn place(self) -> u32 {
         match self {
-            Refusal::Header | Refusal::RowCount | Refusal::Room | Refusal::NotItsSheet => 0,
+            Refusal::Header | Refusal::RowCount | Refusal::Room | Refusal::NoInput | Refusal::NotItsSheet => 0,
             Refusal::Broken { row } | Refusal::Deep { row } => row,
-            Refusal::DuplicateName { place }
+            Refusal::DuplicateName { place, .. }
             | Refusal::NotExported { place }
-            | Refusal::NotOuter { place }
-            | Refusal::UnknownName { place }
+            | Refusal::NotOuter { place, .. }
+            | Refusal::UnknownName { place, .. }
             | Refusal::UnknownScope { place }
             | Refusal::CountTooLarge { place }
             | Refusal::DuplicateCase { place } => place,
         }
     }
 
-    /// What it means.
+    /// The space of the name, of refusals 6, 8 and 9.
+    pub fn space(self) -> Option<Space> {
+        match self {
+            Refusal::DuplicateName { space, .. }
+            | Refusal::NotOuter { space, .. }
+            | Refusal::UnknownName { space, .. } => space,
+            _ => None,
+        }
+    }
+
+    /// The place of the first declaration of the name, of refusal 6.
+    pub fn first(self) -> Option<u32> {
+        match self {
+            Refusal::DuplicateName { first, .. } => first,
+            _ => None,
+        }
+    }
+
+    /// What it means, but for what is told besides.
     fn meaning(self) -> &'static str {
         match self {
             Refusal::Header => "this is no form: it does not begin with WNT and version 1",
@@ -131,14 +174,30 @@ impl Refusal {
                 "no form begins with the rows up to it, or the form ends early if it has no such row"
             }
             Refusal::Deep { .. } => "a scope is opened while 32 are open",
-            Refusal::DuplicateName { .. } => "this scope already has a declaration of that name in that space",
+            Refusal::DuplicateName { .. } => "this scope declares that name twice",
             Refusal::NotExported { .. } => "a core type or a core instance cannot be an export of a core instance",
-            Refusal::NotOuter { .. } => "the name means something of a scope further out that cannot be had from there",
-            Refusal::UnknownName { .. } => "no scope in which it is looked up declares that name",
+            Refusal::NotOuter { .. } => "that name is declared further out",
+            Refusal::UnknownName { .. } => "no scope declares that name",
             Refusal::UnknownScope { .. } => "no open scope has the name of the outer scope",
             Refusal::CountTooLarge { .. } => "the outer count is not below the number of open scopes",
             Refusal::DuplicateCase { .. } => "an earlier case of this field has that name",
+            Refusal::NoInput => "no input has these bytes as its output",
             Refusal::NotItsSheet => "no sheet, or not an accepted form and its resolved form",
+        }
+    }
+
+    /// What is told besides.
+    fn write_told(self, f: &mut fmt::Formatter<'_>) -> fmt::Result {
+        if let Some(space) = self.space() {
+            write!(f, " among the {space}")?;
+        }
+        if let Some(first) = self.first() {
+            write!(f, ", first declared at place {first}")?;
+        }
+        match self {
+            Refusal::NotOuter { .. } => f.write_str(", from where it cannot be had"),
+            Refusal::UnknownName { .. } => f.write_str(", where it is looked up"),
+            _ => Ok(()),
         }
     }
 }
@@ -147,10 +206,11 @@ impl fmt::Display for Refusal {
     fn fmt(&self, f: &mut fmt::Formatter<'_>) -> fmt::Result {
         let (number, place, meaning) = (self.number(), self.place(), self.meaning());
         match number {
-            1..=3 | 15 => write!(f, "refused {number}: {meaning}"),
+            1..=3 | 14 | 15 => write!(f, "refused {number}: {meaning}"),
             4..=5 => write!(f, "refused {number} at row {place}: {meaning}"),
             _ => write!(f, "refused {number} at place {place}: {meaning}"),
-        }
+        }?;
+        self.write_told(f)
     }
 }
 

@@ -5,9 +5,6 @@ use crate::{Refusal, HEADER_SIZE, MAX_ROWS, ROW_SIZE};
 /// A slot of a table.
 type Slot = [u32; 6];
 
-/// The numbers of an index that stand before its links.
-const HEADS: usize = 1024;
-
 extern "C" {
     fn wnt_resolve_with(
         form: *const u8,
@@ -99,14 +96,14 @@ pub struct WorkingArea {
 }
 
 impl WorkingArea {
-    /// An area for forms of that version: 61,440 bytes for the first, 921,600 for the second, which serves both.
+    /// An area for forms of that version: 61,440 bytes for the first, 983,040 for the second, which serves both.
     pub fn new(version: Version) -> WorkingArea {
         let slots = version.max_rows() + 1;
         WorkingArea {
             entered: vec![[0; 6]; slots],
             names: vec![[0; 6]; slots],
-            known: vec![0; HEADS + slots],
-            chains: vec![0; HEADS + slots],
+            known: vec![0; 2 * slots],
+            chains: vec![0; 2 * slots],
             ends: vec![0; slots],
         }
     }

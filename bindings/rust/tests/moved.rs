@@ -54,7 +54,8 @@ fn a_number_without_an_item_is_apart() {
 
 #[test]
 fn without_insertions_nothing_moves() {
-    let form = form(&[[7, 0, 0, 0, 0, 0], [1, 12, 0, 0, 0, 0], [2, 9, 0, 1, 0, 0], [3, 9, 0, 0, 0, 9], [8, 0, 0, 0, 0, 0]]);
+    let form =
+        form(&[[7, 0, 0, 0, 0, 0], [1, 12, 0, 0, 0, 0], [2, 9, 0, 1, 0, 0], [3, 9, 0, 0, 0, 9], [8, 0, 0, 0, 0, 0]]);
     let numbers = moved(&form).expect("the form is accepted");
     assert_eq!((numbers.resolved, numbers.moved, numbers.apart), (form, vec![], vec![]));
 }

@@ -2,7 +2,7 @@
 
 use std::fs;
 use std::thread;
-use wnt::{form_size, out_size, resolve, resolve_into, Refusal};
+use wnt::{form_size, out_size, resolve, resolve_into, Refusal, Space};
 
 /// What the buffers are filled with, to see which bytes were changed.
 const FILLED: u8 = 0xa5;
@@ -56,11 +56,11 @@ const REFUSED: [(&str, Refusal); 13] = [
     ("4", Refusal::Broken { row: 2 }),
     ("4-early", Refusal::Broken { row: 3 }),
     ("5", Refusal::Deep { row: 96 }),
-    ("6", Refusal::DuplicateName { place: 20 }),
+    ("6", Refusal::DuplicateName { place: 20, space: Some(Space::Type), first: Some(10) }),
     ("7", Refusal::NotExported { place: 21 }),
-    ("8", Refusal::NotOuter { place: 31 }),
-    ("9", Refusal::UnknownName { place: 70 }),
-    ("9-here", Refusal::UnknownName { place: 41 }),
+    ("8", Refusal::NotOuter { place: 31, space: Some(Space::Func) }),
+    ("9", Refusal::UnknownName { place: 70, space: Some(Space::Type) }),
+    ("9-here", Refusal::UnknownName { place: 41, space: Some(Space::Instance) }),
     ("10", Refusal::UnknownScope { place: 20 }),
     ("11", Refusal::CountTooLarge { place: 20 }),
     ("12", Refusal::DuplicateCase { place: 12 }),
@@ -192,7 +192,7 @@ fn numbers_and_places_are_those_of_the_rules() {
     }
     assert_eq!((Refusal::Room.number(), Refusal::Room.place()), (3, 0));
     assert_eq!(Refusal::Deep { row: 96 }.place(), 96);
-    assert_eq!(Refusal::UnknownName { place: 70 }.place(), 70);
+    assert_eq!(Refusal::UnknownName { place: 70, space: None }.place(), 70);
 }
 
 #[test]
@@ -201,8 +201,16 @@ fn refusals_are_put_into_words() {
     assert_eq!(words(Refusal::Room), "refused 3: the output buffer is shorter than 8 + 64 x rows");
     assert_eq!(words(Refusal::Deep { row: 96 }), "refused 5 at row 96: a scope is opened while 32 are open");
     assert_eq!(
-        words(Refusal::UnknownName { place: 70 }),
-        "refused 9 at place 70: no scope in which it is looked up declares that name"
+        words(Refusal::UnknownName { place: 70, space: Some(Space::Type) }),
+        "refused 9 at place 70: no scope declares that name among the types, where it is looked up"
+    );
+    assert_eq!(
+        words(Refusal::DuplicateName { place: 20, space: Some(Space::CoreMemory), first: Some(12) }),
+        "refused 6 at place 20: this scope declares that name twice among the core memories, first declared at place 12"
+    );
+    assert_eq!(
+        words(Refusal::NotOuter { place: 31, space: Some(Space::Func) }),
+        "refused 8 at place 31: that name is declared further out among the funcs, from where it cannot be had"
     );
 }
 

@@ -9,8 +9,8 @@ const COLUMNS: usize = 4;
 const OURS: &str = "#1b6ca8";
 const THEIRS: &str = "#c8553d";
 
-/// The whole picture.
-pub fn draw(series: &[Series]) -> String {
+/// The whole picture; `ours` is what our function is called.
+pub fn draw(series: &[Series], ours: &str) -> String {
     let lines = series.len().div_ceil(COLUMNS);
     let (width, height) = (PANEL.0 * COLUMNS as f64, PANEL.1 * lines as f64 + 30.0);
     let mut text = format!(
@@ -18,7 +18,7 @@ pub fn draw(series: &[Series]) -> String {
          font-family=\"sans-serif\" font-size=\"10\">\n\
          <rect width=\"100%\" height=\"100%\" fill=\"white\"/>\n"
     );
-    legend(&mut text);
+    legend(&mut text, ours);
     for (at, one) in series.iter().enumerate() {
         let left = PANEL.0 * (at % COLUMNS) as f64;
         let top = 30.0 + PANEL.1 * (at / COLUMNS) as f64;
@@ -30,8 +30,8 @@ pub fn draw(series: &[Series]) -> String {
     text
 }
 
-fn legend(text: &mut String) {
-    for (left, colour, label) in [(20, OURS, "wnt_resolve"), (140, THEIRS, "the crate's resolve alone")] {
+fn legend(text: &mut String, ours: &str) {
+    for (left, colour, label) in [(20, OURS, ours), (140, THEIRS, "the crate's resolve alone")] {
         writeln!(text, "<rect x=\"{left}\" y=\"10\" width=\"12\" height=\"4\" fill=\"{colour}\"/>").unwrap();
         writeln!(text, "<text x=\"{}\" y=\"16\">{label}</text>", left + 18).unwrap();
     }

@@ -16,14 +16,13 @@ use files::read::Loaded;
 use files::read::load;
 use files::standard::error_noted;
 use files::write::save;
-use known::file::refuse_form;
-use known::file::say_refused;
+use known::file::refuse_told;
+use known::file::say_told;
 use libc::STDOUT_FILENO;
 use moved::run::Answer as Listing;
 use moved::run::moved as list_moved;
 use resolver::run::Answer;
 use resolver::run::resolve;
-use row_parts::rows_said;
 use view::accepted::say_accepted;
 use words::say;
 use words::say_number;
@@ -51,17 +50,22 @@ fn save_form(form: &[u8], path: &[u8], moved: u32) -> u8 {
     }
 }
 
-// The two lists have room for every form that is not refused.
-fn resolve_form(form: &[u8], path: &[u8]) -> u8 {
+// How many written numbers of an accepted form mean another declaration in its output. The two lists have room for every form.
+fn moved_in(form: &[u8]) -> u32 {
     let mut buffer = io::large_buffer();
     let mut moved = [0u8; 16384];
     let mut apart = [0u8; 12288];
     match list_moved(form, &mut buffer, &mut moved, &mut apart) {
-        Listing::Listed(listed) => {
-            let rows = rows_said(&buffer);
-            save_form(part(&buffer, bytes_of(rows)), path, listed.moved)
-        }
-        Listing::Refused(refusal) => refuse_form(form, path, refusal),
+        Listing::Listed(listed) => listed.moved,
+        Listing::Refused(_) => 0,
+    }
+}
+
+fn resolve_form(form: &[u8], path: &[u8]) -> u8 {
+    let mut buffer = io::large_buffer();
+    match resolve(form, &mut buffer) {
+        Answer::Accepted(rows) => save_form(part(&buffer, bytes_of(rows)), path, moved_in(form)),
+        Answer::Refused(refusal, told) => refuse_told(form, path, refusal, told),
     }
 }
 
@@ -108,8 +112,8 @@ fn check_form(form: &[u8]) -> u8 {
             say_accepted(STDOUT_FILENO, part(&buffer, bytes_of(rows)));
             DONE
         }
-        Answer::Refused(refusal) => {
-            say_refused(STDOUT_FILENO, form, refusal);
+        Answer::Refused(refusal, told) => {
+            say_told(STDOUT_FILENO, form, refusal, told);
             NO
         }
     }

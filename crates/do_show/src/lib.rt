@@ -76,7 +76,7 @@ fn say_of_form(form: &[u8], asked: Asked) -> u8 {
     let mut buffer = io::large_buffer();
     match resolve(form, &mut buffer) {
         Answer::Accepted(_) => say_asked(form, asked),
-        Answer::Refused(refusal) => say_of_refused(form, asked, refusal),
+        Answer::Refused(refusal, _) => say_of_refused(form, asked, refusal),
     }
 }
 

@@ -37,7 +37,7 @@ fn refuse_rows(form: &[u8]) -> u8 {
     let mut buffer = io::large_buffer();
     match resolve(form, &mut buffer) {
         Answer::Accepted(_) => DONE,
-        Answer::Refused(refusal) => {
+        Answer::Refused(refusal, _) => {
             say_refused(STDOUT_FILENO, form, refusal);
             NO
         }

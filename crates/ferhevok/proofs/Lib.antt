@@ -2,5 +2,6 @@ pub mod Conversions
 pub mod Declarations
 pub mod Lists
 pub mod Packs
-pub mod Verdicts
 pub mod Slots
+pub mod Tells
+pub mod Verdicts

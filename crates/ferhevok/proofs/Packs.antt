@@ -5,7 +5,8 @@ use Prim.Native.Nat.{ℕ, _+_, _*_}
 use borrow.Author.Needs.{needs}
 use Rattle.rules.specs.Answer.{Answer as Ruled}
 use Rattle.refusal.specs.declared.Refusal.{Refusal}
-use Rattle.resolver.specs.Meaning.{meaning, ruled}
+use Rattle.refusal.specs.declared.Told.{Told}
+use Rattle.resolver.specs.Meaning.{Said, meaning, ruled}
 use Rattle.resolver.specs.declared.run.Answer.{Answer}
 use Rattle.resolver.specs.declared.run.Answer.the-variants.{Accepted, Refused}
 use Rattle.mending.specs.Mend.{Mending}
@@ -20,16 +21,20 @@ use Rattle.moved.specs.declared.run.Answer.the-variants as moving
 use Rattle.ferhevok.specs.Packed.{packed, packedMending}
 
 module _ (a : Answer) where
-  pub packs-accepted : (n : ℕ) → a ≡ Accepted n → n ≡ packed (meaning a)
+  pub packs-accepted : (n : ℕ) → a ≡ Accepted n → n ≡ packed (meaning a .plain)
   packs-accepted n e = rw e (omega arith)
 
-  pub packs-refused : (r : Refusal) → a ≡ Refused r → r .number * 4294967296 + r .place ≡ packed (meaning a)
-  packs-refused r e = rw e
+  pub packs-refused : (r : Refusal) (t : Told) → a ≡ Refused r t → r .number * 4294967296 + r .place ≡ packed (meaning a .plain)
+  packs-refused r t e = rw e
 
 pub ruleset packs = (packs-accepted, packs-refused, needs)
 
-pub packs-ruled : (a : Answer) (x : Ruled) (r : ℕ) → meaning a ≡ ruled x → r ≡ packed (meaning a) → r ≡ packed (ruled x)
+pub packs-ruled : (a : Answer) (x : Ruled) (r : ℕ) → meaning a ≡ ruled x → r ≡ packed (meaning a .plain) → r ≡ packed (ruled x .plain)
 packs-ruled a x r e h = rw e at h
+
+-- of the way back
+pub packs-back : (a : Answer) (n : Said) (r : ℕ) → meaning a ≡ n → r ≡ packed (meaning a .plain) → r ≡ packed (n .plain)
+packs-back a n r e h = rw e at h
 
 -- ---- of a mending
 

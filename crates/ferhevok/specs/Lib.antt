@@ -2,3 +2,5 @@
 pub mod Packed
 -- `Meant` is the number for a declaration.
 pub mod Meant
+-- `Telling` is what a refusal tells besides.
+pub mod Telling

@@ -21,7 +21,7 @@ pub extern "C" fn wnt_resolve_with(
     chains: &mut [u16],
     ends: &mut [u32],
 ) -> u64
-    ensures { λ r. ⌜ (r ≡ packed (ruled (answerWith (now (form .entry)) (length (now (out .entry))) (lentOf (now (entered .entry)) (now (names .entry)) (now (known .entry)) (now (chains .entry)) (now (ends .entry)))))) × (now (out .exit) ≡ outputWith (now (form .entry)) (now (out .entry)) (lentOf (now (entered .entry)) (now (names .entry)) (now (known .entry)) (now (chains .entry)) (now (ends .entry)))) × Cleared (asked (now (form .entry)) .version) (now (entered .entry)) (now (entered .exit)) (now (names .entry)) (now (names .exit)) (now (known .entry)) (now (known .exit)) (now (chains .entry)) (now (chains .exit)) (now (ends .entry)) (now (ends .exit)) ⌝ }
+    ensures { λ r. ⌜ (r ≡ packed (ruled (answerWith (now (form .entry)) (length (now (out .entry))) (lentOf (now (entered .entry)) (now (names .entry)) (now (known .entry)) (now (chains .entry)) (now (ends .entry)))) .plain)) × (now (out .exit) ≡ outputWith (now (form .entry)) (now (out .entry)) (lentOf (now (entered .entry)) (now (names .entry)) (now (known .entry)) (now (chains .entry)) (now (ends .entry)))) × Cleared (asked (now (form .entry)) .version) (now (entered .entry)) (now (entered .exit)) (now (names .entry)) (now (names .exit)) (now (known .entry)) (now (known .exit)) (now (chains .entry)) (now (chains .exit)) (now (ends .entry)) (now (ends .exit)) ⌝ }
 {
     packed_in(resolve_with(form, out, entered, names, known, chains, ends))
 }

@@ -1,4 +1,5 @@
 // What other languages link: the library's C functions, each a thin one over a function of the crates below.
+pub mod back;
 pub mod bindings;
 pub mod builds;
 pub mod claims;
@@ -6,6 +7,7 @@ pub mod in_place;
 pub mod lent;
 pub mod members;
 pub mod numbers;
+pub mod told;
 pub mod versions;
 
 use resolver::run::Answer;
@@ -19,18 +21,19 @@ ghost use Rattle.ferhevok.specs.Packed.{packed};
 
 // The refusal's number times 2^32 plus its place; on acceptance the number of rows written.
 pub(crate) fn packed_in(answer: Answer) -> u64
-    ensures { λ r. ⌜ r ≡ packed (meaning answer) ⌝ }
+    ensures { λ r. ⌜ r ≡ packed (meaning answer .plain) ⌝ }
 {
     match answer {
         Answer::Accepted(rows) => rows as u64,
-        Answer::Refused(refusal) => (refusal.number as u64) * 4294967296 + (refusal.place as u64),
+        Answer::Refused(refusal, _) => (refusal.number as u64) * 4294967296
+            + (refusal.place as u64),
     }
 }
 
 // Resolves the form into `out`.
 #[no_mangle]
 pub extern "C" fn wnt_resolve(form: &[u8], out: &mut [u8]) -> u64
-    ensures { λ r. ⌜ (r ≡ packed (ruled (answer base (now (form .entry)) (length (now (out .entry)))))) × (now (out .exit) ≡ output base (now (form .entry)) (now (out .entry))) ⌝ }
+    ensures { λ r. ⌜ (r ≡ packed (ruled (answer base (now (form .entry)) (length (now (out .entry)))) .plain)) × (now (out .exit) ≡ output base (now (form .entry)) (now (out .entry))) ⌝ }
 {
     packed_in(resolve(form, out))
 }

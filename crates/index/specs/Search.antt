@@ -5,7 +5,7 @@ use Prim.Native.Nat.{ℕ, zero, suc, _≤_, _<_}
 use lib.Dec.{ltb}
 use Rattle.kit.specs.Pick.{pick}
 use Rattle.names.specs.Table.{Slot, between, findIn}
-use Rattle.index.specs.Chain.{chainOf, isMeantT, foundT}
+use Rattle.index.specs.Chain.{headsIn, chainOf, isMeantT, foundT}
 use Rattle.index.specs.Indexed.{lastOn, lastNamed, Indexed, endOf}
 
 -- the first of the first k slots, from `from` to `to`, that has the name, counted from 1; `found` where none has
@@ -22,10 +22,10 @@ lastBelow table to space name (suc k) = pick (isMeantT table to space name k) (s
 -- p is 0 or a slot, counted from 1, of the name's chain, in a table that the index serves
 pub record Chained (table : List Slot) (index : List ℕ) (space name p : ℕ) : Type 0 where
   pub used : ℕ
-  pub indexed : Indexed table index used
+  pub indexed : Indexed (headsIn table index) table index used
   pub below : p ≤ used
-  pub chain : chainOf space name < 1024
-  pub on : p ≡ lastOn table (chainOf space name) p
+  pub chain : chainOf (headsIn table index) space name < headsIn table index
+  pub on : p ≡ lastOn (headsIn table index) table (chainOf (headsIn table index) space name) p
 
 -- slots behind p were gone through, `found` is the first of them that has the name, and what is left to do gives the answer
 pub record Follows (table : List Slot) (index : List ℕ) (from to space name p found : ℕ) : Type 0 where

@@ -7,6 +7,7 @@ use files::standard::error_noted;
 use refusal::DEEP;
 use refusal::NOT_A_FORM;
 use refusal::Refusal;
+use refusal::Told;
 use view::accepted::is_resolved;
 use view::accepted::say_resolved;
 use view::refusal::say_refusal;
@@ -50,7 +51,7 @@ fn say_no_form(talk: i32, bytes: &[u8], refusal: Refusal) {
             b"this is no form: this looks like text: wnt takes rows\n",
         );
     } else {
-        say_refusal(talk, bytes, refusal.number, refusal.place);
+        say_refusal(talk, bytes, refusal.number, refusal.place, 0, 0);
     }
 }
 
@@ -59,19 +60,41 @@ fn say_resolved_before(talk: i32, form: &[u8], refusal: Refusal) {
     say_resolved(talk, form);
 }
 
-// A refusal in words, which begin with what the file is.
-pub fn say_refused(talk: i32, form: &[u8], refusal: Refusal) {
+// A refusal of the steps, and what it tells.
+fn say_steps(talk: i32, form: &[u8], refusal: Refusal, told: Told) {
+    say_refusal(
+        talk,
+        form,
+        refusal.number,
+        refusal.place,
+        told.space,
+        told.first,
+    );
+}
+
+// A refusal in words, which begin with what the file is; and what it tells.
+pub fn say_told(talk: i32, form: &[u8], refusal: Refusal, told: Told) {
     match what_is(refusal.number, is_resolved(form)) {
         Known::NoForm => say_no_form(talk, form, refusal),
         Known::Resolved => say_resolved_before(talk, form, refusal),
-        Known::Whole => say_refusal(talk, form, refusal.number, refusal.place),
-        Known::Broken => say_refusal(talk, form, refusal.number, refusal.place),
+        Known::Whole => say_steps(talk, form, refusal, told),
+        Known::Broken => say_steps(talk, form, refusal, told),
     }
 }
 
-// The same beside a form that was to go to a path, as the answer of a command.
-pub fn refuse_form(form: &[u8], path: &[u8], refusal: Refusal) -> u8 {
+// The same of a refusal that tells nothing besides.
+pub fn say_refused(talk: i32, form: &[u8], refusal: Refusal) {
+    say_told(talk, form, refusal, Told { space: 0, first: 0 });
+}
+
+// A refusal beside a form that was to go to a path, as the answer of a command.
+pub fn refuse_told(form: &[u8], path: &[u8], refusal: Refusal, told: Told) -> u8 {
     let before = error_noted();
-    say_refused(talk_beside(path), form, refusal);
+    say_told(talk_beside(path), form, refusal, told);
     said(NO, before)
+}
+
+// The same of a refusal that tells nothing besides.
+pub fn refuse_form(form: &[u8], path: &[u8], refusal: Refusal) -> u8 {
+    refuse_told(form, path, refusal, Told { space: 0, first: 0 })
 }

@@ -42,11 +42,22 @@ pub struct Place {
     pub walked: bool,
 }
 
+// An end as it was noted.
+fn noted(end: u32) -> usize
+    ensures { λ r. ⌜ r ≡ end ⌝ }
+{
+    end as usize
+}
+
 // The row past the field that begins at a row, as it was noted; 0 where none was.
-fn end_of(ends: &[usize], row: usize) -> usize
+fn end_of(ends: &[u32], row: usize) -> usize
     ensures { λ r. ⌜ r ≡ getD (now (ends .entry)) row 0 ⌝ }
 {
-    if row < ends.len() { ends[row] } else { 0 }
+    if row < ends.len() {
+        noted(ends[row])
+    } else {
+        0
+    }
 }
 
 // The row behind a row of `count`; past the last there is none.
@@ -57,7 +68,7 @@ fn behind(row: usize, count: usize) -> usize
 }
 
 // On from the row at hand, whose parts these are: the scope that a field holds is passed over.
-fn step(p: Parts, at: Place, ends: &[usize], count: usize) -> Place
+fn step(p: Parts, at: Place, ends: &[u32], count: usize) -> Place
     ensures { λ r. ⌜ r ≡ stepT (now (ends .entry)) count p at ⌝ }
 {
     if p.code == FIELD {
@@ -97,7 +108,7 @@ fn enter_row(p: Parts, table: &mut [Slot], index: &mut [u16], used: usize) -> us
 // Enters the DECLs of the scope whose first row this is. A scope has no more rows than the form.
 fn enter_scope(
     rows: &[u8],
-    ends: &[usize],
+    ends: &[u32],
     first: usize,
     table: &mut [Slot],
     index: &mut [u16],
@@ -263,7 +274,7 @@ fn mark_row(
 // Marks the references of the scope whose first row this is.
 fn mark_scope_rows(
     rows: &[u8],
-    ends: &[usize],
+    ends: &[u32],
     first: usize,
     marked: &mut [u8],
     table: &mut [Slot],
@@ -296,7 +307,7 @@ fn mark_scope_rows(
 // Marks the scope whose first row this is, and answers the name of the next insertion. The table is free again then.
 fn mark_scope(
     rows: &[u8],
-    ends: &[usize],
+    ends: &[u32],
     first: usize,
     marked: &mut [u8],
     table: &mut [Slot],
@@ -322,7 +333,7 @@ fn mark_scope(
 // Marks the scope that the row at i opens, if it opens one.
 fn mark_at(
     rows: &[u8],
-    ends: &[usize],
+    ends: &[u32],
     i: usize,
     marked: &mut [u8],
     table: &mut [Slot],
@@ -339,13 +350,7 @@ fn mark_at(
 }
 
 // Marks all scopes, in the order of their OPEN rows.
-fn mark_scopes(
-    rows: &[u8],
-    ends: &[usize],
-    marked: &mut [u8],
-    table: &mut [Slot],
-    index: &mut [u16],
-)
+fn mark_scopes(rows: &[u8], ends: &[u32], marked: &mut [u8], table: &mut [Slot], index: &mut [u16])
     requires { ⌜ Holds (now table) (now index) 0 ⌝ }
     ensures { λ _. ⌜ ((now (table .exit) & now (marked .exit)) ≡ scopesT (now (rows .entry)) (now (ends .entry)) 0 (length (now (rows .entry)) / 16) 2147483648 (now (table .entry)) (now (marked .entry))) × Holds (now (table .exit)) (now (index .exit)) 0 ⌝ }
 {
@@ -381,7 +386,7 @@ fn copy_rows(rows: &[u8], marked: &mut [u8])
 // in its scope will get. `ends` has the row past each field.
 pub fn mark_rows(
     rows: &[u8],
-    ends: &[usize],
+    ends: &[u32],
     marked: &mut [u8],
     table: &mut [Slot],
     index: &mut [u16],

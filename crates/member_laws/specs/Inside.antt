@@ -23,6 +23,7 @@ use Rattle.rules.specs.Laws.Meaning.ReadNames.{read-low}
 use Rattle.read_form.specs.ReadForm.{_andThen_}
 use Rattle.batching.specs.Batch.{insideAnswer, insideOutput}
 use Rattle.refusal.specs.declared.Refusal.{Refusal}
+use Rattle.refusal.specs.Refusals.{untold}
 use Rattle.form.specs.Marked.{endsTo}
 use Rattle.form.specs.Ends.{Ends, EndsIn}
 use Rattle.form.proofs.EndsStorey.{ends-to-right}
@@ -124,7 +125,7 @@ module _ (v : Version) (root : Env) (input : List ℕ) (room : ℕ) (why : Refus
   unfolding _andThen_ mapAnswer
   refuses = answer-inside (root ∷ []) (under v) input room ∙ rw (admits .0)
 
-  pub inside-early : meaning (Refused why) ≡ ruled (insideAnswer (under v) root input room)
+  pub inside-early : meaning (Refused why untold) ≡ ruled (insideAnswer (under v) root input room)
   inside-early = rw refuses
 
   pub inside-stays : (old : List ℕ) → length old ≡ room → old ≡ insideOutput (under v) root input old

@@ -9,6 +9,22 @@ use Rattle.write.specs.State.{Wrote}
 use Rattle.walk.specs.Walk.{scopeT, startIn}
 use Rattle.resolver.specs.Run.{seenOf}
 
+-- the same with one scope fewer: a form inside a root is held to that
+abbrev pub inner : Setting → Setting
+inner s =
+    record {
+      version =
+          record {
+            number = s .version .number;
+            header = s .version .header;
+            counting = s .version .counting;
+            names = s .version .names;
+            rows = s .version .rows;
+            scopes = s .version .scopes - 1;
+          };
+      rules = s .rules;
+    }
+
 -- the scopes that may be open, of which one is: it has this name and the first `used` slots
 abbrev pub oneOpen : (most name used : ℕ) → List (List ℕ)
 oneOpen most name used = set (replicate most noScope) 0 (scopeOf name 0 used)

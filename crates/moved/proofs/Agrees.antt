@@ -191,11 +191,11 @@ module _ (v : Setting) (input o m a : List ℕ) where
 
 -- ---- answers
 
-refused-same : (n z : ℕ) (c : List ℕ) → resolved.ruled (plainly (refused n z c)) ≡ numbers n z
+refused-same : (n z : ℕ) (c : List ℕ) → resolved.ruled (plainly (refused n z c)) .plain ≡ numbers n z
 unfolding plainly mapAnswer
 refused-same n z c = refl
 
-accepted-zero : (l : WithLists) → resolved.ruled (plainly (accepted l)) ≡ numbers 0 (length (l .rows))
+accepted-zero : (l : WithLists) → resolved.ruled (plainly (accepted l)) .plain ≡ numbers 0 (length (l .rows))
 unfolding plainly mapAnswer
 accepted-zero l = refl
 
@@ -307,7 +307,7 @@ module _ (settings : List Setting) (input o m a : List ℕ) where
       go (some v) e = let all = ap (after-one v input o m a) e ∙ refused-leaves v input o m a number place carried in (ap (λ (b : Buffers). b .moved) all, ap (λ (b : Buffers). b .apart) all)
 
   -- refused by the resolver
-  pub refuses : is-short rows ≡ false → (number place : ℕ) (o′ : List ℕ) → numbers number place ≡ resolved.ruled (answer settings input (length o)) → o′ ≡ output settings input o → (number ≡ 0 → ⊥)
+  pub refuses : is-short rows ≡ false → (number place : ℕ) (o′ : List ℕ) → numbers number place ≡ resolved.ruled (answer settings input (length o)) .plain → o′ ≡ output settings input o → (number ≡ 0 → ⊥)
       → (numbers number place ≡ ruled (movedAnswer settings input rooms)) × (held o′ m a ≡ buffers settings input (held o m a))
   refuses roomy number place o′ e q some-number = go (movedAnswer settings input rooms) refl (L .plain)
     where
@@ -318,8 +318,8 @@ module _ (settings : List Setting) (input o m a : List ℕ) where
           → (numbers number place ≡ ruled x) × (held o′ m a ≡ buffers settings input (held o m a))
       go (refused n z c) w p =
           let left = lists-left n z c w in
-          (e ∙ ap resolved.ruled (sym p) ∙ refused-same n z c, same-held (q ∙ sym (L .leaves)) (sym (left .0)) (sym (left .1)))
-      go (accepted l) w p = let zero-number : number ≡ 0 = ap (λ (x : Numbers). x .number) (e ∙ ap resolved.ruled (sym p) ∙ accepted-zero l) in absurd (some-number zero-number)
+          (e ∙ ap (λ (x : Answer.Answer). resolved.ruled x .plain) (sym p) ∙ refused-same n z c, same-held (q ∙ sym (L .leaves)) (sym (left .0)) (sym (left .1)))
+      go (accepted l) w p = let zero-number : number ≡ 0 = ap (λ (x : Numbers). x .number) (e ∙ ap (λ (x : Answer.Answer). resolved.ruled x .plain) (sym p) ∙ accepted-zero l) in absurd (some-number zero-number)
 
   roomy-first : is-short rows ≡ false → 16 * rows ≤ length m
   roomy-first e = ltb-false (length m) (16 * rows) (or-left (ltb (length m) (16 * rows)) _ e)

@@ -20,6 +20,7 @@ use Rattle.form.specs.declared.header.Header.the-variants.{Rows, Wrong, Count}
 use Rattle.moved_list.specs.Listing.{entriesIn, noted, none}
 use Rattle.moved_list.specs.declared.Listed.{Listed}
 use Rattle.refusal.specs.declared.Refusal.{Refusal}
+use Rattle.refusal.specs.declared.Told.{Told}
 use Rattle.resolver.specs.Meaning.{numbers}
 use Rattle.resolver.specs.Meaning as resolved
 use Rattle.resolver.specs.declared.run.Answer.{Answer as Resolved}
@@ -73,10 +74,10 @@ fronts-are form out moved apart m a rows r h = rw (← h)
 -- ---- what the resolver answered
 
 module _ (answer : Resolved) where
-  pub in-accepted : (rows : ℕ) → answer ≡ Accepted rows → numbers 0 rows ≡ resolved.meaning answer
+  pub in-accepted : (rows : ℕ) → answer ≡ Accepted rows → numbers 0 rows ≡ resolved.meaning answer .plain
   in-accepted rows q = rw q
 
-  pub in-refused : (r : Refusal) → answer ≡ Refused r → numbers (r .number) (r .place) ≡ resolved.meaning answer
-  in-refused r q = rw q
+  pub in-refused : (r : Refusal) (t : Told) → answer ≡ Refused r t → numbers (r .number) (r .place) ≡ resolved.meaning answer .plain
+  in-refused r t q = rw q
 
 pub ruleset ways = (asked-few, asked-rows, asked-wrong, asked-count, fill-is, fronts-are, in-accepted, in-refused, needs)

@@ -45,7 +45,7 @@ body-is input bs v e = go (hasHeader (record { version = version1; rules = today
     go false e = no-option v e
 
 -- an answer of number 0 is an acceptance
-is-accepted : (a : AnswerOf (List Row)) (number place : ℕ) → Counted a → numbers number place ≡ resolved.ruled a → number ≡ 0 → (rs : List Row) × (a ≡ accepted rs)
+is-accepted : (a : AnswerOf (List Row)) (number place : ℕ) → Counted a → numbers number place ≡ resolved.ruled a .plain → number ≡ 0 → (rs : List Row) × (a ≡ accepted rs)
 is-accepted (refused n z c) number place k e q = let same : number ≡ n = ap (λ (x : Numbers). x .number) e in absurd (omega (arith, same, q, k))
 is-accepted (accepted rs) number place k e q = (rs, refl)
 
@@ -84,16 +84,16 @@ module _ (form o m a : List ℕ) (rows : ℕ) (are : rows ≡ rowsAsked form) wh
     second-leaves = no-room second-short .1
 
   module _ (h : 16 * rows ≤ length m) (k : 12 * rows ≤ length a) (x : Resolved) (o′ : List ℕ) (said : resolved.meaning x ≡ resolved.ruled (answer base form (length o))) (left : o′ ≡ output base form o)
-      (r : Refusal) (told : numbers (r .number) (r .place) ≡ resolved.meaning x) where
+      (r : Refusal) (told : numbers (r .number) (r .place) ≡ resolved.meaning x .plain) where
     roomy : is-short base form o m a (asked base form) ≡ false
     roomy = subst (λ (n : ℕ). is-short base form o m a n ≡ false) (sym rows-asked) (let p : ltb (length m) (16 * rows) ≡ false = omega tests in let q : ltb (length a) (12 * rows) ≡ false = omega tests in rw (p, q))
 
     -- refused
     pub refused-answers : (r .number ≡ 0 → ⊥) → meaning (Refused r) ≡ ruled A
-    refused-answers n = refuses base form o m a roomy (r .number) (r .place) o′ (told ∙ said) left n .0
+    refused-answers n = refuses base form o m a roomy (r .number) (r .place) o′ (told ∙ ap (λ (x : resolved.Said). x .plain) said) left n .0
 
     pub refused-leaves : (r .number ≡ 0 → ⊥) → held o′ m a ≡ buffers base form (held o m a)
-    refused-leaves n = refuses base form o m a roomy (r .number) (r .place) o′ (told ∙ said) left n .1
+    refused-leaves n = refuses base form o m a roomy (r .number) (r .place) o′ (told ∙ ap (λ (x : resolved.Said). x .plain) said) left n .1
 
     -- accepted
     module _ (all : (i : ℕ) → Fits w8 (getD form i 0)) (n : r .number ≡ 0) (l : Listed) (m′ a′ : List ℕ) (lists : (l & m′ & a′) ≡ frontsT form o′ m a rows) where
@@ -102,7 +102,7 @@ module _ (form o m a : List ℕ) (rows : ℕ) (are : rows ≡ rowsAsked form) wh
 
       pub lists-written : (meaning (ListedAnswer l) ≡ ruled A) × (held o′ m′ a′ ≡ buffers base form (held o m a))
       lists-written =
-          let Y = is-accepted (answer base form (length o)) (r .number) (r .place) (answer-counted base form (length o)) (told ∙ said) n in
+          let Y = is-accepted (answer base form (length o)) (r .number) (r .place) (answer-counted base form (length o)) (told ∙ ap (λ (x : resolved.Said). x .plain) said) n in
           let bs = all-bytes form all in
           let asks = OnBytes.trees base base-usual base-within form o bs (Y .0) (Y .1) .asked-for in
           let made = accepts base form o m a base-usual base-within bs roomy (Y .0) (Y .1) l m′ a′

@@ -43,14 +43,14 @@ fn rows_asked(form: &[u8]) -> usize
 
 // What the resolver answers, as a refusal: its number is 0 if there is none.
 fn refusal_in(answer: Resolved) -> Refusal
-    ensures { λ r. ⌜ numbers (r .number) (r .place) ≡ resolved.meaning answer ⌝ }
+    ensures { λ r. ⌜ numbers (r .number) (r .place) ≡ resolved.meaning answer .plain ⌝ }
 {
     match answer {
         Resolved::Accepted(rows) => Refusal {
             number: 0,
             place: rows,
         },
-        Resolved::Refused(refusal) => Refusal {
+        Resolved::Refused(refusal, _) => Refusal {
             number: refusal.number,
             place: refusal.place,
         },

@@ -4,6 +4,13 @@ pub struct Refusal {
     pub place: u32,
 }
 
+// What a refusal of the steps tells besides: the space of the name (6, 8 and 9), and the place of its first declaration (6); else
+// 0.
+pub struct Told {
+    pub space: u32,
+    pub first: u32,
+}
+
 // The numbers. The header is not that of a form,
 pub const NOT_A_FORM: u32 = 1;
 

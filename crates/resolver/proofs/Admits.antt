@@ -199,12 +199,12 @@ not-said : {X : Type 0} → Count ≡ Wrong → X
 not-said e = let z : _≡_ {A = ℕ} 0 1 = cc in absurd (omega arith)
 
 -- by what the header says, if it is that of the setting
-wrong-short : (s : Setting) (input : List ℕ) (b c : Bool) → Wrong ≡ headerFor (only b s) input → false ≡ (b && c)
+pub wrong-short : (s : Setting) (input : List ℕ) (b c : Bool) → Wrong ≡ headerFor (only b s) input → false ≡ (b && c)
 unfolding headerFor headerIn only
 wrong-short s input true c q = not-wrong _ _ q
 wrong-short s input false c q = refl
 
-count-short : (s : Setting) (input : List ℕ) (b c : Bool) → Count ≡ headerFor (only b s) input
+pub count-short : (s : Setting) (input : List ℕ) (b c : Bool) → Count ≡ headerFor (only b s) input
     → false ≡ (b && (between 1 (s .version .rows) (rowCount (s .version) input) && (eqb (length input) (s .version .header + 16 * rowCount (s .version) input) && c)))
 unfolding headerFor headerIn only
 count-short s input true c q =
@@ -212,6 +212,14 @@ count-short s input true c q =
     let long = eqb (length input) (s .version .header + 16 * rowCount (s .version) input) in
     sym (miscounted counted long c (is-count (not counted || not long) (rowCount (s .version) input) q))
 count-short s input false c q = not-said q
+
+pub rows-short : (s : Setting) (input : List ℕ) (room rows : ℕ) → Headed s input rows → ltb room (s .version .header + 64 * rows) ≡ isShort s input room
+unfolding isShort
+rows-short s input room rows f =
+    let one : leb 1 rows ≡ true = le-leb 1 rows (f .some-rows) in
+    let few : leb rows (s .version .rows) ≡ true = le-leb rows (s .version .rows) (f .few) in
+    let long : eqb (length input) (s .version .header + 16 * rows) ≡ true = eq-eqb (length input) _ (f .long) in
+    rw (f .headed, f .counted, one, few, long)
 
 module _ (i : ℕ) (input : List ℕ) (room : ℕ) (l : Limits) (limits : l ≡ limitsOf (setting i)) (h : Header) (said : h ≡ headerTo l input) where
   of-setting : h ≡ headerFor (only (hasHeader (setting i) input) (setting i)) input
@@ -234,13 +242,7 @@ module _ (i : ℕ) (input : List ℕ) (room : ℕ) (l : Limits) (limits : l ≡ 
     short-few = omega (arith, found .few, few-rows i)
 
     pub short-rows : (header : ℕ) → header ≡ setting i .version .header → ltb room (header + 64 * rows) ≡ isShort (setting i) input room
-    unfolding isShort
-    short-rows header q =
-        let f = found in
-        let one : leb 1 rows ≡ true = le-leb 1 rows (f .some-rows) in
-        let few : leb rows (setting i .version .rows) ≡ true = le-leb rows (setting i .version .rows) (f .few) in
-        let long : eqb (length input) (setting i .version .header + 16 * rows) ≡ true = eq-eqb (length input) _ (f .long) in
-        rw (f .headed, f .counted, one, few, long, q)
+    short-rows header q = rw q (rows-short (setting i) input room rows found)
 
 -- ---- admitted
 

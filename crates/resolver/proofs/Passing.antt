@@ -1,5 +1,5 @@
 -- The steps with no output answer what the rules' steps answer.
-use mathlib.Core.Path.{_≡_, refl, _∙_, ap, sym}
+use mathlib.Core.Path.{_≡_, refl, ap}
 use mathlib.Core.Option.{Option, none, some}
 use mathlib.Core.List.{List, [], _∷_}
 use native.Mathlib.Omega.{arith}
@@ -13,6 +13,8 @@ use Rattle.rules.specs.Begins.{IsForm}
 use Rattle.rules.specs.Rules.{numberOf, Result, ok, resolve}
 use Rattle.rules.specs.Answer.{rowsOf}
 use Rattle.rules.specs.Laws.RowLaws.{Bytes}
+use Rattle.refusal.specs.declared.Refusal.{Refusal}
+use Rattle.refusal.specs.declared.Told.{Told}
 use Rattle.walk.specs.Walk.{Wrote₃}
 use Rattle.write.specs.declared.alias.Walked.{Walked}
 use Rattle.write.specs.declared.alias.Walked.the-variants as walked
@@ -24,24 +26,18 @@ use Rattle.resolver.specs.declared.steps.Steps.the-variants.{Pass, Refus
 use Rattle.resolver.proofs.Root.{able-1, steps-refusal}
 use Rattle.resolver.proofs.Laws.{rooms-1}
 
--- what the steps say of a refusal, if there is one
-unfoldable say : Option (ℕ × ℕ) → Steps
-say none = Pass
-say (some (number, place)) = Refused (record { number = number; place = place })
-
-said-in : (w : Wrote₃) → stepsIn (seenOf w) ≡ say (refusalOf w)
-unfolding seenOf stepsIn refusalOf say
-said-in (walked.Done s & e & n & o) = refl
-said-in (walked.Refused number place & e & n & o) = refl
-
-said-of : (m : Result (Scope × ℕ)) → stepsOf m ≡ say (refusedBy m)
-unfolding stepsOf refusedBy say
-said-of (Result.refused why z) = refl
-said-of (ok r) = refl
+-- a refusal, if there is one, as the steps answer it
+abbrev asSteps : Option (Refusal × Told) → Steps
+asSteps none = Pass
+asSteps (some r) = Refused (r .0)
 
 -- what refuses alike passes alike
 passing : (m : Result (Scope × ℕ)) (w : Wrote₃) → refusalOf w ≡ refusedBy m → stepsIn (seenOf w) ≡ stepsOf m
-passing m w h = said-in w ∙ ap say h ∙ sym (said-of m)
+unfolding seenOf stepsIn stepsOf refusalOf refusedBy
+passing (Result.refused why z) (walked.Done s & e & n & o) h = ap asSteps h
+passing (Result.refused why z) (walked.Refused refusal told & e & n & o) h = ap asSteps h
+passing (ok r) (walked.Done s & e & n & o) h = refl
+passing (ok r) (walked.Refused refusal told & e & n & o) h = ap asSteps h
 
 -- For the rows of a form of version 1.
 pub steps-agree : (rows : List ℕ) (t : Scope) → Bytes rows → length rows / 16 ≤ 1023 → IsForm today (rowsOf topName (length rows / 16) rows) t → height t ≤ 32 → stepsT rows ≡ stepsOf (resolve today t)
@@ -55,6 +51,6 @@ module _ (rows out : List ℕ) (a : Walked) (q : (a & out) ≡ walkT rows (0 ∷
   unfolding stepsT stepsIn
   steps-pass s e = rw (← q, e)
 
-  pub steps-refuse : (number place : ℕ) → a ≡ walked.Refused number place → Refused (record { number = number; place = place }) ≡ stepsT rows
+  pub steps-refuse : (why : Refusal) (told : Told) → a ≡ walked.Refused why told → Refused why ≡ stepsT rows
   unfolding stepsT stepsIn
-  steps-refuse number place e = rw (← q, e)
+  steps-refuse why told e = rw (← q, e)

@@ -4,6 +4,7 @@ use Prim.Native.Nat.{ℕ}
 use Rattle.kit.specs.Out.{_&_}
 use Rattle.rules.specs.Tree.{Scope}
 use Rattle.rules.specs.Rules.{numberOf, Result, ok}
+use Rattle.refusal.specs.Refusals.{refusalAt}
 use Rattle.write.specs.State.{Wrote}
 use Rattle.write.specs.declared.alias.Walked.the-variants as walked
 use Rattle.resolver.specs.Run.{walkT}
@@ -12,7 +13,7 @@ use Rattle.resolver.specs.declared.steps.Steps.the-variants.{Pass, Refus
 
 unfoldable pub stepsIn : Wrote → Steps
 stepsIn (walked.Done s & out) = Pass
-stepsIn (walked.Refused number place & out) = Refused (record { number = number; place = place })
+stepsIn (walked.Refused why told & out) = Refused why
 
 -- as the code goes
 unfoldable pub stepsT : (rows : List ℕ) → Steps
@@ -20,5 +21,5 @@ stepsT rows = stepsIn (walkT rows (0 ∷ []))
 
 -- as the rules say
 unfoldable pub stepsOf : Result (Scope × ℕ) → Steps
-stepsOf (Result.refused why place) = Refused (record { number = numberOf why; place = place })
+stepsOf (Result.refused why place) = Refused (refusalAt (numberOf why) place)
 stepsOf (ok r) = Pass

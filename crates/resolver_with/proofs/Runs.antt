@@ -29,13 +29,14 @@ use Rattle.walk.specs.Open.{Served, Stacked}
 use Rattle.whole_form.specs.Whole.{formOf}
 use Rattle.whole_form.specs.declared.read.Form.{Form}
 use Rattle.whole_form.specs.declared.read.Form.the-variants.{Whole, Refused as NotWhole}
+use Rattle.refusal.specs.Refusals.{untold}
 use Rattle.resolver.specs.Meaning.{meaning, ruled}
 use Rattle.resolver.specs.Admit.{admit, Enough}
 use Rattle.resolver.specs.Run.{seenOf, walkIn, fillT}
 use Rattle.resolver.specs.declared.run.Answer.{Answer}
 use Rattle.resolver.specs.declared.run.Answer.the-variants.{Refused}
 use Rattle.resolver.proofs.Bytes.{all-bytes}
-use Rattle.resolver.proofs.Starts.{served-zero, stacked-start}
+use Rattle.resolver.proofs.Starts.{served-new, stacked-start}
 use Rattle.resolver.proofs.Root.{able-1, able-2, Rooms}
 use Rattle.resolver.proofs.Agrees.{answers-early, leaves-early, run-agrees}
 use Rattle.resolver_with.specs.Areas.{slotsFor, linksFor, Lent, lentOf, roomy, cleared, Cleared}
@@ -74,7 +75,7 @@ module _ (i : ℕ) (entered names : List Slot) (known chains ends : List ℕ) (s
   pub served-in : (k c : List ℕ) (used : ℕ) → k ≡ replicate (length known) 0 → c ≡ replicate (length chains) 0 → used ≡ 0 → Served entered k names c used
   served-in k c used p q u =
       let f = few-in i (suits .served) in
-      rw (p, q) (served-zero entered names (length known) (length chains) used (omega (arith, suits .known, suits .entered)) (omega (arith, suits .chains, suits .names)) (omega (arith, suits .entered)) (omega (arith, suits .names)) u)
+      rw (p, q) (served-new (slotsFor (setting i .version)) (omega arith) entered names (length known) (length chains) used (omega (arith, suits .known, suits .entered)) (omega (arith, suits .chains, suits .names)) (omega (arith, suits .entered)) (omega (arith, suits .names)) u)
 
   module _ (l : Limits) (limits : l ≡ limitsOf (setting i)) (most : ℕ) (scopes-are : most ≡ l .scopes) where
     most-is : most ≡ setting i .version .scopes
@@ -164,10 +165,10 @@ rooms-in i entered names known chains ends suits =
     record { ends = omega arith; entered = omega arith; names = omega arith; entered-narrow = omega arith; names-narrow = omega arith }
 
 module _ (i : ℕ) (h : i < 2) (input old : List ℕ) (entered names : List Slot) (known chains ends : List ℕ) (enough : Bool) (exact : enough ≡ exactly (setting i .version) (lentOf entered names known chains ends)) (room : ℕ) (roomy : room ≡ (if enough then length old else 0)) (f : Form) (said : f ≡ formOf (admit (setting i) input room)) where
-  pub refuses-in : (why : Refusal) → f ≡ NotWhole why → Ran (setting i) (exactly (setting i .version) (lentOf entered names known chains ends)) input old old (Refused why)
+  pub refuses-in : (why : Refusal) → f ≡ NotWhole why → Ran (setting i) (exactly (setting i .version) (lentOf entered names known chains ends)) input old old (Refused why untold)
   refuses-in why e =
       let q : NotWhole why ≡ formOf (admit (setting i) input room) = sym e ∙ said in
-      subst (λ (b : Bool). Ran (setting i) b input old old (Refused why)) exact
+      subst (λ (b : Bool). Ran (setting i) b input old old (Refused why untold)) exact
       (record { answers = answers-early (setting i) input room why q ∙ ap (λ (n : ℕ). ruled (answer (setting i ∷ []) input n)) roomy; leaves = go enough roomy q })
     where
       go : (b : Bool) → room ≡ (if b then length old else 0) → NotWhole why ≡ formOf (admit (setting i) input room) → old ≡ (if b then output (setting i ∷ []) input old else old)

@@ -12,9 +12,9 @@ use Rattle.names.specs.Table.{Slot, emptySlot}
 abbrev pub slotsFor : Version → ℕ
 slotsFor v = v .rows + 1
 
--- the numbers of the index of a table: 1,024 heads of chains, and a link for each slot
+-- the numbers of the index of a table: as many heads of chains as slots, and a link for each slot
 abbrev pub linksFor : Version → ℕ
-linksFor v = 1024 + slotsFor v
+linksFor v = slotsFor v + slotsFor v
 
 -- how long the areas are that are lent: two tables, the index of each, and the ends
 pub record Lent : Type 0 where

@@ -14,6 +14,7 @@ use names::Scope;
 use names::Slot;
 use refusal::ROOM;
 use refusal::Refusal;
+use refusal::Told;
 use resolver::run::Answer;
 use resolver::run::admitted;
 use resolver::run::blank;
@@ -104,10 +105,13 @@ fn fill_in(
 {
     let header = header_size(i);
     if front.len() < header {
-        return Answer::Refused(Refusal {
-            number: ROOM,
-            place: 0,
-        });
+        return Answer::Refused(
+            Refusal {
+                number: ROOM,
+                place: 0,
+            },
+            Told { space: 0, first: 0 },
+        );
     }
     match walk_in(
         rows,
@@ -119,7 +123,7 @@ fn fill_in(
         chains,
         ends,
     ) {
-        Walked::Refused(number, place) => blank(front, number, place),
+        Walked::Refused(refusal, told) => blank(front, refusal, told),
         Walked::Done(s) => finish(front, i, s.to),
     }
 }
@@ -171,7 +175,7 @@ fn run_in(
         ends.len(),
     );
     match admitted(form, i, room_if(enough, out.len())) {
-        Form::Refused(why) => Answer::Refused(why),
+        Form::Refused(why) => Answer::Refused(why, Told { space: 0, first: 0 }),
         Form::Whole(rows) => {
             let header = header_size(i);
             let size = header + 64 * rows;
@@ -225,9 +229,9 @@ fn run_cleared(
             clear(entered, names, known, chains, ends);
             Answer::Accepted(rows)
         }
-        Answer::Refused(why) => {
+        Answer::Refused(why, told) => {
             clear(entered, names, known, chains, ends);
-            Answer::Refused(why)
+            Answer::Refused(why, told)
         }
     }
 }

@@ -5,9 +5,6 @@ ghost use Prim.Native.Nat.{_-_, _≤_};
 ghost use Rattle.limits.specs.Held.{setting};
 ghost use Rattle.resolver_with.specs.Areas.{slotsFor, linksFor};
 
-// The heads of chains that stand before the links of an index.
-const HEADS: usize = 1024;
-
 // How many slots each table has for a form of the setting at place i, and how many ends are noted.
 pub fn slots_for(i: usize) -> usize
     ensures { λ r. ⌜ (r ≡ slotsFor (setting i .version)) × (r ≤ 16384) ⌝ }
@@ -16,11 +13,11 @@ pub fn slots_for(i: usize) -> usize
     limits.rows + 1
 }
 
-// How many numbers the index of such a table has.
+// How many numbers the index of such a table has: a head of a chain and a link for each slot.
 pub fn links_for(i: usize) -> usize
-    ensures { λ r. ⌜ (r ≡ linksFor (setting i .version)) × (r ≤ 17408) ⌝ }
+    ensures { λ r. ⌜ (r ≡ linksFor (setting i .version)) × (r ≤ 32768) ⌝ }
 {
-    HEADS + slots_for(i)
+    2 * slots_for(i)
 }
 
 // The lesser of two.

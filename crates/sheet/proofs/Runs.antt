@@ -25,7 +25,7 @@ use Rattle.binding.specs.Sheet.{Run, runOf, areaOf, firstOf, workSize}
 use Rattle.binding.specs.Laws.Runs.{Made, Agree, run-agrees}
 use Rattle.reading_laws.specs.OnBytes
 use Rattle.reading_laws.specs.OnBytes.{base-within, begins, form-long}
-use Rattle.resolver.specs.Meaning.{meaning, ruled}
+use Rattle.resolver.specs.Meaning.{Said, meaning, ruled}
 use Rattle.resolver.specs.declared.run.Answer.{Answer as Resolved}
 use Rattle.resolver.proofs.Bytes.{all-bytes}
 use Rattle.sheet.specs.Run.{rowsWritten, isOutput}
@@ -89,11 +89,11 @@ module _ (form o : List ℕ) (bs : Bytes form) (long : 65480 ≤ length o) where
   Known rows none = rows ≡ 0
   Known rows (some run) = Wrote run rows
 
-  pub known : (x : Resolved) → meaning x ≡ ruled (answer base form (length o)) → (rows : ℕ) → rows ≡ rowsWritten (meaning x) → Known rows (runOf base form)
+  pub known : (x : Resolved) → meaning x ≡ ruled (answer base form (length o)) → (rows : ℕ) → rows ≡ rowsWritten (meaning x .plain) → Known rows (runOf base form)
   unfolding rowsWritten pick
-  known x said rows is = go (runOf base form) (answer base form (length o)) refl agrees (is ∙ ap rowsWritten said)
+  known x said rows is = go (runOf base form) (answer base form (length o)) refl agrees (is ∙ ap (λ (w : Said). rowsWritten (w .plain)) said)
     where
-      go : (r : Option Run) (a : AnswerOf (List Row)) → answer base form (length o) ≡ a → Agree base form r a → rows ≡ rowsWritten (ruled a) → Known rows r
+      go : (r : Option Run) (a : AnswerOf (List Row)) → answer base form (length o) ≡ a → Agree base form r a → rows ≡ rowsWritten (ruled a .plain) → Known rows r
       go none (refused n z c) e g w = let t : eqb n 0 ≡ false = omega (tests, g) in rw t at w
       go (some run) (accepted rs) e g w = subst (Wrote run) (sym w) (wrote run rs e g)
 
@@ -106,7 +106,7 @@ lengths-differ xs ys n = go (sameNumbers xs ys) refl
     go true e = absurd (n (ap length (same-lists xs ys e)))
     go false e = sym e
 
-module _ (form resolved o : List ℕ) (fits : (i : ℕ) → Fits w8 (getD form i 0)) (long : 65480 ≤ length o) (x : Resolved) (said : meaning x ≡ ruled (answer base form (length o))) (rows : ℕ) (is : rows ≡ rowsWritten (meaning x)) where
+module _ (form resolved o : List ℕ) (fits : (i : ℕ) → Fits w8 (getD form i 0)) (long : 65480 ≤ length o) (x : Resolved) (said : meaning x ≡ ruled (answer base form (length o))) (rows : ℕ) (is : rows ≡ rowsWritten (meaning x .plain)) where
   abbrev here : Known form o (all-bytes form fits) long rows (runOf base form)
   here = known form o (all-bytes form fits) long x said rows is
 

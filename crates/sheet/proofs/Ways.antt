@@ -13,6 +13,7 @@ use Rattle.kit.proofs.Laws.{tests, left-suc, drop-next, yes!, no! }
 use Rattle.rules.specs.Answer.{sameNumbers}
 use Rattle.stores.specs.Zeros.{zeroFrom}
 use Rattle.refusal.specs.declared.Refusal.{Refusal}
+use Rattle.refusal.specs.declared.Told.{Told}
 use Rattle.resolver.specs.Meaning.{meaning}
 use Rattle.resolver.specs.declared.run.Answer.{Answer}
 use Rattle.resolver.specs.declared.run.Answer.the-variants.{Accepted, Refused}
@@ -45,16 +46,16 @@ module _ (bytes area : List ℕ) (i : ℕ) (T : Bool) (inv : sameNumbers (drop i
 -- ---- rows that were written
 
 module _ (a : Answer) where
-  pub rows-accepted : (rows : ℕ) → a ≡ Accepted rows → rows ≡ rowsWritten (meaning a)
+  pub rows-accepted : (rows : ℕ) → a ≡ Accepted rows → rows ≡ rowsWritten (meaning a .plain)
   unfolding rowsWritten
   rows-accepted rows q = rw q (yes! _ refl refl)
 
-  module _ (r : Refusal) (q : a ≡ Refused r) where
-    pub rows-placed : r .number ≡ 0 → r .place ≡ rowsWritten (meaning a)
+  module _ (r : Refusal) (told : Told) (q : a ≡ Refused r told) where
+    pub rows-placed : r .number ≡ 0 → r .place ≡ rowsWritten (meaning a .plain)
     unfolding rowsWritten
     rows-placed h = let t : eqb (r .number) 0 ≡ true = omega tests in rw q (yes! _ t refl)
 
-    pub rows-refused : (r .number ≡ 0 → ⊥) → 0 ≡ rowsWritten (meaning a)
+    pub rows-refused : (r .number ≡ 0 → ⊥) → 0 ≡ rowsWritten (meaning a .plain)
     unfolding rowsWritten
     rows-refused h = let t : eqb (r .number) 0 ≡ false = omega tests in rw q (no! _ t refl)
 

@@ -58,11 +58,11 @@ fn begins(area: &[u8], bytes: &[u8]) -> bool
 
 // How many rows the resolver wrote, 0 if it refused. It is the number that says so: 0 is no refusal's.
 fn rows_written(answer: Resolved) -> u32
-    ensures { λ r. ⌜ r ≡ rowsWritten (resolver_says.meaning answer) ⌝ }
+    ensures { λ r. ⌜ r ≡ rowsWritten (resolver_says.meaning answer .plain) ⌝ }
 {
     match answer {
         Resolved::Accepted(rows) => rows,
-        Resolved::Refused(refusal) => {
+        Resolved::Refused(refusal, _) => {
             if refusal.number == 0 {
                 refusal.place
             } else {

@@ -5,10 +5,10 @@ use Rattle.index.proofs.climb.Statement.{statement}
 use Rattle.index.proofs.climb.Tie as tie
 
 abbrev Inv-loop : tie.InvT-loop
-Inv-loop table index scopes depth head space name p₀ left₀ p left = Climbs table index scopes depth space name p
+Inv-loop table index scopes depth head space name heads p₀ left₀ p left = Climbs table index scopes depth space name p
 
 abbrev μ-loop : tie.MeasureT-loop
-μ-loop table index scopes depth head space name p₀ left₀ p left = left
+μ-loop table index scopes depth head space name heads p₀ left₀ p left = left
 
 pub climb-spec : {M : Type 1} → statement M
 climb-spec =
@@ -16,6 +16,7 @@ climb-spec =
     (tie.spec
     Inv-loop
     μ-loop
+    (λ c κs. search climbs)  -- heads-of-requires
     (λ c. search climbs)  -- loop-holds
     (λ c κs. search climbs)  -- outward-requires
     (λ c. search climbs)  -- returns

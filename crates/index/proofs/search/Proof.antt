@@ -5,10 +5,10 @@ use Rattle.index.proofs.search.Statement.{statement}
 use Rattle.index.proofs.search.Tie as tie
 
 abbrev Inv-loop : tie.InvT-loop
-Inv-loop table index from to space name chain p₀ found₀ left₀ p found left = Follows table index from to space name p found
+Inv-loop table index from to space name heads chain p₀ found₀ left₀ p found left = Follows table index from to space name p found
 
 abbrev μ-loop : tie.MeasureT-loop
-μ-loop table index from to space name chain p₀ found₀ left₀ p found left = left
+μ-loop table index from to space name heads chain p₀ found₀ left₀ p found left = left
 
 pub search-spec : {M : Type 1} → statement M
 search-spec =
@@ -16,6 +16,7 @@ search-spec =
     (tie.spec
     Inv-loop
     μ-loop
+    (λ c κs. search follows)  -- heads-of-requires
     (λ c κs. search follows)  -- chain-of-requires
     (λ c κs. search follows)  -- find-requires
     (λ c. search follows)  -- returns

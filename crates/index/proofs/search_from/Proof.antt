@@ -8,6 +8,7 @@ pub search-from-spec : {M : Type 1} → statement M
 search-from-spec =
     tie.close
     (tie.spec
+    (λ c κs. search follows)  -- heads-of-requires
     (λ c. search needs)  -- sub-link-at
     (λ c κs. search needs)  -- link-at-requires
     (λ c κs. search needs)  -- at-requires

@@ -6,7 +6,8 @@ use Rattle.mark.proofs.end_of.Tie as tie
 
 pub end-of-spec : {M : Type 1} → statement M
 end-of-spec = tie.close (tie.spec
-    (λ c. search needs)  -- mul-result
-    (λ c. search needs)  -- shared-slice-read-result
+    (λ c. search needs)  -- mul-noted
+    (λ c. search needs)  -- shared-slice-read-noted
+    (λ c κs. search needs)  -- noted-requires
     (λ c. search needs)  -- returns
     (λ c. search step-ways))  -- returns-2

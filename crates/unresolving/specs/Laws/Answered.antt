@@ -40,7 +40,7 @@ same-are [] (y ∷ b) e = false-not e
 same-are (x ∷ a) [] e = false-not e
 same-are (x ∷ a) (y ∷ b) e = ap₂ (λ (z : ℕ) (l : List ℕ). z ∷ l) (eqb-true x y (and-left (eqb x y) _ e)) (same-are a b (and-right (eqb x y) _ e))
 
-are-same : (a : List ℕ) → sameNumbers a a ≡ true
+pub are-same : (a : List ℕ) → sameNumbers a a ≡ true
 unfolding sameNumbers
 are-same [] = refl
 are-same (x ∷ a) = rw (eqb-same x) (are-same a)
@@ -50,7 +50,7 @@ unfolding only
 only-some true x y e = (refl, some-same x y e)
 only-some false x y e = no-option y e
 
-outcome-is : (o : Option (List ℕ)) (claim : List ℕ) → isOutcome o claim ≡ true → o ≡ some claim
+pub outcome-is : (o : Option (List ℕ)) (claim : List ℕ) → isOutcome o claim ≡ true → o ≡ some claim
 unfolding isOutcome
 outcome-is none claim e = false-not e
 outcome-is (some bs) claim e = ap {B = Option (List ℕ)} some (same-are bs claim e)
@@ -140,14 +140,14 @@ unfolding formOf
 form-is s (Answer.refused n z c) claim e = no-option claim e
 form-is s (accepted rs) claim e = (rs, refl, sym (some-same _ claim e))
 
-record Ran (settings : List Setting) (claim input : List ℕ) : Type 0 where
-  v : Setting
-  asked : settingOf settings input ≡ some v
-  out : List Row
-  is : claim ≡ formBytes v out
-  answers : answerIn [] v input (v .version .header + 64 * rowCount (v .version) input) ≡ accepted out
+pub record Ran (settings : List Setting) (claim input : List ℕ) : Type 0 where
+  pub v : Setting
+  pub asked : settingOf settings input ≡ some v
+  pub out : List Row
+  pub is : claim ≡ formBytes v out
+  pub answers : answerIn [] v input (v .version .header + 64 * rowCount (v .version) input) ≡ accepted out
 
-ran-on : (settings : List Setting) (claim input : List ℕ) → outcome settings input ≡ some claim → Ran settings claim input
+pub ran-on : (settings : List Setting) (claim input : List ℕ) → outcome settings input ≡ some claim → Ran settings claim input
 unfolding outcome
 ran-on settings claim input e =
     let s = then-some (settingOf settings input) _ claim e in
@@ -289,6 +289,15 @@ back-bytes settings claim input e =
     let s₂ = then-some (readClaim (s₁ .0) claim) _ input (s₁ .2) in
     subst Bytes (only-some _ _ input (s₂ .2) .1) (form-low (s₁ .0) (flatten (unresolve (s₂ .0))))
 
+-- It is the unresolved tree of what is read.
+pub back-is : (settings : List Setting) (claim input : List ℕ) → back settings claim ≡ some input
+    → (v : Setting) × (t : Scope) × (settingOf settings claim ≡ some v) × (readClaim v claim ≡ some t) × (input ≡ formBytes v (flatten (unresolve t)))
+unfolding back
+back-is settings claim input e =
+    let s₁ = then-some (settingOf settings claim) _ input e in
+    let s₂ = then-some (readClaim (s₁ .0) claim) _ input (s₁ .2) in
+    (s₁ .0, s₂ .0, s₁ .1, s₂ .1, sym (only-some _ _ input (s₂ .2) .1))
+
 -- None is given exactly if no input has these bytes as its output.
 pub back-exactly : (settings : List Setting) → Settled settings → (claim : List ℕ) → (back settings claim ≡ none) ↔ ((input : List ℕ) → Bytes input → outcome settings input ≡ some claim → ⊥)
 back-exactly settings L claim = (
@@ -374,7 +383,7 @@ form-asks : (rs : List Row) → settingOf base (formBytes one rs) ≡ some one
 unfolding settingOf only _orElse_
 form-asks rs = rw (one-has rs)
 
-base-one : (x : List ℕ) (v : Setting) → settingOf base x ≡ some v → one ≡ v
+pub base-one : (x : List ℕ) (v : Setting) → settingOf base x ≡ some v → one ≡ v
 unfolding settingOf only _orElse_
 base-one x v e = go (Answer.hasHeader one x) e
   where

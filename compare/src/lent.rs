@@ -1,0 +1,254 @@
+//! `wnt_resolve_with` beside the crate, on forms of both versions: its answer, its output and its working areas.
+
+use crate::chance::Chance;
+use crate::compare::{Case, Comparison, after};
+use crate::library::{self, Areas, Slot};
+use crate::recognise::recognise_as;
+use crate::rows::{Answer, FIRST, SECOND, Version};
+use crate::run::{is_form, stated_cases_hold};
+use crate::source::{self, Stage};
+use crate::tally::Tally;
+use std::time::Instant;
+
+/// The most elements that an area is longer than it must be.
+const MORE: usize = 9;
+
+/// How long the areas are, in elements: two tables, the index of each, and the ends of fields.
+type Lengths = [usize; 5];
+
+/// The sizes of the areas for a version.
+fn sizes(version: Version) -> Lengths {
+    let slots = version.rows + 1;
+    [slots, slots, 2 * slots, 2 * slots, slots]
+}
+
+/// A form with its output, and the lengths of its areas.
+struct Lent {
+    case: Case,
+    lengths: Lengths,
+}
+
+impl Lent {
+    /// Areas for this form that are exact, longer, for the other version or, now and then, too short.
+    fn new(case: Case, chance: &mut Chance) -> Lent {
+        let version = Version::of(&case.form);
+        let mut lengths = sizes(version);
+        let one = chance.below(5);
+        match chance.below(40) {
+            0 => lengths[one] -= 1,
+            1 => lengths[one] = chance.below(lengths[one]),
+            2 => lengths = [0; 5],
+            3 => lengths = sizes(FIRST),
+            4..=5 => lengths = sizes(SECOND),
+            6..=10 => lengths[one] += 1 + chance.below(MORE),
+            _ => {}
+        }
+        Lent { case, lengths }
+    }
+
+    fn exact(case: Case) -> Lent {
+        Lent { lengths: sizes(Version::of(&case.form)), case }
+    }
+}
+
+/// What is lent, filled before each call so that a change shows.
+pub struct Lender {
+    slots: [Vec<Slot>; 2],
+    links: [Vec<u16>; 2],
+    ends: Vec<u32>,
+}
+
+const SLOT: Slot = [0xa5a5_0001; 6];
+const LINK: u16 = 0xa5a5;
+const END: u32 = 0xa5a5_0002;
+
+/// Whether the first `size` elements are zero, and those behind as they were filled.
+fn is_cleared<T: PartialEq>(area: &[T], size: usize, zero: T, filling: T) -> bool {
+    let (front, behind) = area.split_at(size.min(area.len()));
+    front.iter().all(|one| *one == zero) && behind.iter().all(|one| *one == filling)
+}
+
+impl Lender {
+    pub fn new() -> Lender {
+        let [slots, _, links, _, ends] = sizes(SECOND).map(|size| size + MORE);
+        Lender {
+            slots: [vec![SLOT; slots], vec![SLOT; slots]],
+            links: [vec![LINK; links], vec![LINK; links]],
+            ends: vec![END; ends],
+        }
+    }
+
+    /// The areas that a form of this version needs.
+    pub fn areas_of(&mut self, version: Version) -> Areas<'_> {
+        self.areas(sizes(version))
+    }
+
+    /// The areas, of these lengths.
+    fn areas(&mut self, [entered, names, known, chains, ends]: Lengths) -> Areas<'_> {
+        let ([tables, others], [indexes, more]) = (&mut self.slots, &mut self.links);
+        Areas {
+            entered: &mut tables[..entered],
+            names: &mut others[..names],
+            known: &mut indexes[..known],
+            chains: &mut more[..chains],
+            ends: &mut self.ends[..ends],
+        }
+    }
+
+    /// Calls the library in areas of these lengths, which are filled before; answers whether they are cleared after.
+    fn call(&mut self, lent: &Lent, out: &mut [u8]) -> (u64, bool) {
+        let mut areas = self.areas(lent.lengths);
+        areas.entered.fill(SLOT);
+        areas.names.fill(SLOT);
+        areas.known.fill(LINK);
+        areas.chains.fill(LINK);
+        areas.ends.fill(END);
+        let answer = library::resolve_with(&lent.case.form, out, &mut areas);
+        let [entered, names, known, chains, ends] = sizes(asked_for(&lent.case.form));
+        let cleared = is_cleared(areas.entered, entered, [0; 6], SLOT)
+            && is_cleared(areas.names, names, [0; 6], SLOT)
+            && is_cleared(areas.known, known, 0, LINK)
+            && is_cleared(areas.chains, chains, 0, LINK)
+            && is_cleared(areas.ends, ends, 0, END);
+        (answer, cleared)
+    }
+}
+
+/// The version that a header asks for; the first where it is of none.
+fn asked_for(form: &[u8]) -> Version {
+    if SECOND.begins(form, 0) { SECOND } else { FIRST }
+}
+
+/// The answer by documents 01 and 02 for refusals 1 to 5, by the crate for everything else.
+fn expected(comparison: &Comparison, lent: &Lent) -> Answer {
+    let (version, case) = (asked_for(&lent.case.form), &lent.case);
+    let enough = sizes(version).iter().zip(lent.lengths).all(|(size, length)| length >= *size);
+    let room = if enough { case.out_len } else { 0 };
+    match recognise_as(version, &comparison.shapes, &case.form, room) {
+        Ok(rows) => comparison.oracle.answer(&rows, case.choice),
+        Err((number, place)) => Answer::refused(number, place),
+    }
+}
+
+/// The answer that is expected, and what differs, if something does.
+fn check(comparison: &Comparison, lender: &mut Lender, lent: &Lent) -> (Answer, Option<&'static str>) {
+    let answer = expected(comparison, lent);
+    let mut out = lent.case.pattern();
+    let wanted = after(&answer, &lent.case.form, out.clone());
+    let (packed, cleared) = lender.call(lent, &mut out);
+    let differs = match (packed == answer.packed(), out == wanted, cleared) {
+        (false, _, _) => Some("the answer"),
+        (_, false, _) => Some("the output"),
+        (_, _, false) => Some("a working area"),
+        _ => None,
+    };
+    (answer, differs)
+}
+
+/// The forms that do not depend on a seed, and for each limit's form areas that are one element short or long.
+fn fixed(comparison: &Comparison) -> Vec<(Stage, Lent)> {
+    let mut all = Vec::new();
+    for version in [FIRST, SECOND] {
+        for (stage, case) in source::fixed_of(version, &comparison.shapes) {
+            if stage == Stage::Stated {
+                let mut one_off = Vec::new();
+                for area in 0..5 {
+                    let sizes = sizes(version);
+                    for length in [0, sizes[area] - 1, sizes[area] + 1] {
+                        let mut lengths = sizes;
+                        lengths[area] = length;
+                        one_off.push((stage, Lent { case: case.clone(), lengths }));
+                    }
+                }
+                all.extend(one_off);
+            }
+            all.push((stage, Lent::exact(case)));
+        }
+    }
+    all
+}
+
+/// The random form of this number: three of four are of version 2.
+fn random(comparison: &Comparison, seed: u64, number: u64) -> (Stage, Lent) {
+    let version = if number % 16 < 4 { FIRST } else { SECOND };
+    let (stage, case) = source::random_of(version, &comparison.shapes, seed, number);
+    let mut chance = Chance::new(!seed ^ number.rotate_left(32));
+    (stage, Lent::new(case, &mut chance))
+}
+
+/// What is counted besides: forms of version 2, those beyond the rows or the scopes of version 1, and the largest.
+#[derive(Default)]
+struct Large {
+    second: u64,
+    longer: u64,
+    deeper: u64,
+    most: usize,
+}
+
+impl Large {
+    fn count(&mut self, form: &[u8], answer: &Answer) {
+        let accepted = matches!(answer, Answer::Accepted(_) | Answer::Refused { number: 6.., .. });
+        if asked_for(form) == SECOND {
+            self.second += 1;
+            if accepted {
+                let rows = SECOND.count(form);
+                self.longer += u64::from(rows > FIRST.rows);
+                self.deeper += u64::from(depth(form) > FIRST.scopes);
+                self.most = self.most.max(rows);
+            }
+        }
+    }
+}
+
+/// The most scopes of a form of version 2 that are open at once.
+fn depth(form: &[u8]) -> usize {
+    let (mut open, mut most) = (0usize, 0);
+    for row in form[SECOND.header..].chunks_exact(16) {
+        match row[0] {
+            7 => open += 1,
+            8 => open -= 1,
+            _ => {}
+        }
+        most = most.max(open);
+    }
+    most
+}
+
+/// Compares so many forms, the fixed ones first, and prints a summary; answers whether there was no difference.
+pub fn run(comparison: &Comparison, seed: u64, count: u64) -> bool {
+    if !stated_cases_hold(comparison) {
+        return false;
+    }
+    let start = Instant::now();
+    let (mut tally, mut large, mut lender) = (Tally::default(), Large::default(), Lender::new());
+    let forms = fixed(comparison).into_iter().chain((0..).map(|number| random(comparison, seed, number)));
+    for (number, (stage, lent)) in forms.take(count as usize).enumerate() {
+        let (answer, differs) = check(comparison, &mut lender, &lent);
+        tally.count(stage, &lent.case, &answer);
+        large.count(&lent.case.form, &answer);
+        if !is_form(stage, &answer) {
+            println!("form {number} of stage {stage:?} was to be well-formed and is not");
+            return false;
+        }
+        if let Some(what) = differs {
+            let Lent { case, lengths } = lent;
+            println!(
+                "form {number} of stage {stage:?}: {what} differs; areas of {lengths:?}, output of {}",
+                case.out_len
+            );
+            println!("expected {:#x}; the form: {:?}", answer.packed(), case.form);
+            return false;
+        }
+        if tally.forms % 20_000 == 0 {
+            eprintln!("{} forms in {} s, no difference so far", tally.forms, start.elapsed().as_secs());
+        }
+    }
+    let Large { second, longer, deeper, most } = large;
+    println!("{}", tally.summary());
+    println!(
+        "version 2: {second} forms; well-formed with more than {} rows {longer}, with more than {} scopes {deeper}; the largest has {most} rows",
+        FIRST.rows, FIRST.scopes
+    );
+    println!("{} forms compared in {:.1} s, 0 differences", tally.forms, start.elapsed().as_secs_f64());
+    true
+}

@@ -1,0 +1,261 @@
+//! The way back: outputs of random inputs must go round, and damaged ones be refused exactly if a search finds no input for them.
+
+use crate::chance::Chance;
+use crate::compare::Comparison;
+use crate::damage::damage;
+use crate::library;
+use crate::rows::{self, DECL, EXPORT, FIELD, FIRST_INSERTED, HEADER, OPEN, OUTER, PATH, REF, ROW, Row};
+use crate::source;
+
+/// The sizes of the working areas, and how much more is lent.
+const RESTORED: usize = 16_376;
+const AGAIN: usize = 65_480;
+const BEHIND: usize = 5;
+
+/// The answer to bytes of which no input is.
+const NO_INPUT: u64 = 14 << 32;
+
+/// Inputs that are tried at most for one damaged output.
+const TRIED: usize = 4_000;
+
+/// The resolved form of an input, if it is accepted.
+fn resolved(form: &[u8]) -> Option<Vec<u8>> {
+    let mut out = vec![0; rows::output_size(rows::MOST_ROWS)];
+    let answer = library::resolve(form, &mut out);
+    if answer >> 32 != 0 {
+        return None;
+    }
+    out.truncate(HEADER + ROW * answer as usize);
+    Some(out)
+}
+
+/// What the library gives for bytes: the answer, and the output, of which so much is lent. The areas must come back as the
+/// contract says.
+fn unresolved(claim: &[u8], room: usize) -> Option<(u64, Vec<u8>)> {
+    let mut out = vec![0xa5; room];
+    let (mut restored, mut again) = (vec![0x5a; RESTORED + BEHIND], vec![0x5a; AGAIN + BEHIND]);
+    let answer = library::unresolve(claim, &mut out, &mut restored, &mut again);
+    let is_clear = |area: &[u8], size: usize| {
+        area[..size].iter().all(|byte| *byte == 0) && area[size..].iter().all(|byte| *byte == 0x5a)
+    };
+    (is_clear(&restored, RESTORED) && is_clear(&again, AGAIN)).then_some((answer, out))
+}
+
+/// Whether the answer gives an input that resolves to the claim, and leaves what lies behind it.
+fn goes_round(claim: &[u8], answer: u64, out: &[u8]) -> bool {
+    let size = HEADER + ROW * answer as usize;
+    answer >> 32 == 0
+        && size <= out.len()
+        && out[size..].iter().all(|byte| *byte == 0xa5)
+        && resolved(&out[..size]).is_some_and(|again| again == claim)
+}
+
+/// The rows with few places and small numbers, so that references and aliases are easily taken for one another.
+fn crowded(rows: &mut [Row], chance: &mut Chance) {
+    let (places, numbers) = (chance.pick(&[1, 2, 3]), chance.pick(&[2, 3, 5]));
+    for row in rows {
+        if matches!(row.code, FIELD | DECL | REF | OUTER) {
+            row.z = chance.below(places) as u32;
+        }
+        if row.code == REF && row.e == 0 {
+            row.x = chance.below(numbers) as u32;
+        }
+    }
+}
+
+// ---- an input found by trying
+
+/// A field of a claim: where its rows begin and end, without the scope that it may hold.
+struct Field {
+    start: usize,
+    end: usize,
+    inserted: bool,
+}
+
+fn fields(claim: &[Row]) -> Vec<Field> {
+    let mut all = Vec::new();
+    let mut at = 0;
+    while at < claim.len() {
+        if claim[at].code != FIELD {
+            at += 1;
+            continue;
+        }
+        let mut end = at + 1;
+        while end < claim.len() && matches!(claim[end].code, DECL | REF | PATH | OUTER | EXPORT | rows::CASE) {
+            end += 1;
+        }
+        let inserted = claim[at..end].iter().any(|row| row.code == DECL && row.x >= FIRST_INSERTED);
+        all.push(Field { start: at, end, inserted });
+        at = end;
+    }
+    all
+}
+
+/// The ways to give a list of inserted fields, in order, to references of one field: each reference gets a run of them.
+fn divisions(count: usize, references: usize) -> Vec<Vec<usize>> {
+    if references == 0 {
+        return if count == 0 { vec![Vec::new()] } else { Vec::new() };
+    }
+    let mut all = Vec::new();
+    for first in 0..=count {
+        for mut rest in divisions(count - first, references - 1) {
+            rest.insert(0, first);
+            all.push(rest);
+        }
+    }
+    all
+}
+
+/// What a reference may have been that these inserted fields served: a path, or a name of the form.
+fn served(reference: Row, run: &[Vec<Row>], names: &[u32]) -> Vec<Vec<Row>> {
+    let Some(first) = run.first() else { return vec![vec![reference]] };
+    if first.iter().any(|row| row.code == OUTER) {
+        let named = |name: &u32| vec![Row { e: 1, x: *name, y: 0, ..reference }];
+        return if run.len() == 1 { names.iter().map(named).collect() } else { Vec::new() };
+    }
+    let exports: Vec<Row> = run.iter().flatten().filter(|row| row.code == EXPORT).copied().collect();
+    let Some(base) = first.iter().find(|row| row.code == REF) else { return Vec::new() };
+    let mut path = vec![Row { e: 0, x: base.x, y: exports.len() as u32, ..reference }];
+    path.extend(exports.iter().map(|row| Row::new(PATH, 0, 0, row.x, 0, 0)));
+    vec![path]
+}
+
+/// The rows that one field of the input may have had, where these inserted fields stand before it.
+fn versions(field: &[Row], waiting: &[Vec<Row>], names: &[u32]) -> Vec<Vec<Row>> {
+    let references = field.iter().filter(|row| row.code == REF).count();
+    let mut all = Vec::new();
+    for division in divisions(waiting.len(), references) {
+        let mut partial = vec![Vec::new()];
+        let (mut next, mut taken) = (0, 0);
+        for row in field {
+            let choices = if row.code == REF {
+                let run = &waiting[taken..taken + division[next]];
+                taken += division[next];
+                next += 1;
+                served(*row, run, names)
+            } else {
+                vec![vec![*row]]
+            };
+            partial = partial
+                .iter()
+                .flat_map(|before: &Vec<Row>| choices.iter().map(move |rows| [before.clone(), rows.clone()].concat()))
+                .collect();
+            if partial.len() > TRIED {
+                return partial;
+            }
+        }
+        all.extend(partial);
+    }
+    all
+}
+
+/// Whether some input has these rows as its output; none if there are too many to try. Inserted fields are those with a fresh
+/// name. A written number can stand for every name that is found in its own scope, so that no more names are tried.
+fn has_input(claim: &[u8]) -> Option<bool> {
+    let all = rows::decode(claim);
+    let mut names: Vec<u32> = all.iter().filter(|row| row.code == DECL).map(|row| row.x).collect();
+    names.retain(|name| (1..FIRST_INSERTED).contains(name));
+    names.sort_unstable();
+    names.dedup();
+    let mut inputs: Vec<Vec<Row>> = vec![Vec::new()];
+    let mut waiting: Vec<Vec<Row>> = Vec::new();
+    let mut at = 0;
+    let extend = |inputs: &mut Vec<Vec<Row>>, choices: &[Vec<Row>]| {
+        *inputs = inputs
+            .iter()
+            .flat_map(|before| choices.iter().map(move |rows| [before.clone(), rows.clone()].concat()))
+            .collect();
+        inputs.len() <= TRIED
+    };
+    for field in fields(&all) {
+        let between = all[at..field.start].to_vec();
+        if !between.is_empty() && !waiting.is_empty() {
+            return Some(false);
+        }
+        extend(&mut inputs, &[between]);
+        at = field.end;
+        let own = all[field.start..field.end].to_vec();
+        if field.inserted {
+            waiting.push(own);
+        } else if !extend(&mut inputs, &versions(&own, &std::mem::take(&mut waiting), &names)) {
+            return None;
+        }
+    }
+    if !waiting.is_empty() {
+        return Some(false);
+    }
+    extend(&mut inputs, &[all[at..].to_vec()]);
+    Some(inputs.iter().any(|rows| resolved(&rows::encode(rows)).is_some_and(|out| out == claim)))
+}
+
+// ---- the run
+
+#[derive(Default)]
+struct Counts {
+    round: u64,
+    inserted: u64,
+    damaged: u64,
+    given: u64,
+    searched: u64,
+}
+
+/// An output that must go round; whether it did.
+fn try_output(claim: &[u8], chance: &mut Chance, counts: &mut Counts) -> bool {
+    counts.inserted += rows::decode(claim).iter().filter(|row| row.code == DECL && row.x >= FIRST_INSERTED).count() as u64;
+    let Some((answer, out)) = unresolved(claim, RESTORED + chance.below(9)) else { return false };
+    if !goes_round(claim, answer, &out) {
+        return false;
+    }
+    counts.round += 1;
+    // one byte too few
+    let size = HEADER + ROW * answer as usize;
+    matches!(unresolved(claim, size - 1), Some((answer, out)) if answer == 3 << 32 && out.iter().all(|byte| *byte == 0xa5))
+}
+
+/// A damaged output; whether it was refused as it must be.
+fn try_damaged(claim: &[u8], counts: &mut Counts) -> bool {
+    counts.damaged += 1;
+    let Some((answer, out)) = unresolved(claim, RESTORED) else { return false };
+    let refused = answer == NO_INPUT && out.iter().all(|byte| *byte == 0xa5);
+    if answer == NO_INPUT && rows::decode(claim).len() <= 24 {
+        let Some(found) = has_input(claim) else { return refused };
+        counts.searched += 1;
+        return refused && !found;
+    }
+    counts.given += u64::from(answer >> 32 == 0);
+    refused || goes_round(claim, answer, &out)
+}
+
+/// Sends so many outputs round, with damaged ones beside them, and prints a summary line; answers whether all was right.
+pub fn run(comparison: &Comparison, seed: u64, outputs: u64) -> bool {
+    let mut counts = Counts::default();
+    let mut number = 0;
+    while counts.round < outputs {
+        let mut chance = Chance::new(seed.rotate_left(17) ^ number);
+        let mut input = rows::decode(&source::random(&comparison.shapes, seed, number).1.form);
+        number += 1;
+        if chance.percent(60) {
+            crowded(&mut input, &mut chance);
+        }
+        if input.first().is_none_or(|row| row.code != OPEN) {
+            continue;
+        }
+        let Some(claim) = resolved(&rows::encode(&input)) else { continue };
+        let mut right = try_output(&claim, &mut chance, &mut counts);
+        let mut spoilt = rows::decode(&claim);
+        if chance.percent(50) {
+            crowded(&mut spoilt, &mut chance);
+        }
+        right = right && try_damaged(&damage(&spoilt, &mut chance), &mut counts);
+        if !right {
+            println!("form {} of seed {seed} does not go round, or is refused wrongly", number - 1);
+            return false;
+        }
+    }
+    let Counts { round, inserted, damaged, given, searched } = counts;
+    println!(
+        "{round} outputs with {inserted} inserted fields went round; of {damaged} damaged ones {given} are outputs, and of those \
+         refused {searched} were searched for an input: 0 differences"
+    );
+    true
+}

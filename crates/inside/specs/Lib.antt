@@ -1,0 +1,2 @@
+-- What the contracts cite: the walk inside a root whose rows are given, and the run.
+pub mod Run

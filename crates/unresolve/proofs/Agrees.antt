@@ -1,0 +1,255 @@
+-- What the code answers and leaves is what the rules say.
+use mathlib.Core.Path.{_≡_, refl, sym, ap, _∙_, subst}
+use mathlib.Core.Bool.{Bool, true, false, _||_}
+use mathlib.Core.Option.{Option, none, some}
+use mathlib.Core.List.{List, [], _∷_, _++_, append-nil}
+use native.Mathlib.Omega.{arith}
+use Prim.Native.Nat.{ℕ, zero, suc, _+_, _-_, _*_, _/_, _≤_, _<_}
+use lib.Dec.{ltb}
+use lib.ListN.{length, getD, set, take, drop, replicate, length-append, length-take, length-drop, length-set}
+use lib.Seq.{sets, sets-eq, take-all, drop-at, length-take-le}
+use borrow.Author.Needs.{needs}
+use borrow.Author.Tests.{lt-ltb, le-ltb, ltb-false}
+use Rattle.kit.specs.Pick.{pick}
+use Rattle.kit.specs.Out.{Out, _&_}
+use Rattle.rules.specs.Tools.{if_then_else_}
+use Rattle.rules.specs.Versions.{Setting, version1, base, asClaimed}
+use Rattle.rules.specs.Tree.{Scope, flatten}
+use Rattle.rules.specs.Answer.{sameNumbers, rowCount, formBytes, output, accepted}
+use Rattle.rules.specs.Laws.ToolLaws.{false-not}
+use Rattle.rules.specs.Laws.RowLaws.{Bytes}
+use Rattle.rules.specs.Laws.Results.{some-same}
+use Rattle.rules.specs.Laws.Demand3.{base-usual}
+use Rattle.read_form.specs.ReadForm.{readForm}
+use Rattle.read_form.specs.Laws.ReadFormLaws.{not-refused}
+use Rattle.read_form.specs.Laws.OutputLength.{form-length}
+use Rattle.unresolving.specs.Back.{unresolve}
+use Rattle.unresolving.specs.BackAnswer
+use Rattle.unresolving.specs.BackAnswer.{outcome, isOutcome, back, inRoom, backAnswer, over, backOutput}
+use Rattle.unresolving.specs.Laws.Answered.{are-same, outcome-is, back-right, back-complete, back-is, base-settled, base-one}
+use Rattle.checking.specs.CheckAnswer.{cleared}
+use Rattle.refusal.specs.declared.Refusal.{Refusal}
+use Rattle.limits.specs.Held.{setting}
+use Rattle.whole_form.specs.Whole.{formOf}
+use Rattle.whole_form.specs.declared.read.Form.{Form}
+use Rattle.whole_form.specs.declared.read.Form.the-variants.{Whole, Refused as NotWhole}
+use Rattle.whole_form.proofs.Laws.{whole-read}
+use Rattle.resolver.specs.Meaning.{meaning}
+use Rattle.resolver.specs.declared.run.Answer.{Answer}
+use Rattle.resolver.specs.declared.run.Answer.the-variants.{Accepted, Refused}
+use Rattle.unresolve.specs.With.{inputSize, outputSize, backWith, outWith, restoredAfter, againAfter}
+use Rattle.unresolve.specs.Meaning.{returned}
+use Rattle.unresolve.specs.Restored.{restoreT}
+use Rattle.unresolve.specs.Run.{refusedT, Came, giveT, Kept}
+use Rattle.unresolve.specs.declared.run.Back.{Back}
+use Rattle.unresolve.specs.declared.run.Back.the-variants.{Nothing, From}
+use Rattle.unresolve.proofs.Resolves.{one, count-of, claim-long, resolved-is}
+use Rattle.unresolve.proofs.Candidate.{given-read, given-restored}
+
+behind : (k : ℕ) (l : List ℕ) → take (length l - k) (drop k l) ≡ drop k l
+behind k l = take-all (length l - k) (drop k l) (simp length-drop (omega arith))
+
+-- ---- find_input
+
+unread : (form : List ℕ) (why : Refusal) (t : Scope) → NotWhole why ≡ formOf (readForm (asClaimed one) form) → readForm (asClaimed one) form ≡ accepted t → ⊥
+unfolding formOf
+unread form why t e r = let q : NotWhole why ≡ Whole (length (flatten t)) = rw r at e in let z : _≡_ {A = ℕ} 0 1 = cc in absurd (omega arith)
+
+same-outcome : (form : List ℕ) (o : Option (List ℕ)) → o ≡ some form → isOutcome o form ≡ true
+unfolding isOutcome
+same-outcome form o e = rw e (are-same form)
+
+module _ (form : List ℕ) (f : Form) (said : f ≡ formOf (readForm (asClaimed (setting 0)) form)) where
+  pub found-unread : (area : List ℕ) (why : Refusal) → f ≡ NotWhole why → Came Nothing form area
+  unfolding Came
+  found-unread area why e = go (back base form) refl
+    where
+      go : (o : Option (List ℕ)) → back base form ≡ o → o ≡ none
+      go none q = refl
+      go (some x) q = let G = given-read form x q in absurd (unread form why (G .0) (sym e ∙ said) (G .1))
+
+  module _ (rows : ℕ) (e : f ≡ Whole rows) where
+    tree : (t : Scope) × (readForm (asClaimed one) form ≡ accepted t) × (rows ≡ length (flatten t))
+    tree = whole-read (asClaimed one) form rows (sym e ∙ said)
+
+    pub found-header : 8 ≤ length form
+    found-header = omega (arith, claim-long form (tree .0) (tree .1))
+
+    module _ (area a again : List ℕ) (at : ℕ) (long : length area ≡ 16376) (room : length again ≡ 65480) (w : (at & a) ≡ restoreT (take (length form - 8) (drop 8 form)) area) (same : Bool)
+        (compared : same ≡ sameNumbers (take (length form) (output base (take (length a - at) (drop at a)) (set again 0 0))) form) (bytes : Bytes (take (length a - at) (drop at a))) where
+      w′ : (at & a) ≡ restoreT (drop 8 form) area
+      w′ = w ∙ ap (λ (x : List ℕ). restoreT x area) (behind 8 form)
+
+      zero-first : (l : List ℕ) → getD (set l 0 0) 0 0 ≡ 0
+      zero-first [] = refl
+      zero-first (b ∷ l) = refl
+
+      tells : same ≡ isOutcome (outcome base (take (length a - at) (drop at a))) form
+      tells = compared ∙ resolved-is (take (length a - at) (drop at a)) form (set again 0 0) bytes (tree .0) (tree .1) (length-set again 0 0 ∙ room) (zero-first again)
+
+      restored-is : (x : List ℕ) → back base form ≡ some x → take (length a - at) (drop at a) ≡ x
+      restored-is x q = behind at a ∙ given-restored form x (tree .0) (tree .1) q area a at long w′
+
+      pub found-from : same ≡ true → at ≤ 16368 → length a ≡ 16376 → Came (From at) form a
+      unfolding Came
+      found-from t low size =
+          let o = outcome-is (outcome base (take (length a - at) (drop at a))) form (sym tells ∙ t) in
+          let G = back-complete base base-settled form (take (length a - at) (drop at a)) bytes o in
+          (G .is-given ∙ ap {B = Option (List ℕ)} some (sym (sym (behind at a) ∙ restored-is (G .found) (G .is-given))), low, size)
+
+      pub found-not : same ≡ false → Came Nothing form a
+      unfolding Came
+      found-not t = go (back base form) refl
+        where
+          go : (o : Option (List ℕ)) → back base form ≡ o → o ≡ none
+          go none q = refl
+          go (some x) q =
+              let o : outcome base (take (length a - at) (drop at a)) ≡ some form = ap (outcome base) (restored-is x q) ∙ back-right base form x q in
+              false-not (sym t ∙ tells ∙ same-outcome form (outcome base (take (length a - at) (drop at a))) o)
+
+pub ruleset finding = (found-unread, found-header, found-from, found-not, needs)
+
+-- ---- run_in
+
+-- an input that is given has as many rows as its length says
+rows-given : (claim x : List ℕ) → back base claim ≡ some x → length x ≤ 16376 → length x / 16 ≡ rowCount version1 x
+rows-given claim x e few =
+    let B = back-is base claim x e in
+    let v-is = base-one claim (B .0) (B .2) in
+    let u = flatten (unresolve (B .1)) in
+    let x-is : x ≡ formBytes one u = B .4 ∙ ap (λ (s : Setting). formBytes s u) (sym v-is) in
+    let long : length x ≡ 8 + 16 * length u = ap length x-is ∙ form-length one u (base-usual .0) in
+    let count : rowCount version1 (formBytes one u ++ []) ≡ length u = count-of u [] (omega arith) in
+    let counted : rowCount version1 x ≡ length u = ap (rowCount version1) (x-is ∙ sym (append-nil (formBytes one u))) ∙ count in
+    omega arith
+
+module _ (form out a : List ℕ) (b : Back) (k : Came b form a) (e : b ≡ Nothing) where
+  none-given : back base form ≡ none
+  unfolding Came
+  none-given = rw e at k
+
+  pub nothing-said : (r : Answer) → r ≡ refusedT 14 → meaning r ≡ returned (backAnswer base form (length out))
+  unfolding backAnswer inRoom returned
+  nothing-said r q = rw (none-given, q)
+
+  pub nothing-left : out ≡ backOutput base form out
+  unfolding backOutput backAnswer inRoom over
+  nothing-left = rw none-given
+
+answer-of : Out Answer (List ℕ) → Answer
+answer-of (r & o) = r
+
+out-of : Out Answer (List ℕ) → List ℕ
+out-of (r & o) = o
+
+module _ (form out : List ℕ) where
+  module _ (x : List ℕ) (e : back base form ≡ some x) (few : length x ≤ 16376) (r : Answer) (o : List ℕ) (w : (r & o) ≡ giveT x out) where
+    by-room : (b : Bool) → ltb (length out) (length x) ≡ b → (meaning r ≡ returned (backAnswer base form (length out))) × (o ≡ backOutput base form out)
+    unfolding giveT backOutput backAnswer inRoom over returned answer-of out-of if_then_else_ pick
+    by-room true t =
+        let w′ : (r & o) ≡ (refusedT 3 & out) = w ∙ rw t in
+        let p : r ≡ refusedT 3 = ap answer-of w′ in
+        let q : o ≡ out = ap out-of w′ in
+        (rw (e, t, p), rw (e, t) q)
+    by-room false t =
+        let w′ : (r & o) ≡ (Accepted (length x / 16) & sets out 0 x) = w ∙ rw t in
+        let p : r ≡ Accepted (length x / 16) = ap answer-of w′ in
+        let q : o ≡ sets out 0 x = ap out-of w′ in
+        let z : 0 + length x ≡ length x = omega arith in
+        let fits = ltb-false (length out) (length x) t in
+        let s : sets out 0 x ≡ x ++ drop (length x) out = sets-eq x out 0 (omega arith) ∙ ap (λ (k : ℕ). x ++ drop k out) z in
+        (rw (e, t, p, rows-given form x e few), rw (e, t) (q ∙ s))
+
+    pub given-said : meaning r ≡ returned (backAnswer base form (length out))
+    given-said = by-room (ltb (length out) (length x)) refl .0
+
+    pub given-left : o ≡ backOutput base form out
+    given-left = by-room (ltb (length out) (length x)) refl .1
+
+-- the part of the area from its first byte on
+module _ (form a : List ℕ) (at : ℕ) (b : Back) (k : Came b form a) (e : b ≡ From at) where
+  came : (back base form ≡ some (drop at a)) × (at ≤ 16368) × (length a ≡ 16376)
+  unfolding Came
+  came = rw e at k
+
+  pub area-long : at ≤ length a
+  area-long = let c = came in omega (arith, c .1, c .2)
+
+  module _ (out o : List ℕ) (r : Answer) (w : (r & o) ≡ giveT (take (length a - at) (drop at a)) out) where
+    given-out : (r & o) ≡ giveT (drop at a) out
+    given-out = w ∙ ap (λ (x : List ℕ). giveT x out) (behind at a)
+
+    few : length (drop at a) ≤ 16376
+    few = omega (arith, length-drop at a, came .2)
+
+    pub area-said : meaning r ≡ returned (backAnswer base form (length out))
+    area-said = given-said form out (drop at a) (came .0) few r o given-out
+
+    pub area-left : o ≡ backOutput base form out
+    area-left = given-left form out (drop at a) (came .0) few r o given-out
+
+pub ruleset running = (nothing-said, nothing-left, area-long, area-said, area-left, needs)
+
+-- ---- decide
+
+module _ (form out : List ℕ) (restored again : ℕ) where
+  small : (b : Bool) → (ltb restored 16376 || ltb again 65480) ≡ b → b ≡ true → (r : Answer) → r ≡ refusedT 3 → (meaning r ≡ returned (backWith form (length out) restored again)) × (out ≡ outWith form out restored again)
+  unfolding backWith outWith inputSize outputSize over returned if_then_else_
+  small b e t r q = let s : (ltb restored 16376 || ltb again 65480) ≡ true = e ∙ t in (rw (s, q), rw s)
+
+  module _ (r : Answer) (q : r ≡ refusedT 3) where
+    pub first-said : restored < 16376 → meaning r ≡ returned (backWith form (length out) restored again)
+    first-said h = small _ refl (rw (lt-ltb restored 16376 h)) r q .0
+
+    pub second-said : 16376 ≤ restored → again < 65480 → meaning r ≡ returned (backWith form (length out) restored again)
+    second-said g h = small _ refl (rw (le-ltb restored 16376 g, lt-ltb again 65480 h)) r q .0
+
+  pub first-left : restored < 16376 → out ≡ outWith form out restored again
+  first-left h = small _ refl (rw (lt-ltb restored 16376 h)) (refusedT 3) refl .1
+
+  pub second-left : 16376 ≤ restored → again < 65480 → out ≡ outWith form out restored again
+  second-left g h = small _ refl (rw (le-ltb restored 16376 g, lt-ltb again 65480 h)) (refusedT 3) refl .1
+
+  module _ (g : 16376 ≤ restored) (h : 65480 ≤ again) where
+    pub enough-said : (r : Answer) → meaning r ≡ returned (backAnswer base form (length out)) → meaning r ≡ returned (backWith form (length out) restored again)
+    unfolding backWith inputSize outputSize if_then_else_
+    enough-said r p = rw (le-ltb restored 16376 g, le-ltb again 65480 h) p
+
+    pub enough-left : (o : List ℕ) → o ≡ backOutput base form out → o ≡ outWith form out restored again
+    unfolding backWith outWith inputSize outputSize backOutput if_then_else_
+    enough-left o q = rw (le-ltb restored 16376 g, le-ltb again 65480 h) q
+
+pub kept-same : (size : ℕ) (l : List ℕ) → Kept size l l
+kept-same size l = record { long = refl; rest = refl }
+
+pub kept-front : (size : ℕ) (l front : List ℕ) → size ≤ length l → length front ≡ length (take size l) → Kept size l (front ++ drop size l)
+kept-front size l front h k =
+    let t = length-take-le size l h in
+    let a = length-append front (drop size l) in
+    let d = length-drop size l in
+    record { long = omega arith; rest = drop-at front (drop size l) size (omega arith) }
+
+pub front-long : (size : ℕ) (l : List ℕ) → size ≤ length l → size ≡ length (take size l)
+front-long size l h = sym (length-take-le size l h)
+
+pub ruleset deciding = (first-said, second-said, first-left, second-left, enough-said, enough-left, kept-same, kept-front, front-long, needs)
+
+-- ---- unresolve
+
+module _ (form out : List ℕ) (restored again : ℕ) (r s : Answer) (e : r ≡ s) (said : meaning r ≡ returned (backWith form (length out) restored again)) where
+  pub said-again : meaning s ≡ returned (backWith form (length out) restored again)
+  said-again = rw e at said
+
+pub cleared-twice : (size : ℕ) (old mid new : List ℕ) → Kept size old mid → new ≡ cleared size 0 mid → new ≡ cleared size 0 old
+unfolding cleared
+cleared-twice size old mid new K e =
+    let n : length (take size mid) ≡ length (take size old) = length-take size mid ∙ rw (K .long) (sym (length-take size old)) in
+    e ∙ rw (n, K .rest)
+
+pub restored-cleared : (old mid new : List ℕ) → Kept 16376 old mid → new ≡ cleared 16376 0 mid → new ≡ restoredAfter old
+unfolding restoredAfter inputSize
+restored-cleared old mid new K e = cleared-twice 16376 old mid new K e
+
+pub again-cleared : (old mid new : List ℕ) → Kept 65480 old mid → new ≡ cleared 65480 0 mid → new ≡ againAfter old
+unfolding againAfter outputSize
+again-cleared old mid new K e = cleared-twice 65480 old mid new K e

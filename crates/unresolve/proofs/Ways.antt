@@ -1,0 +1,158 @@
+-- Each way through the code but the last comparison.
+use mathlib.Core.Path.{_≡_, refl, sym, ap, _∙_, subst}
+use mathlib.Core.Bool.{Bool, true, false, _&&_}
+use mathlib.Core.List.{List, [], _∷_, _++_, append-nil}
+use native.Mathlib.Omega.{arith}
+use native.Mathlib.Nat.{sub-zero}
+use Prim.Native.Nat.{ℕ, zero, suc, _+_, _-_, _*_, _/_, _≤_, _<_}
+use lib.Dec.{eqb, ltb}
+use lib.ListN.{length, getD, set, take, drop, replicate, length-drop, length-replicate, drop-of-length-le}
+use lib.Seq.{sets, take-all, drop-length, set-out}
+use borrow.Author.Needs.{needs}
+use borrow.Author.Tests.{eq-eqb, ne-eqb, lt-ltb, le-ltb}
+use Rattle.kit.specs.Pick.{pick}
+use Rattle.kit.specs.Out.{_&_}
+use Rattle.kit.proofs.Laws.{left-suc, drop-next}
+use Rattle.rules.specs.Answer.{sameNumbers, headerBytes, output}
+use Rattle.rules.specs.Versions.{base}
+use Rattle.stores.specs.Zeros.{zeroFrom}
+use Rattle.limits.specs.declared.Limits.{Limits}
+use Rattle.limits.specs.Held.{settingIn, limitsOf, setting}
+use Rattle.limits.proofs.Laws.{stand-for}
+use Rattle.names.specs.Table.{Slot, emptySlot}
+use Rattle.index.specs.Indexed.{Holds}
+use Rattle.index.proofs.Storey.{holds-none}
+use Rattle.checking.specs.CheckAnswer.{cleared}
+use Rattle.claim_rows.specs.Left.{rowsAt}
+use Rattle.back_notes.specs.Note.{Note, noNote}
+use Rattle.back_notes.specs.Number.{notesT}
+use Rattle.back_notes.specs.Names.{namesT}
+use Rattle.back_rows.specs.Below.{below}
+use Rattle.back_rows.specs.Write.{startT, backT}
+use Rattle.resolver.specs.declared.run.Answer.{Answer}
+use Rattle.resolver.specs.declared.run.Answer.the-variants.{Accepted}
+use Rattle.unresolve.specs.Restored.{noNotes, notedT, rowsT, headedT, restoreT}
+use Rattle.unresolve.specs.Run.{refusedT, giveT}
+
+-- ---- restore_rows
+
+pub empty-holds : Holds (replicate 1024 emptySlot) (replicate 2048 0) 0
+empty-holds =
+    let l = length-replicate 1024 emptySlot in
+    let n : 2048 ≡ 1024 + length (replicate 1024 emptySlot) = omega arith in
+    subst (λ (k : ℕ). Holds (replicate 1024 emptySlot) (replicate k 0) 0) (sym n) (holds-none (replicate 1024 emptySlot) (replicate 2048 0) (omega arith))
+
+pub rows-restored : (rows out o : List ℕ) (n₁ n₂ : List Note) (r : ℕ) → n₁ ≡ sets (replicate 4092 noNote) 0 (notesT 0 [] [] (rowsAt rows 0)) → n₂ ≡ namesT (length (replicate 1024 emptySlot)) rows n₁
+    → (r & o) ≡ backT (below rows n₂ (length rows / 16)) (startT (length out / 16)) out → (r & o) ≡ rowsT rows out
+unfolding rowsT notedT
+rows-restored rows out o n₁ n₂ r p q w =
+    let e : length (replicate 1024 emptySlot) ≡ 1024 = length-replicate 1024 emptySlot in
+    rw (q, p, e) at w
+
+-- ---- restore
+
+behind : (k : ℕ) (l : List ℕ) → take (length l - k) (drop k l) ≡ drop k l
+behind k l = take-all (length l - k) (drop k l) (simp length-drop (omega arith))
+
+nothing-behind : (k : ℕ) (l : List ℕ) → drop (length l - k) (drop k l) ≡ []
+nothing-behind k l = rw (← length-drop k l) (drop-length (drop k l))
+
+-- the part behind the first bytes is lent, and comes back as `body`
+abbrev put-back : (k : ℕ) (front body : List ℕ) → List ℕ
+put-back k front body = take k front ++ (body ++ drop (length front - k) (drop k front))
+
+put-back-is : (k : ℕ) (front body : List ℕ) → put-back k front body ≡ take k front ++ body
+put-back-is k front body = rw (nothing-behind k front, append-nil)
+
+headed : (front : List ℕ) (to : ℕ) (body o : List ℕ) (count at : ℕ) → count ≡ 1023 - to → at ≡ 16 * (1023 - count) → o ≡ sets (drop at (front ++ body)) 0 (headerBytes (setting 0) count)
+    → (at & take at (front ++ body) ++ o) ≡ headedT front (to & body)
+unfolding headedT
+headed front to body o count at c a e = rw (e, a, c)
+
+pub restored-whole : (rows area body o : List ℕ) (to count : ℕ) (l : Limits) → (to & body) ≡ rowsT rows (take (length area - 8) (drop 8 area)) → count ≡ 1023 - to → l ≡ limitsOf (setting 0)
+    → o ≡ sets (take (length (put-back 8 area body) - 16 * (1023 - count)) (drop (16 * (1023 - count)) (put-back 8 area body))) 0 (headerBytes (settingIn l) count)
+    → (16 * (1023 - count) & put-back (16 * (1023 - count)) (put-back 8 area body) o) ≡ restoreT rows area
+unfolding restoreT
+restored-whole rows area body o to count l w c e p =
+    let at = 16 * (1023 - count) in
+    let a = put-back 8 area body in
+    let is = put-back-is 8 area body in
+    let o-is : o ≡ sets (drop at (take 8 area ++ body)) 0 (headerBytes (setting 0) count) = p ∙ rw (behind at a, is, e, stand-for 0) in
+    let w′ : (to & body) ≡ rowsT rows (drop 8 area) = w ∙ ap (rowsT rows) (behind 8 area) in
+    let put : (at & put-back at a o) ≡ headedT (take 8 area) (to & body) = rw (put-back-is at a o, is) (headed (take 8 area) to body o count at c refl o-is) in
+    put ∙ ap (headedT (take 8 area)) w′
+
+pub ruleset restoring = (rows-restored, restored-whole, needs)
+
+-- ---- begins_with
+
+pub same-length : (a b : List ℕ) → (length a ≡ length b → ⊥) → false ≡ sameNumbers a b
+unfolding sameNumbers
+same-length [] [] h = absurd (h refl)
+same-length [] (y ∷ b) h = refl
+same-length (x ∷ a) [] h = refl
+same-length (x ∷ a) (y ∷ b) h = go (eqb x y) (same-length a b (λ e. h (ap suc e)))
+  where
+    go : (t : Bool) → false ≡ sameNumbers a b → false ≡ t && sameNumbers a b
+    go true e = e
+    go false e = refl
+
+module _ (bytes front : List ℕ) where
+  pub begins-short : length bytes < length front → false ≡ sameNumbers (take (length front) bytes) front
+  begins-short h = same-length (take (length front) bytes) front (λ e. let t = take-all (length front) bytes (omega arith) in omega (arith, ap length t))
+
+  pub begins-start : sameNumbers (take (length front - 0) (drop 0 bytes)) (drop 0 front) ≡ sameNumbers (take (length front) bytes) front
+  begins-start = rw sub-zero
+
+  module _ (k : ℕ) (T : Bool) (inv : sameNumbers (take (length front - k) (drop k bytes)) (drop k front) ≡ T) where
+    module _ (h : k < length front) (l : length front ≤ length bytes) where
+      pub begins-turn : getD bytes k 0 ≡ getD front k 0 → sameNumbers (take (length front - (k + 1)) (drop (k + 1) bytes)) (drop (k + 1) front) ≡ T
+      unfolding sameNumbers
+      begins-turn e = (rw (left-suc k (length front) h, drop-next bytes k 0 (omega arith), drop-next front k 0 h, eq-eqb (getD bytes k 0) (getD front k 0) e) at inv)
+
+      pub begins-not : (getD bytes k 0 ≡ getD front k 0 → ⊥) → false ≡ T
+      unfolding sameNumbers
+      begins-not e = (rw (left-suc k (length front) h, drop-next bytes k 0 (omega arith), drop-next front k 0 h, ne-eqb (getD bytes k 0) (getD front k 0) e) at inv)
+
+    pub begins-end : length front ≤ k → true ≡ T
+    unfolding sameNumbers
+    begins-end h = let z : length front - k ≡ 0 = omega arith in (rw (z, drop-of-length-le front {i = k} h) at inv)
+
+pub ruleset beginning = (begins-short, begins-start, begins-turn, begins-not, begins-end, needs)
+
+-- ---- resolves_to
+
+pub resolves-said : (input claim again a₁ a₂ : List ℕ) (r : Bool) → a₁ ≡ set again 0 0 → a₂ ≡ output base input a₁ → r ≡ sameNumbers (take (length claim) a₂) claim
+    → r ≡ sameNumbers (take (length claim) (output base input (set again 0 0))) claim
+resolves-said input claim again a₁ a₂ r p q e = rw (q, p) at e
+
+-- ---- unmark, give, clear
+
+pub unmark-none : (l : List ℕ) → length l ≤ 0 → l ≡ set l 0 0
+unmark-none l h = sym (set-out l 0 0 h)
+
+module _ (input out : List ℕ) where
+  pub give-short : (r : Answer) → length out < length input → r ≡ refusedT 3 → (r & out) ≡ giveT input out
+  unfolding giveT pick
+  give-short r h e = rw (e, lt-ltb (length out) (length input) h)
+
+  pub give-all : (o : List ℕ) → length input ≤ length out → o ≡ sets out 0 input → (Accepted (length input / 16) & o) ≡ giveT input out
+  unfolding giveT pick
+  give-all o h e = rw (e, le-ltb (length out) (length input) h)
+
+pub ruleset giving = (give-short, give-all, unmark-none, needs)
+
+zeros : (l : List ℕ) → zeroFrom l 0 ≡ replicate (length l) 0
+unfolding zeroFrom
+zeros l = rw sub-zero
+
+module _ (l o : List ℕ) (size : ℕ) where
+  pub cleared-all : length l < size → o ≡ zeroFrom l 0 → o ≡ cleared size 0 l
+  unfolding cleared
+  cleared-all h e = e ∙ zeros l ∙ rw (take-all size l (omega arith), drop-of-length-le l {i = size} (omega arith), append-nil)
+
+  pub cleared-front : o ≡ zeroFrom (take size l) 0 → o ++ drop size l ≡ cleared size 0 l
+  unfolding cleared
+  cleared-front e = rw (e, zeros (take size l))
+
+pub ruleset clearing = (cleared-all, cleared-front, needs)
