@@ -55,7 +55,7 @@ fn say_why(form: &[u8], sheet: &[u8]) {
             STDOUT_FILENO,
             b"refused 15: the second form is not what wnt resolve writes for the first\n",
         ),
-        Resolved::Refused(refusal) => say_refused(STDOUT_FILENO, form, refusal),
+        Resolved::Refused(refusal, _) => say_refused(STDOUT_FILENO, form, refusal),
     }
 }
 
