@@ -29,6 +29,10 @@ fn say_commands(talk: i32) {
     );
     say(
         talk,
+        b"  wnt sheet FORM RESOLVED SHEET\n                          say what each slot of a binding sheet is bound to\n",
+    );
+    say(
+        talk,
         b"  wnt anonymise FORM OUT  write the form to OUT with 1, 2, 3, .. for its names; print the key\n",
     );
     say(
