@@ -41,6 +41,10 @@ fn say_commands(talk: i32) {
     );
     say(
         talk,
+        b"  wnt unresolve RESOLVED OUT  write to OUT an input whose resolved form RESOLVED is\n",
+    );
+    say(
+        talk,
         b"  wnt rows FORM           print the rows of a form as a text that can be edited\n",
     );
     say(

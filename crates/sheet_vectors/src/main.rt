@@ -29,13 +29,7 @@ fn outcome(number: u32, rest: u32) -> usize
     ensures { λ r. ⌜ r < 5 ⌝ }
 {
     match number {
-        0 => {
-            if rest == 0 {
-                PASSES
-            } else {
-                FAILS
-            }
-        }
+        0 => { if rest == 0 { PASSES } else { FAILS } }
         3 => ROOM,
         15 => NOT_ITS_SHEET,
         _ => WRONG,
