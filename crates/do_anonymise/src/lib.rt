@@ -30,9 +30,9 @@ const NAMES: usize = 2048;
 
 // A line of the key: a name of the form, and the name that it has now.
 fn say_pair(talk: i32, old: u32, new: u32) {
-    say_operand(talk, true, old);
+    say_operand(talk, b"", true, old);
     say(talk, b" is now ");
-    say_operand(talk, true, new);
+    say_operand(talk, b"", true, new);
     say(talk, b"\n");
 }
 

@@ -16,14 +16,22 @@ use files::read::Loaded;
 use files::read::load;
 use files::standard::error_noted;
 use files::write::save;
+use json::say_string;
 use known::file::refuse_told;
 use known::file::say_told;
 use libc::STDOUT_FILENO;
 use moved::run::Answer as Listing;
 use moved::run::moved as list_moved;
+use options::given::Given;
+use options::given::JSON;
+use options::given::Options;
+use options::given::has;
+use options::given::read_options;
 use resolver::run::Answer;
 use resolver::run::resolve;
 use view::accepted::say_accepted;
+use view_json::say_answer;
+use view_json::say_size;
 use words::say;
 use words::say_number;
 
@@ -126,47 +134,88 @@ fn check_named(path: &[u8], form: &[u8]) -> u8 {
     said(check_form(form), before)
 }
 
+// The rows and inserted fields are those of the resolved form, if there is one, else of the form as it is.
+fn tell_checked(number: u32, place: u32, form: &[u8]) {
+    say_answer(STDOUT_FILENO, number, place);
+    say_size(STDOUT_FILENO, form);
+    say(STDOUT_FILENO, b"}\n");
+}
+
+// The same as an object of JSON.
+fn tell_form(form: &[u8]) -> u8 {
+    let mut buffer = io::large_buffer();
+    match resolve(form, &mut buffer) {
+        Answer::Accepted(rows) => {
+            tell_checked(0, 0, part(&buffer, bytes_of(rows)));
+            DONE
+        }
+        Answer::Refused(refusal, _) => {
+            tell_checked(refusal.number, refusal.place, form);
+            NO
+        }
+    }
+}
+
+fn tell_named(path: &[u8], form: &[u8]) -> u8 {
+    let before = error_noted();
+    say_string(STDOUT_FILENO, b"{\"file\":", path);
+    said(tell_form(form), before)
+}
+
 // Says whether the form in a file is accepted.
-fn check_path(path: &[u8]) -> u8 {
+fn check_path(path: &[u8], is_json: bool) -> u8 {
     let mut buffer = io::large_buffer();
     match load(path, &mut buffer) {
-        Loaded::Bytes(length) => check_named(path, part(&buffer, length)),
+        Loaded::Bytes(length) => {
+            if is_json {
+                tell_named(path, part(&buffer, length))
+            } else {
+                check_named(path, part(&buffer, length))
+            }
+        }
         Loaded::Failed => FAILED,
     }
 }
 
-fn check_argument(i: usize) -> u8 {
+fn check_argument(i: usize, is_json: bool) -> u8 {
     let mut path = io::buffer();
     let length = os::arg(i, &mut path);
-    check_path(&path[..length])
+    check_path(&path[..length], is_json)
 }
 
-fn check_from(from: usize) -> u8 {
+fn check_from(from: usize, is_json: bool) -> u8 {
     let count = os::arg_count();
     let mut status = DONE;
     let mut i = from;
     while i < count {
-        status = worse(status, check_argument(i));
+        status = worse(status, check_argument(i, is_json));
         i += 1;
     }
     status
 }
 
 // Checks each form, and answers the worst of what they came to.
-fn run_check(first: u8) -> u8 {
-    if has_words(first, 1) {
-        wrong_count(b"wnt check FORM..");
+fn check_with(options: Options) -> u8 {
+    if has_words(options.first, 1) {
+        wrong_count(b"wnt check [--json] FORM..");
         return FAILED;
     }
-    check_from(behind(first, 1))
+    check_from(behind(options.first, 1), has(options.set, JSON))
+}
+
+fn run_check(first: u8) -> u8 {
+    match read_options(first, JSON) {
+        Given::Options(given) => check_with(given),
+        Given::Wrong => FAILED,
+    }
 }
 
 pub fn check_command(task: Task, first: u8) -> u8 {
     match task {
         Task::Run => run_check(first),
         Task::Help => say_topic(
-            b"check FORM..",
-            b"Says of each form whether it is accepted or refused, a line each, and writes no file. The\nexit status is the worst of the forms.\n",
+            b"check [--json] FORM..",
+            b"Says of each form whether it is accepted or refused, a line each, and writes no file. The\nexit status is the worst of the forms. With --json each line is an object.\n",
             b"all are accepted",
             b"one is refused",
             b"check driver.wnt other.wnt",

@@ -11,7 +11,6 @@ use command::status::NO;
 use command::status::said;
 use command::topic::Task;
 use command::topic::say_topic;
-use files::parts::front;
 use files::read::Loaded;
 use files::read::load;
 use files::standard::error_noted;
@@ -21,14 +20,13 @@ use libc::STDOUT_FILENO;
 use resolver::run::Answer;
 use resolver::run::resolve;
 use texts::load::load_text;
+use texts::load::text_part;
 use texts::make::Made;
 use texts::make::make_form;
 use texts::print::print;
 use texts::whole::is_whole;
 use words::say;
 use words::say_number;
-ghost use mathlib.Core.Path.{_≡_};
-ghost use lib.ListN.{take};
 
 // ---- rows
 
@@ -109,13 +107,6 @@ fn form_text(text: &[u8], from: &[u8], to: &[u8]) -> u8 {
         Made::Form(rows) => save_rows(part(&buffer, bytes_of(rows)), rows, to),
         Made::Nothing => said(NO, before),
     }
-}
-
-// The first bytes of a buffer for texts, so many.
-fn text_part(buffer: &[u8; 524289], count: usize) -> &[u8]
-    ensures { λ r. ⌜ now r ≡ take count (now (buffer .entry)) ⌝ }
-{
-    front(buffer, count)
 }
 
 // Turns the text in a file into the form of another file.

@@ -33,6 +33,18 @@ fn say_commands(talk: i32) {
     );
     say(
         talk,
+        b"  wnt diff LEFT RIGHT     say what differs between two forms\n",
+    );
+    say(
+        talk,
+        b"  wnt verify FORM CLAIM   say whether another assembler's output is one of the form, or why not\n",
+    );
+    say(
+        talk,
+        b"  wnt convert FORM VERSION OUT\n                          write the form to OUT as one of version 1 or 2\n",
+    );
+    say(
+        talk,
         b"  wnt anonymise FORM OUT  write the form to OUT with 1, 2, 3, .. for its names; print the key\n",
     );
     say(
@@ -69,6 +81,10 @@ fn help(talk: i32) {
     say(
         talk,
         b"A form is a file of rows, as it is written or as it was resolved.\n",
+    );
+    say(
+        talk,
+        b"Options stand behind the command: --names FILE and --json for show, explain, moved, diff and\nverify, --json for check, --places and --fresh for diff. wnt help COMMAND says more.\n",
     );
     say(
         talk,

@@ -1,12 +1,16 @@
-// A text read whole, if it is no longer than a text of rows need be.
+// A text, or a form of any version, read whole, if it is no longer than a text of rows need be.
 use files::errors::say_failure;
+use files::parts::front;
 use files::parts::is_dash;
 use libc::STDERR_FILENO;
 use libc::STDIN_FILENO;
 use words::say;
+ghost use mathlib.Core.Path.{_≡_};
+ghost use lib.ListN.{take};
 ghost use Rattle.texts.specs.Loaded.{Fits};
 
-// The most bytes of a text: 128 for each line of the longest form, and of what is printed no line has more.
+// The most bytes of a text: 128 for each line of the longest form, and of what is printed no line has more. A form of
+// version 2 has at most half of them.
 const LARGEST: usize = 524288;
 
 // What reading came to: so many bytes, or a sentence on standard error that says why not.
@@ -25,7 +29,7 @@ fn say_long(path: &[u8]) {
     say(STDERR_FILENO, path);
     say(
         STDERR_FILENO,
-        b" has more than the 524288 bytes of the longest text\n",
+        b" has more than the 524288 bytes of the longest file that is read\n",
     );
 }
 
@@ -60,4 +64,11 @@ pub fn load_text(path: &[u8], text: &mut [u8; 524289]) -> Loaded
     let loaded = read_text(file, path, text);
     libc::close(file);
     loaded
+}
+
+// The first bytes of such a buffer, so many.
+pub fn text_part(buffer: &[u8; 524289], count: usize) -> &[u8]
+    ensures { λ r. ⌜ now r ≡ take count (now (buffer .entry)) ⌝ }
+{
+    front(buffer, count)
 }

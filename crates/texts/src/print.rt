@@ -36,7 +36,7 @@ fn say_reference(fd: i32, row: Parts) {
     say(fd, b"refers to ");
     say_space(fd, row.b);
     say(fd, b" ");
-    say_operand(fd, row.e == 1, row.x);
+    say_operand(fd, b"", row.e == 1, row.x);
     if 0 < row.y {
         say(fd, b", paths: ");
         say_number(fd, row.y);
@@ -46,24 +46,24 @@ fn say_reference(fd: i32, row: Parts) {
 // A word, and the name of what may have none.
 fn say_named(fd: i32, word: &[u8], name: u32) {
     say(fd, word);
-    say_name_if_any(fd, name);
+    say_name_if_any(fd, b"", name);
 }
 
 fn say_exported(fd: i32, word: &[u8], name: u32) {
     say(fd, word);
-    say_export(fd, name);
+    say_export(fd, b"", name);
 }
 
 fn say_declared(fd: i32, row: Parts) {
     say(fd, b"declares ");
     say_space(fd, row.b);
-    say_name_if_any(fd, row.x);
+    say_name_if_any(fd, b"", row.x);
 }
 
 fn say_opened(fd: i32, row: Parts) {
     say(fd, b"open ");
     say_scope(fd, row.b);
-    say_name_if_any(fd, row.x);
+    say_name_if_any(fd, b"", row.x);
 }
 
 // What a row of a field says: a reference, a name, a scope.
@@ -75,7 +75,7 @@ fn say_content(fd: i32, row: Parts) {
         4 => say_exported(fd, b"path ", row.x),
         5 => {
             say(fd, b"refers to ");
-            say_outer(fd, row.b, row.e, row.x, row.y);
+            say_outer(fd, b"", row.b, row.e, row.x, row.y);
         }
         6 => say_named(fd, b"case", row.x),
         7 => say_opened(fd, row),

@@ -5,10 +5,10 @@ use Rattle.do_resolve.proofs.check_from.Statement.{statement}
 use Rattle.do_resolve.proofs.check_from.Tie as tie
 
 abbrev Inv-loop : tie.InvT-loop
-Inv-loop from count status₀ i₀ status i = Unit {0}
+Inv-loop from is-json count status₀ i₀ status i = Unit {0}
 
 abbrev μ-loop : tie.MeasureT-loop
-μ-loop from count status₀ i₀ status i = count - i
+μ-loop from is-json count status₀ i₀ status i = count - i
 
 pub check-from-spec : {M : Type 1} → statement M
 check-from-spec =

@@ -5,10 +5,10 @@ use Rattle.do_moved.proofs.entries.say_moved.Statement.{statement}
 use Rattle.do_moved.proofs.entries.say_moved.Tie as tie
 
 abbrev Inv-loop : tie.InvT-loop
-Inv-loop fd form out list count entry₀ entry = Unit {0}
+Inv-loop fd names form out list count entry₀ entry = Unit {0}
 
 abbrev μ-loop : tie.MeasureT-loop
-μ-loop fd form out list count entry₀ entry = count - entry
+μ-loop fd names form out list count entry₀ entry = count - entry
 
 pub say-moved-spec : {M : Type 1} → statement M
 say-moved-spec =

@@ -5,10 +5,10 @@ use Rattle.view.proofs.references.say_path.Statement.{statement}
 use Rattle.view.proofs.references.say_path.Tie as tie
 
 abbrev Inv-loop : tie.InvT-loop
-Inv-loop fd form reference rows row₀ row = Unit {0}
+Inv-loop fd names form reference rows row₀ row = Unit {0}
 
 abbrev μ-loop : tie.MeasureT-loop
-μ-loop fd form reference rows row₀ row = rows - row
+μ-loop fd names form reference rows row₀ row = rows - row
 
 pub say-path-spec : {M : Type 1} → statement M
 say-path-spec =

@@ -1,0 +1,196 @@
+// Rows of a form as objects of JSON, a line each, and what a form is as one more.
+use json::say_count;
+use json::say_null;
+use json::say_string;
+use json::say_truth;
+use name_file::find;
+use readings::Meaning;
+use readings::Reading;
+use readings::final_meaning;
+use readings::meaning_of;
+use readings::reading_of;
+use row_parts::CASE;
+use row_parts::EXPORT;
+use row_parts::PATH;
+use row_parts::b_at;
+use row_parts::code_at;
+use row_parts::e_at;
+use row_parts::field_of;
+use row_parts::inserted_in;
+use row_parts::is_inserted;
+use row_parts::is_reference;
+use row_parts::next;
+use row_parts::rows_in;
+use row_parts::x_at;
+use row_parts::y_at;
+use row_parts::z_at;
+use rows::row::DECL;
+use rows::row::OPEN;
+use scopes::number_of;
+use view::accepted::is_resolved;
+use words::say;
+
+fn say_parts(fd: i32, form: &[u8], row: u16) {
+    say_count(fd, b"{\"row\":", row as u32);
+    say_count(fd, b",\"code\":", code_at(form, row) as u32);
+    say_count(fd, b",\"b\":", b_at(form, row) as u32);
+    say_count(fd, b",\"e\":", e_at(form, row));
+    say_count(fd, b",\"x\":", x_at(form, row));
+    say_count(fd, b",\"y\":", y_at(form, row));
+    say_count(fd, b",\"z\":", z_at(form, row));
+}
+
+// The word that the file has for a name, or for an export name.
+fn say_word(fd: i32, names: &[u8], number: u32, is_export: bool) {
+    let word = find(names, number, is_export);
+    let from = word.from;
+    let to = word.to;
+    if to <= names.len() {
+        if from < to {
+            say_string(fd, b",\"word\":", &names[from..to]);
+            return;
+        }
+    }
+    say_null(fd, b",\"word\":");
+}
+
+// Whether x of a row is an export name.
+fn is_exporting(code: u8) -> bool {
+    (code == PATH) | (code == EXPORT)
+}
+
+// Whether it is a name.
+fn is_naming(form: &[u8], row: u16) -> bool {
+    let code = code_at(form, row);
+    let is_operand = is_reference(form, row) & (e_at(form, row) % 2 == 1);
+    (code == DECL) | (code == CASE) | (code == OPEN) | is_operand
+}
+
+// The word for x, where that is a name or an export name.
+fn say_called(fd: i32, names: &[u8], form: &[u8], row: u16) {
+    let is_export = is_exporting(code_at(form, row));
+    if is_export | is_naming(form, row) {
+        say_word(fd, names, x_at(form, row), is_export);
+    } else {
+        say_null(fd, b",\"word\":");
+    }
+}
+
+// The number of a declaration, in its space and its scope.
+fn say_declared(fd: i32, form: &[u8], row: u16) {
+    if code_at(form, row) == DECL {
+        say_count(fd, b",\"number\":", number_of(form, row));
+    } else {
+        say_null(fd, b",\"number\":");
+    }
+}
+
+fn say_meaning(fd: i32, key: &[u8], form: &[u8], meaning: Meaning) {
+    match meaning {
+        Meaning::At {
+            row,
+            number,
+            out,
+            name: _,
+        } => {
+            say(fd, key);
+            say_count(fd, b"{\"row\":", row as u32);
+            say_count(fd, b",\"space\":", b_at(form, row) as u32);
+            say_count(fd, b",\"number\":", number);
+            say_count(fd, b",\"out\":", out);
+            say(fd, b"}");
+        }
+        Meaning::Nowhere => say_null(fd, key),
+    }
+}
+
+fn say_how(fd: i32, form: &[u8], row: u16) {
+    match reading_of(form, row) {
+        Reading::Outward => say(fd, b",\"reading\":\"outward\""),
+        Reading::LookedUp => say(fd, b",\"reading\":\"looked up\""),
+        Reading::Counting => say(fd, b",\"reading\":\"counting\""),
+    }
+}
+
+// What a reference means, and what in the end, behind an inserted outer alias.
+fn say_reading(fd: i32, form: &[u8], row: u16) {
+    if is_reference(form, row) {
+        say_how(fd, form, row);
+        say_meaning(fd, b",\"meant\":", form, meaning_of(form, row));
+        say_meaning(fd, b",\"finally\":", form, final_meaning(form, row));
+    } else {
+        say_null(fd, b",\"reading\":");
+        say_null(fd, b",\"meant\":");
+        say_null(fd, b",\"finally\":");
+    }
+}
+
+// Writes a row as an object.
+pub fn tell_row(fd: i32, names: &[u8], form: &[u8], row: u16) {
+    say_parts(fd, form, row);
+    say_count(fd, b",\"field\":", field_of(form, row) as u32);
+    say_truth(
+        fd,
+        b",\"inserted\":",
+        is_inserted(form, next(field_of(form, row))),
+    );
+    say_declared(fd, form, row);
+    say_called(fd, names, form, row);
+    say_reading(fd, form, row);
+    say(fd, b"}\n");
+}
+
+// Writes every row as an object.
+pub fn tell_rows(fd: i32, names: &[u8], form: &[u8]) {
+    let rows = rows_in(form);
+    let mut row: u16 = 0;
+    while row < rows {
+        tell_row(fd, names, form, row);
+        row += 1;
+    }
+}
+
+// What the resolver answers: a refusal's number and place, or 0 and 0.
+pub fn say_answer(fd: i32, number: u32, place: u32) {
+    say_truth(fd, b",\"accepted\":", number == 0);
+    say_count(fd, b",\"number\":", number);
+    say_count(fd, b",\"place\":", place);
+}
+
+// How many rows and inserted fields a form has.
+pub fn say_size(fd: i32, form: &[u8]) {
+    say_count(fd, b",\"rows\":", rows_in(form) as u32);
+    say_count(fd, b",\"inserted\":", inserted_in(form));
+}
+
+// Whether a row is a reference with that place; then it is written.
+fn told(fd: i32, names: &[u8], form: &[u8], row: u16, place: u32) -> bool {
+    if is_reference(form, row) {
+        if z_at(form, row) == place {
+            tell_row(fd, names, form, row);
+            return true;
+        }
+    }
+    false
+}
+
+// Writes the references with that place as objects, and answers whether there is one.
+pub fn tell_place(fd: i32, names: &[u8], form: &[u8], place: u32) -> bool {
+    let rows = rows_in(form);
+    let mut is_found = false;
+    let mut row: u16 = 0;
+    while row < rows {
+        is_found = told(fd, names, form, row, place) | is_found;
+        row += 1;
+    }
+    is_found
+}
+
+// Writes what a form is: whether it is resolved already, what the resolver answers to it (a refusal's number and place, or
+// 0 and 0), and how many rows and inserted fields it has.
+pub fn tell_form(fd: i32, form: &[u8], number: u32, place: u32) {
+    say_truth(fd, b"{\"resolved\":", is_resolved(form));
+    say_answer(fd, number, place);
+    say_size(fd, form);
+    say(fd, b"}\n");
+}
