@@ -20,7 +20,7 @@ use refusal::Refusal;
 use texts::load::Loaded;
 use texts::load::load_text;
 use texts::load::text_part;
-use words::refusals::say_plainly;
+use words::refusals::say_meaning;
 use words::refusals::say_where;
 use words::say;
 use words::say_number;
@@ -64,7 +64,7 @@ fn say_why(talk: i32, number: u32) {
             talk,
             b"a scope is opened while as many are open as a version allows",
         ),
-        _ => say_plainly(talk, number),
+        _ => say_meaning(talk, number, 0, 0),
     }
 }
 

@@ -31,7 +31,7 @@ use options::given::has;
 use options::given::read_options;
 use options::names::load_names;
 use refusal::Refusal;
-use words::refusals::say_plainly;
+use words::refusals::say_meaning;
 use words::refusals::say_where;
 use words::say;
 
@@ -53,7 +53,7 @@ fn say_why(number: u32, is_left: bool) {
             STDERR_FILENO,
             b"the row count is 0 or above what a resolved form can have, or the length does not fit it",
         ),
-        _ => say_plainly(STDERR_FILENO, number),
+        _ => say_meaning(STDERR_FILENO, number, 0, 0),
     }
 }
 

@@ -31,6 +31,7 @@ fn say_row(fd: i32, form: &[u8], decl: u16) {
     say(fd, b" declares ");
     say_declaration(
         fd,
+        b"",
         b_at(form, decl),
         number_of(form, decl),
         x_at(form, decl),

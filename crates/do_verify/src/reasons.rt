@@ -22,7 +22,7 @@ use whole_form::read::Form;
 use whole_form::read::read_claim;
 use words::kinds::say_space;
 use words::names::say_operand;
-use words::refusals::say_plainly;
+use words::refusals::say_meaning;
 use words::say;
 use words::say_number;
 
@@ -44,7 +44,7 @@ fn say_no_form(fd: i32, number: u32) {
             fd,
             b"its row count is 0 or above 4092, or its length is not 8 + 16 x rows",
         ),
-        _ => say_plainly(fd, number),
+        _ => say_meaning(fd, number, 0, 0),
     }
 }
 
