@@ -104,9 +104,7 @@ pub fn resolve(form: &[u8], out: &mut [u8]) -> u64 {
 /// The answer of `wnt_resolve_told`, which may write into `out` and `told`.
 pub fn resolve_told(form: &[u8], out: &mut [u8], told: &mut [u32]) -> u64 {
     // SAFETY: as above.
-    unsafe {
-        wnt_resolve_told(form.as_ptr(), form.len(), out.as_mut_ptr(), out.len(), told.as_mut_ptr(), told.len())
-    }
+    unsafe { wnt_resolve_told(form.as_ptr(), form.len(), out.as_mut_ptr(), out.len(), told.as_mut_ptr(), told.len()) }
 }
 
 /// The working areas of `wnt_resolve_with`.

@@ -22,17 +22,16 @@ fn form(name: u32, rows: &[Row]) -> Vec<u8> {
     out
 }
 
-/// The root is 9. An instance 5; the type 3 is that instance's export 7; then the types 4 and 6.
+/// The root is 9. An instance 5 is imported; then come the types 3 and 4.
 fn decoders() -> Vec<u8> {
     form(
         9,
         &[
-            [1, 18, 0, 0, 0, 10],
+            [1, 21, 0, 0, 0, 10],
             [2, 10, 0, 5, 0, 11],
-            [1, 22, 0, 0, 0, 20],
+            [3, 9, 0, 0, 0, 12],
+            [1, 12, 0, 0, 0, 20],
             [2, 9, 0, 3, 0, 21],
-            [3, 9, 1, 5, 1, 22],
-            [4, 0, 0, 7, 0, 0],
             [1, 12, 0, 0, 0, 30],
             [2, 9, 0, 4, 0, 31],
         ],
@@ -53,6 +52,7 @@ fn a_name_of_the_prelude_is_found_one_scope_out() {
     let outer = &got[8 + 16 * 3..8 + 16 * 4];
     assert_eq!((outer[0], outer[1]), (5, 9));
     assert_eq!(u32::from_le_bytes([outer[4], outer[5], outer[6], outer[7]]), 1);
+    assert_eq!(u32::from_le_bytes([outer[8], outer[9], outer[10], outer[11]]), 1);
     let fresh = &got[8 + 16 * 2..8 + 16 * 3];
     assert_eq!(u32::from_le_bytes([fresh[4], fresh[5], fresh[6], fresh[7]]), 2_147_483_648);
 }
