@@ -448,6 +448,26 @@ uint64_t wnt_sheet(const uint8_t *form, size_t form_len, const uint8_t *resolved
 uint64_t wnt_moved(const uint8_t *form, size_t form_len, uint8_t *out, size_t out_len, uint8_t *moved, size_t moved_len,
                    uint8_t *apart, size_t apart_len);
 
+/* The bytes of the working area of wnt_member: the output of a prelude of as many rows as a form may have. */
+#define WNT_MEMBER_WORK 65480
+
+/* What is added to the number of a prelude's refusal, so that it is told from the member's own. */
+#define WNT_OF_PRELUDE 200u
+
+/* Resolves a member into `out` as if its root lay inside the root of the resolved prelude. Names are looked for in that
+ * root too, behind the member's own, counts grow by one scope, fresh names start again, and the member may open 31
+ * scopes, its root included. What is answered and written depends on the prelude, the member and the length of `out`
+ * alone.
+ *
+ * Both are inputs of version 1. A refused prelude is answered with its number plus WNT_OF_PRELUDE and its place, and `out`
+ * is as it was; so is a working area that is too short, with 3 plus WNT_OF_PRELUDE behind the prelude's 1 and 2. A member
+ * of another version is refused with 1. For the rest `out` and the answer are those of wnt_resolve.
+ *
+ * After every return the first WNT_MEMBER_WORK bytes of `work`, or all if there are fewer, are zero, and later ones as
+ * they were. The buffers must not overlap. */
+uint64_t wnt_member(const uint8_t *prelude, size_t prelude_len, const uint8_t *member, size_t member_len, uint8_t *out,
+                    size_t out_len, uint8_t *work, size_t work_len);
+
 /* Which declaration the name in a row of a member means, where the member's root lies inside the root of a prelude. Both
  * are inputs, not resolved forms. A walked name is looked for in the scopes of the member around it and then in the
  * prelude's root; a here-only name and the instance where a path begins in their own scope alone; a named index of an

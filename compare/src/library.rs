@@ -61,6 +61,16 @@ unsafe extern "C" {
         links: usize,
     ) -> u64;
     fn wnt_meant(prelude: *const u8, prelude_len: usize, member: *const u8, member_len: usize, row: u32) -> u64;
+    fn wnt_member(
+        prelude: *const u8,
+        prelude_len: usize,
+        member: *const u8,
+        member_len: usize,
+        out: *mut u8,
+        out_len: usize,
+        work: *mut u8,
+        work_len: usize,
+    ) -> u64;
     fn wnt_moved(
         form: *const u8,
         form_len: usize,
@@ -94,9 +104,7 @@ pub fn resolve(form: &[u8], out: &mut [u8]) -> u64 {
 /// The answer of `wnt_resolve_told`, which may write into `out` and `told`.
 pub fn resolve_told(form: &[u8], out: &mut [u8], told: &mut [u32]) -> u64 {
     // SAFETY: as above.
-    unsafe {
-        wnt_resolve_told(form.as_ptr(), form.len(), out.as_mut_ptr(), out.len(), told.as_mut_ptr(), told.len())
-    }
+    unsafe { wnt_resolve_told(form.as_ptr(), form.len(), out.as_mut_ptr(), out.len(), told.as_mut_ptr(), told.len()) }
 }
 
 /// The working areas of `wnt_resolve_with`.
@@ -231,4 +239,12 @@ pub fn sheet(form: &[u8], resolved: &[u8], sheet: &[u8], answers: &mut [u8], wor
             work.len(),
         )
     }
+}
+
+/// The answer of `wnt_member`, which may write into `out` and `work`.
+pub fn member(prelude: &[u8], member: &[u8], out: &mut [u8], work: &mut [u8]) -> u64 {
+    let (form, area) = ((member.as_ptr(), member.len()), (work.as_mut_ptr(), work.len()));
+    // SAFETY: the four parts are valid for their lengths, and the last two apart from all others, for as long as the call
+    // lasts.
+    unsafe { wnt_member(prelude.as_ptr(), prelude.len(), form.0, form.1, out.as_mut_ptr(), out.len(), area.0, area.1) }
 }

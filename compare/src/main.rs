@@ -13,6 +13,7 @@ mod generate;
 mod lent;
 mod library;
 mod meant;
+mod members;
 mod mend;
 mod moved;
 mod names_back;
@@ -73,7 +74,8 @@ compare --check N [--seed S]                   check N claimed outputs, and comp
 compare --check-bench N                        time checking beside resolving, the shortest of N calls each
 compare --check-vectors N [--seed S] > OTHER   write fixed vectors of claims, at most N of each kind and verdict
 compare --told N [--seed S]                    compare on N forms what refusals tell besides
-compare --unresolve N [--seed S]               send N outputs of random forms back to names and round, and damaged ones";
+compare --unresolve N [--seed S]               send N outputs of random forms back to names and round, and damaged ones
+compare --members N [--seed S]                 resolve N members inside preludes, and compare on trees that hold both";
 
 /// The value after `--name`, read as a number.
 fn number(arguments: &[String], name: &str) -> Option<u64> {
@@ -192,6 +194,8 @@ fn main() -> ExitCode {
         names_back::run(&comparison(), number(&arguments, "--seed").unwrap_or(1), outputs)
     } else if let Some(forms) = number(&arguments, "--told") {
         told::run(&comparison(), number(&arguments, "--seed").unwrap_or(1), forms)
+    } else if let Some(pairs) = number(&arguments, "--members") {
+        members::run(&comparison(), number(&arguments, "--seed").unwrap_or(1), pairs)
     } else if let Some(pairs) = number(&arguments, "--builds") {
         builds::run(pairs, number(&arguments, "--seed").unwrap_or(1))
     } else if has("--sensitivity") {

@@ -142,7 +142,7 @@ fn bytes(form: &[Row], version: u64) -> Vec<u8> {
 
 /// A prelude and a member. The member lacks some of its declarations, and the prelude's root has some that the member
 /// names; some preludes have a name by which the member asks for a scope.
-fn pair(shapes: &Shapes, chance: &mut Chance) -> (Vec<Row>, Vec<Row>) {
+pub fn pair(shapes: &Shapes, chance: &mut Chance) -> (Vec<Row>, Vec<Row>) {
     let missing = chance.pick(&[0, 20, 50, 90]);
     let member = lacking(&generate::form(shapes, chance.next()), missing, chance);
     let mut prelude = generate::form(shapes, chance.next());

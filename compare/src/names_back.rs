@@ -201,7 +201,8 @@ struct Counts {
 
 /// An output that must go round; whether it did.
 fn try_output(claim: &[u8], chance: &mut Chance, counts: &mut Counts) -> bool {
-    counts.inserted += rows::decode(claim).iter().filter(|row| row.code == DECL && row.x >= FIRST_INSERTED).count() as u64;
+    counts.inserted +=
+        rows::decode(claim).iter().filter(|row| row.code == DECL && row.x >= FIRST_INSERTED).count() as u64;
     let Some((answer, out)) = unresolved(claim, RESTORED + chance.below(9)) else { return false };
     if !goes_round(claim, answer, &out) {
         return false;

@@ -21,8 +21,8 @@
 
 #![warn(missing_docs)]
 
-mod bindings;
 mod back;
+mod bindings;
 mod builds;
 mod claims;
 mod members;
@@ -30,20 +30,19 @@ mod mending;
 mod numbers;
 mod refusal;
 mod rows;
-mod versions;
 mod space;
+mod versions;
 
-pub use bindings::{sheet, sheet_bytes, sheet_into, Binding, Slot, ANSWER_SIZE, MAX_SLOTS, SHEET_AREA_SIZE, SLOT_SIZE};
 pub use back::{unresolve, unresolve_into};
+pub use bindings::{sheet, sheet_bytes, sheet_into, Binding, Slot, ANSWER_SIZE, MAX_SLOTS, SHEET_AREA_SIZE, SLOT_SIZE};
 pub use builds::{compare, Choice, Entry, Kind};
 pub use claims::{check, check_with, Condition, Verdict, CHECK_LINKS, CHECK_SLOTS};
-pub use members::{meant, Meant, Of};
+pub use members::{meant, member, Meant, Of, Refused};
 pub use mending::{mend, Change};
 pub use numbers::{moved, Apart, Moved, Numbers};
 pub use refusal::Refusal;
 pub use rows::{component, rows, Builder, Field, Name, Operand, Row, Scope, Space};
 pub use versions::{convert, resolve_into_with, resolve_with, Version, WorkingArea};
-pub use space::Space;
 
 /// The bytes of a form's header.
 pub const HEADER_SIZE: usize = 8;

@@ -1,8 +1,21 @@
-//! Members inside a prelude: which declaration a name means.
+//! Members inside a prelude: one of them resolved, and which declaration a name means.
 
-use crate::{HEADER_SIZE, ROW_SIZE};
+use crate::{form_size, out_size, rows_in, Refusal, HEADER_SIZE, MAX_OUT_SIZE, ROW_SIZE};
+
+/// What the library adds to the number of a prelude's refusal.
+const OF_PRELUDE: u32 = 200;
 
 extern "C" {
+    fn wnt_member(
+        prelude: *const u8,
+        prelude_len: usize,
+        member: *const u8,
+        member_len: usize,
+        out: *mut u8,
+        out_len: usize,
+        work: *mut u8,
+        work_len: usize,
+    ) -> u64;
     fn wnt_meant(prelude: *const u8, prelude_len: usize, member: *const u8, member_len: usize, row: u32) -> u64;
 }
 
@@ -13,6 +26,46 @@ pub enum Of {
     Member,
     /// The prelude in whose root it lies.
     Prelude,
+}
+
+/// Which of the two forms is refused, and why.
+#[derive(Clone, Copy, Debug, PartialEq, Eq, Hash)]
+pub struct Refused {
+    /// The form.
+    pub of: Of,
+    /// Its refusal.
+    pub why: Refusal,
+}
+
+/// Resolves a member as if its root lay inside the root of the resolved prelude, and gives the resolved member.
+///
+/// Both are inputs of version 1. What is given depends on these two alone, and on nothing of another member.
+pub fn member(prelude: &[u8], member: &[u8]) -> Result<Vec<u8>, Refused> {
+    let mut out = vec![0; out_size(rows_in(member))];
+    let mut work = vec![0; MAX_OUT_SIZE];
+    // SAFETY: the buffers are valid for their lengths while the call lasts, and `out` and `work` overlap nothing, since
+    // they are new. The library writes to these two only and keeps no pointer.
+    let answer = unsafe {
+        wnt_member(
+            prelude.as_ptr(),
+            prelude.len(),
+            member.as_ptr(),
+            member.len(),
+            out.as_mut_ptr(),
+            out.len(),
+            work.as_mut_ptr(),
+            work.len(),
+        )
+    };
+    let (number, rest) = ((answer >> 32) as u32, answer as u32);
+    match number {
+        0 => {
+            out.truncate(form_size(rest as usize));
+            Ok(out)
+        }
+        OF_PRELUDE.. => Err(Refused { of: Of::Prelude, why: Refusal::of(number - OF_PRELUDE, rest) }),
+        _ => Err(Refused { of: Of::Member, why: Refusal::of(number, rest) }),
+    }
 }
 
 /// A declaration that a name means.

@@ -102,7 +102,7 @@ impl Refusal {
 
     /// The same with what the library tells besides: the space, and the place of the first declaration.
     pub(crate) fn told(number: u32, place: u32, told: [u32; 2]) -> Refusal {
-        let space = Space::of(told[0]);
+        let space = u8::try_from(told[0]).ok().and_then(Space::of);
         match number {
             6 => Refusal::DuplicateName { place, space, first: Some(told[1]) },
             8 => Refusal::NotOuter { place, space },

@@ -67,5 +67,5 @@ fn refusals_are_those_of_resolve() {
     }
     let mut unknown = inner(0);
     unknown[8 + 8 * 16 + 4] = 200;
-    assert_eq!(moved(&unknown), Err(Refusal::UnknownName { place: 70 }));
+    assert_eq!(moved(&unknown), Err(Refusal::UnknownName { place: 70, space: None }));
 }

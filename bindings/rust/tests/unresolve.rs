@@ -21,7 +21,14 @@ const CLOSE: [u32; 6] = [8, 0, 0, 0, 0, 0];
 
 /// Type 1 of the root, and a component inside it whose type has these rows.
 fn inside(rows: &[[u32; 6]]) -> Vec<u8> {
-    let mut all = vec![OPEN, [1, 12, 0, 0, 0, 0], [2, 9, 0, 1, 0, 0], [1, 6, 0, 0, 0, 0], [2, 11, 0, 2, 0, 0], [7, 0, 0, 2, 0, 0]];
+    let mut all = vec![
+        OPEN,
+        [1, 12, 0, 0, 0, 0],
+        [2, 9, 0, 1, 0, 0],
+        [1, 6, 0, 0, 0, 0],
+        [2, 11, 0, 2, 0, 0],
+        [7, 0, 0, 2, 0, 0],
+    ];
     all.extend(rows);
     all.extend([CLOSE, CLOSE]);
     form(&all)

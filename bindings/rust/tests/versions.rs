@@ -50,7 +50,10 @@ fn version_1_is_resolved_as_without_an_area() {
     let driver = example("driver/driver");
     assert_eq!(resolve_with(&driver, &mut WorkingArea::new(Version::One)), resolve(&driver));
     assert_eq!(resolve_with(&driver, &mut second()), resolve(&driver));
-    assert_eq!(resolve_with(&example("refused/9"), &mut second()), Err(Refusal::UnknownName { place: 70 }));
+    assert_eq!(
+        resolve_with(&example("refused/9"), &mut second()),
+        Err(Refusal::UnknownName { place: 70, space: None })
+    );
 }
 
 #[test]
@@ -70,7 +73,9 @@ fn an_area_is_used_again_and_again() {
     for _ in 0..3 {
         assert_eq!(resolve_with(&driver, &mut area), resolve(&driver));
         assert_eq!(resolve_with(&customs(16_383), &mut area), Ok(customs(16_383)));
-        assert_eq!(resolve_with(&example("refused/6"), &mut area), resolve(&example("refused/6")));
+        // which does not tell what `resolve` tells besides
+        let why = Refusal::DuplicateName { place: 20, space: None, first: None };
+        assert_eq!(resolve_with(&example("refused/6"), &mut area), Err(why));
     }
 }
 

@@ -1,3 +1,4 @@
+pub mod Called
 pub mod Conversions
 pub mod Declarations
 pub mod Lists

@@ -1,7 +1,14 @@
 // The C functions for members inside a prelude.
 use meant::Declared;
 use meant::meant_at;
+use member::member as resolve_member;
+use refusal::Refusal;
 ghost use mathlib.Core.Path.{_≡_};
+ghost use Prim.Native.Nat.{_+_, _*_};
+ghost use lib.Dec.{ltb};
+ghost use lib.ListN.{length};
+ghost use Rattle.rules.specs.Versions.{base};
+ghost use Rattle.batching.specs.BatchCalls.{memberCall, memberLeaves, cleared};
 ghost use Rattle.ferhevok.specs.Meant.{packedDeclared, meantRow};
 
 // The highest row that a form can number.
@@ -27,4 +34,21 @@ pub extern "C" fn wnt_meant(prelude: &[u8], member: &[u8], row: u32) -> u64
         return 0;
     }
     packed_declared(meant_at(prelude, member, row as u16))
+}
+
+// A number times 2^32 plus a place.
+fn packed_said(said: Refusal) -> u64
+    ensures { λ r. ⌜ r ≡ said .number * 4294967296 + said .place ⌝ }
+{
+    (said.number as u64) * 4294967296 + (said.place as u64)
+}
+
+// Resolves one member as if its root lay inside the resolved prelude's root. `work` is where the prelude is resolved.
+#[no_mangle]
+pub extern "C" fn wnt_member(prelude: &[u8], member: &[u8], out: &mut [u8], work: &mut [u8]) -> u64
+    ensures { λ r. ⌜ r ≡ memberCall base (ltb (length (now (work .entry))) 65480) (now (prelude .entry)) 65480 (now (member .entry)) (length (now (out .entry))) ⌝ }
+    ensures { λ _. ⌜ now (out .exit) ≡ memberLeaves base (ltb (length (now (work .entry))) 65480) (now (prelude .entry)) 65480 (now (member .entry)) (now (out .entry)) ⌝ }
+    ensures { λ _. ⌜ now (work .exit) ≡ cleared 0 65480 (now (work .entry)) ⌝ }
+{
+    packed_said(resolve_member(prelude, member, out, work))
 }

@@ -1,0 +1,161 @@
+//! Members inside a prelude, against the crate on trees where the member is put into the prelude's root as its last field.
+
+use crate::chance::Chance;
+use crate::compare::Comparison;
+use crate::library;
+use crate::meant::pair;
+use crate::rows::{self, Answer, CLOSE, DECL, FIELD, HEADER, OPEN, OUTER, REF, Row, output_size};
+use std::collections::BTreeMap;
+
+/// The bytes of the working area.
+const WORK: usize = 65480;
+
+/// What is added to the number of a prelude's refusal.
+const OF_PRELUDE: u32 = 200;
+
+/// The first name of an insertion.
+const FRESH: u32 = 1 << 31;
+
+/// The space of components, and the code of the field that holds one.
+const COMPONENT: u8 = 11;
+const HOLDS: u8 = 6;
+
+/// Whether a form names a component so, or its root declares one.
+fn has_component(form: &[Row], name: u32) -> bool {
+    form.iter().any(|r| match r.code {
+        DECL | REF => r.b == COMPONENT && r.x == name,
+        OUTER => r.b == COMPONENT && r.y == name,
+        _ => false,
+    })
+}
+
+/// The prelude with the member as its last field.
+fn joined(prelude: &[Row], member: &[Row]) -> Vec<Row> {
+    let mut tree = prelude[..prelude.len() - 1].to_vec();
+    tree.push(Row::new(FIELD, HOLDS, 0, 0, 0, 0));
+    tree.push(Row::new(DECL, COMPONENT, 0, member[0].x, 0, 0));
+    tree.extend_from_slice(member);
+    tree.push(Row::new(CLOSE, 0, 0, 0, 0, 0));
+    tree
+}
+
+/// How many scopes lie one in another at the most.
+fn depth(form: &[Row]) -> usize {
+    let mut open = 0;
+    let mut most = 0;
+    for row in form {
+        match row.code {
+            OPEN => open += 1,
+            CLOSE => open -= 1,
+            _ => {}
+        }
+        most = most.max(open);
+    }
+    most
+}
+
+/// The rows of the scope that the last field of a form holds. Insertions are numbered from the first again: so many came
+/// before it.
+fn last_scope(tree: &[Row], before: u32) -> Vec<Row> {
+    let mut open = 0;
+    let mut start = 0;
+    for (at, row) in tree.iter().enumerate() {
+        match row.code {
+            OPEN => {
+                open += 1;
+                if open == 2 {
+                    start = at;
+                }
+            }
+            CLOSE => open -= 1,
+            _ => {}
+        }
+    }
+    let mut rows = tree[start..tree.len() - 1].to_vec();
+    for row in &mut rows {
+        if row.code == DECL && row.x >= FRESH {
+            row.x -= before;
+        }
+    }
+    rows
+}
+
+/// What is expected of a member.
+fn expected(comparison: &Comparison, prelude: &[Row], member: &[Row], choice: u64) -> Answer {
+    match comparison.oracle.answer(prelude, choice) {
+        Answer::Refused { number, place } => Answer::refused(OF_PRELUDE + number, place),
+        Answer::Panicked => Answer::Panicked,
+        Answer::Accepted(resolved) => {
+            let inserted = resolved.iter().filter(|r| r.code == DECL && r.x >= FRESH).count() as u32;
+            match comparison.oracle.answer(&joined(prelude, member), choice) {
+                Answer::Accepted(tree) => Answer::Accepted(last_scope(&tree, inserted)),
+                other => other,
+            }
+        }
+    }
+}
+
+/// What the output holds then.
+fn output(answer: &Answer, member: &[Row], old: &[u8]) -> Vec<u8> {
+    let size = output_size(member.len());
+    let mut out = old.to_vec();
+    match answer {
+        Answer::Accepted(rows) => {
+            let form = rows::encode(rows);
+            out[..size].fill(0);
+            out[..form.len()].copy_from_slice(&form);
+        }
+        Answer::Refused { number, .. } if (6..OF_PRELUDE).contains(number) => out[..size].fill(0),
+        _ => {}
+    }
+    out
+}
+
+/// Bytes to begin with.
+fn filled(len: usize, chance: &mut Chance) -> Vec<u8> {
+    let byte = chance.next() as u8 | 1;
+    vec![byte; len]
+}
+
+/// Resolves so many members, and prints a summary line; answers whether there was no difference.
+pub fn run(comparison: &Comparison, seed: u64, pairs: u64) -> bool {
+    let mut found: BTreeMap<u32, u64> = BTreeMap::new();
+    let mut tried = 0;
+    let mut number = 0;
+    while tried < pairs {
+        let mut chance = Chance::new(seed.rotate_left(32) ^ number);
+        number += 1;
+        let (prelude, mut member) = pair(&comparison.shapes, &mut chance);
+        if has_component(&prelude, member[0].x) || has_component(&member, member[0].x) {
+            member[0].x = 0;
+        }
+        if prelude.len() > 1023 || member.len() > 1023 || depth(&prelude) > 32 || depth(&member) > 31 {
+            continue;
+        }
+        let answer = expected(comparison, &prelude, &member, chance.next());
+        if answer == Answer::Panicked {
+            continue;
+        }
+        tried += 1;
+        let old = filled(output_size(member.len()) + chance.below(80), &mut chance);
+        let mut work = filled(WORK + chance.below(80), &mut chance);
+        let behind = work[WORK..].to_vec();
+        let mut out = old.clone();
+        let packed = library::member(&rows::encode(&prelude), &rows::encode(&member), &mut out, &mut work);
+        let clear = work[..WORK].iter().all(|b| *b == 0) && work[WORK..] == behind;
+        if packed != answer.packed() || out != output(&answer, &member, &old) || !clear {
+            println!("pair {} of seed {seed}: {packed:#x} and not {:#x}", number - 1, answer.packed());
+            println!("  {} rows of output, area cleared: {clear}", rows::decode(&out[..HEADER.max(out.len())]).len());
+            prelude.iter().for_each(|r| println!("  {r}"));
+            println!("  and the member");
+            member.iter().for_each(|r| println!("  {r}"));
+            return false;
+        }
+        *found.entry((packed >> 32) as u32).or_default() += 1;
+    }
+    for (refusal, members) in found {
+        println!("{members} members: {}", if refusal == 0 { "accepted".into() } else { format!("refusal {refusal}") });
+    }
+    println!("{pairs} members resolved, 0 differences");
+    true
+}
