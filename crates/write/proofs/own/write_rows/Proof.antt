@@ -6,7 +6,7 @@ use borrow.Author.Needs.{needs}
 use Rattle.index.specs.Indexed.{Holds}
 use Rattle.write.specs.Own.{ownT}
 use Rattle.write.proofs.LawsOwn.{ways, own-turn}
-use Rattle.write.proofs.LawsWithin.{seen-done, seen-same}
+use Rattle.write.proofs.LawsWithin.{seen-done, seen-same, stopped}
 use Rattle.write.proofs.own.write_rows.Statement.{statement}
 use Rattle.write.proofs.own.write_rows.Tie as tie
 
@@ -35,12 +35,12 @@ write-rows-spec =
     (λ c κs. (c .before .before .before .before .before .before .before .before .before .before .before .pre .0, c .before .before .before .before .before .before .loop .inv .1))  -- write-row-requires
     (λ c. search needs)  -- enum-known-t
     (λ c. search needs)  -- loop-less
-    (λ c. (own-turn _ _ _ _ _ _ _ _ _ _ (c .before .before .before .before .before .before .before .before .before .before .before .before .before .before .before .loop .inv .0) (c .before .before .before .before .before .before .before .before .before .before .before .before .before .before .loop-test .taken) _ (c .before .before .before .before .before .before .before .before .before .before .before .before .before .code-at .ensures) (c .before .before .before .before .before .before .before .before .before .before .before .before .if1 .left) _ _ _ (c .before .before .before .before .before .before .before .before .write-row .ensures .0) _ (c .before .t .given .1), seen-done _ _ _ _ (c .before .t .given .1) (c .before .before .before .before .before .before .before .before .write-row .ensures .1), search needs, search needs, search needs))  -- loop-again
+    (λ c. (own-turn _ _ _ _ _ _ _ _ _ _ (c .before .before .before .before .before .before .before .before .before .before .before .before .before .before .before .loop .inv .0) (c .before .before .before .before .before .before .before .before .before .before .before .before .before .before .loop-test .taken) _ (c .before .before .before .before .before .before .before .before .before .before .before .before .before .code-at .ensures) (c .before .before .before .before .before .before .before .before .before .before .before .before .if1 .left) _ _ _ (c .before .before .before .before .before .before .before .before .write-row .ensures .0) _ (c .before .walked .given .1), seen-done _ _ _ _ (c .before .walked .given .1) (c .before .before .before .before .before .before .before .before .write-row .ensures .1), search needs, search needs, search needs))  -- loop-again
     (λ c. search needs)  -- enum-known-number
     (λ c. search needs)  -- same-length-4
     (λ c. search needs)  -- same-length-5
     (λ c. search needs)  -- same-length-6
-    (λ c. (search ways, tt))  -- returns-2
+    (λ c. (search ways, search stopped))  -- returns-2
     (λ c κs. search needs)  -- row-number-requires-2
     (λ c. search needs)  -- cast-arrived-2
     (λ c κs. search needs)  -- arrived-requires-2
