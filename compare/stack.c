@@ -44,12 +44,26 @@ static void convert(void) { answer = wnt_convert(form, form_len, 2, list, sizeof
 
 static void meant(void) { answer = wnt_meant(form, form_len, form, form_len, 5); }
 
+/* The form is its own prelude and member. */
+static void member(void)
+{
+    answer = wnt_member(form, form_len, form, form_len, list, sizeof list, out, WNT_MEMBER_WORK);
+}
+
+static void batch(void)
+{
+    uint32_t length = (uint32_t)form_len;
+    uint8_t answers[WNT_MEMBER_ANSWER_SIZE];
+    answer = wnt_batch(form, form_len, form, form_len, &length, 1, out, sizeof out, list, sizeof list, answers, sizeof answers);
+}
+
 static const struct {
     const char *name;
     void (*call)(void);
 } calls[] = {
     {"wnt_resolve", resolve}, {"wnt_check", check}, {"wnt_moved", list_moved}, {"wnt_resolve_with", resolve_with},
     {"wnt_mend", mend},       {"wnt_compare", compare}, {"wnt_convert", convert}, {"wnt_meant", meant},
+    {"wnt_member", member},   {"wnt_batch", batch},
 };
 
 /* The bytes of the stack that were touched by one call. */

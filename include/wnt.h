@@ -165,8 +165,9 @@ static inline const char *wnt_text(uint32_t number)
 
 /* The stack that is enough for any call on a form of version 1. Measured on x86-64 (compare/stack.c) at the driver of the
  * examples and at 32 open scopes: wnt_resolve 66,432 and 90,360 bytes, wnt_moved 66,656 and 90,584, wnt_check 71,472 and
- * 95,400, wnt_resolve_with 10,400 and 28,184, wnt_mend 24,160, wnt_compare 8,032, wnt_convert 7,888, wnt_meant 528. It does
- * not depend on the rows. */
+ * 95,400, wnt_resolve_with 10,400 and 28,184, wnt_mend 24,160, wnt_compare 8,032, wnt_convert 7,888, wnt_meant 528; at the
+ * driver in itself and at 31 open scopes: wnt_member 97,056 and 120,728, wnt_batch 97,088 and 120,760. It does not depend
+ * on the rows. */
 #define WNT_STACK_SIZE 131072
 
 /* The answer's upper half: one of the numbers above. */
@@ -467,6 +468,27 @@ uint64_t wnt_moved(const uint8_t *form, size_t form_len, uint8_t *out, size_t ou
  * they were. The buffers must not overlap. */
 uint64_t wnt_member(const uint8_t *prelude, size_t prelude_len, const uint8_t *member, size_t member_len, uint8_t *out,
                     size_t out_len, uint8_t *work, size_t work_len);
+
+/* The most members of a batch, and the bytes of the answer to one. */
+#define WNT_MAX_MEMBERS 8
+#define WNT_MEMBER_ANSWER_SIZE 8
+
+/* Resolves a batch: the prelude into `prelude_out` as wnt_resolve does, and each member inside its root as wnt_member
+ * does. `members` holds 1 to WNT_MAX_MEMBERS inputs one behind another, and `lengths` how many bytes each has. Each member
+ * has an equal share of `outs`, by position: `outs_len` divided by their number, rounded down. Its answer, which is like
+ * that of wnt_resolve, goes into WNT_MEMBER_ANSWER_SIZE bytes of `answers`, by position too, little endian. Bytes behind
+ * the last share and the last answer never change.
+ *
+ * The answer is that of wnt_resolve for the prelude; if it is refused, `outs` and `answers` are as they were. Ahead of all
+ * else come 2, place 0, where there is no member, or more than WNT_MAX_MEMBERS, or the lengths do not add up to
+ * `members_len`, and 3, place 0, where `answers` is shorter than the answers: then `prelude_out` is as it was, too.
+ *
+ * What a member is answered, and its share, depend on the prelude, the member and the length of the share alone: of a
+ * member that is refused, or too long, the others notice nothing. A member whose version or rule set is not the prelude's
+ * is refused with 1. No two of the buffers may overlap. */
+uint64_t wnt_batch(const uint8_t *prelude, size_t prelude_len, const uint8_t *members, size_t members_len,
+                   const uint32_t *lengths, size_t lengths_len, uint8_t *prelude_out, size_t prelude_out_len,
+                   uint8_t *outs, size_t outs_len, uint8_t *answers, size_t answers_len);
 
 /* Which declaration the name in a row of a member means, where the member's root lies inside the root of a prelude. Both
  * are inputs, not resolved forms. A walked name is looked for in the scopes of the member around it and then in the

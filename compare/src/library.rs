@@ -61,6 +61,20 @@ unsafe extern "C" {
         links: usize,
     ) -> u64;
     fn wnt_meant(prelude: *const u8, prelude_len: usize, member: *const u8, member_len: usize, row: u32) -> u64;
+    fn wnt_batch(
+        prelude: *const u8,
+        prelude_len: usize,
+        members: *const u8,
+        members_len: usize,
+        lengths: *const u32,
+        lengths_len: usize,
+        prelude_out: *mut u8,
+        prelude_out_len: usize,
+        outs: *mut u8,
+        outs_len: usize,
+        answers: *mut u8,
+        answers_len: usize,
+    ) -> u64;
     fn wnt_member(
         prelude: *const u8,
         prelude_len: usize,
@@ -247,4 +261,36 @@ pub fn member(prelude: &[u8], member: &[u8], out: &mut [u8], work: &mut [u8]) ->
     // SAFETY: the four parts are valid for their lengths, and the last two apart from all others, for as long as the call
     // lasts.
     unsafe { wnt_member(prelude.as_ptr(), prelude.len(), form.0, form.1, out.as_mut_ptr(), out.len(), area.0, area.1) }
+}
+
+/// The buffers of a batch: the prelude's output, the members' and that of their answers.
+#[derive(Clone, PartialEq)]
+pub struct Buffers {
+    pub prelude: Vec<u8>,
+    pub outs: Vec<u8>,
+    pub answers: Vec<u8>,
+}
+
+/// The answer of `wnt_batch`, which may write into the buffers.
+pub fn batch(prelude: &[u8], members: &[Vec<u8>], into: &mut Buffers) -> u64 {
+    let lengths: Vec<u32> = members.iter().map(|member| member.len() as u32).collect();
+    let all = members.concat();
+    // SAFETY: the six parts are valid for their lengths, and the last three apart from all others, for as long as the call
+    // lasts.
+    unsafe {
+        wnt_batch(
+            prelude.as_ptr(),
+            prelude.len(),
+            all.as_ptr(),
+            all.len(),
+            lengths.as_ptr(),
+            lengths.len(),
+            into.prelude.as_mut_ptr(),
+            into.prelude.len(),
+            into.outs.as_mut_ptr(),
+            into.outs.len(),
+            into.answers.as_mut_ptr(),
+            into.answers.len(),
+        )
+    }
 }

@@ -1,6 +1,7 @@
 //! Runs the proved resolver and the resolver of the crate wast 262.0.0 side by side.
 
 mod back;
+mod batches;
 mod bench;
 mod builds;
 mod cases;
@@ -75,7 +76,8 @@ compare --check-bench N                        time checking beside resolving, t
 compare --check-vectors N [--seed S] > OTHER   write fixed vectors of claims, at most N of each kind and verdict
 compare --told N [--seed S]                    compare on N forms what refusals tell besides
 compare --unresolve N [--seed S]               send N outputs of random forms back to names and round, and damaged ones
-compare --members N [--seed S]                 resolve N members inside preludes, and compare on trees that hold both";
+compare --members N [--seed S]                 resolve N members inside preludes, and compare on trees that hold both
+compare --batches N [--seed S]                 the same for N batches, and each member again among other neighbours";
 
 /// The value after `--name`, read as a number.
 fn number(arguments: &[String], name: &str) -> Option<u64> {
@@ -196,6 +198,8 @@ fn main() -> ExitCode {
         told::run(&comparison(), number(&arguments, "--seed").unwrap_or(1), forms)
     } else if let Some(pairs) = number(&arguments, "--members") {
         members::run(&comparison(), number(&arguments, "--seed").unwrap_or(1), pairs)
+    } else if let Some(batches) = number(&arguments, "--batches") {
+        batches::run(&comparison(), number(&arguments, "--seed").unwrap_or(1), batches)
     } else if let Some(pairs) = number(&arguments, "--builds") {
         builds::run(pairs, number(&arguments, "--seed").unwrap_or(1))
     } else if has("--sensitivity") {

@@ -81,7 +81,7 @@ fn last_scope(tree: &[Row], before: u32) -> Vec<Row> {
 }
 
 /// What is expected of a member.
-fn expected(comparison: &Comparison, prelude: &[Row], member: &[Row], choice: u64) -> Answer {
+pub fn expected(comparison: &Comparison, prelude: &[Row], member: &[Row], choice: u64) -> Answer {
     match comparison.oracle.answer(prelude, choice) {
         Answer::Refused { number, place } => Answer::refused(OF_PRELUDE + number, place),
         Answer::Panicked => Answer::Panicked,
@@ -96,7 +96,7 @@ fn expected(comparison: &Comparison, prelude: &[Row], member: &[Row], choice: u6
 }
 
 /// What the output holds then.
-fn output(answer: &Answer, member: &[Row], old: &[u8]) -> Vec<u8> {
+pub fn output(answer: &Answer, member: &[Row], old: &[u8]) -> Vec<u8> {
     let size = output_size(member.len());
     let mut out = old.to_vec();
     match answer {
@@ -112,9 +112,22 @@ fn output(answer: &Answer, member: &[Row], old: &[u8]) -> Vec<u8> {
 }
 
 /// Bytes to begin with.
-fn filled(len: usize, chance: &mut Chance) -> Vec<u8> {
+pub fn filled(len: usize, chance: &mut Chance) -> Vec<u8> {
     let byte = chance.next() as u8 | 1;
     vec![byte; len]
+}
+
+/// A member that the crate can be asked for as a field of the prelude: its root's name is no component's there.
+pub fn askable(prelude: &[Row], mut member: Vec<Row>) -> Vec<Row> {
+    if has_component(prelude, member[0].x) || has_component(&member, member[0].x) {
+        member[0].x = 0;
+    }
+    member
+}
+
+/// Whether both are within the limits of version 1.
+pub fn are_small(prelude: &[Row], member: &[Row]) -> bool {
+    prelude.len() <= 1023 && member.len() <= 1023 && depth(prelude) <= 32 && depth(member) <= 31
 }
 
 /// Resolves so many members, and prints a summary line; answers whether there was no difference.
@@ -125,11 +138,9 @@ pub fn run(comparison: &Comparison, seed: u64, pairs: u64) -> bool {
     while tried < pairs {
         let mut chance = Chance::new(seed.rotate_left(32) ^ number);
         number += 1;
-        let (prelude, mut member) = pair(&comparison.shapes, &mut chance);
-        if has_component(&prelude, member[0].x) || has_component(&member, member[0].x) {
-            member[0].x = 0;
-        }
-        if prelude.len() > 1023 || member.len() > 1023 || depth(&prelude) > 32 || depth(&member) > 31 {
+        let (prelude, member) = pair(&comparison.shapes, &mut chance);
+        let member = askable(&prelude, member);
+        if !are_small(&prelude, &member) {
             continue;
         }
         let answer = expected(comparison, &prelude, &member, chance.next());

@@ -37,7 +37,7 @@ pub use back::{unresolve, unresolve_into};
 pub use bindings::{sheet, sheet_bytes, sheet_into, Binding, Slot, ANSWER_SIZE, MAX_SLOTS, SHEET_AREA_SIZE, SLOT_SIZE};
 pub use builds::{compare, Choice, Entry, Kind};
 pub use claims::{check, check_with, Condition, Verdict, CHECK_LINKS, CHECK_SLOTS};
-pub use members::{meant, member, Meant, Of, Refused};
+pub use members::{batch, batch_into, meant, member, Batch, Meant, Of, Refused, MAX_MEMBERS};
 pub use mending::{mend, Change};
 pub use numbers::{moved, Apart, Moved, Numbers};
 pub use refusal::Refusal;

@@ -1,14 +1,15 @@
 // The C functions for members inside a prelude.
+use batch::batch;
 use meant::Declared;
 use meant::meant_at;
 use member::member as resolve_member;
-use refusal::Refusal;
+use member::packed;
 ghost use mathlib.Core.Path.{_≡_};
-ghost use Prim.Native.Nat.{_+_, _*_};
+ghost use mathlib.Core.Bool.{false};
 ghost use lib.Dec.{ltb};
 ghost use lib.ListN.{length};
 ghost use Rattle.rules.specs.Versions.{base};
-ghost use Rattle.batching.specs.BatchCalls.{memberCall, memberLeaves, cleared};
+ghost use Rattle.batching.specs.BatchCalls.{memberCall, memberLeaves, batchCall, batchLeaves, cleared};
 ghost use Rattle.ferhevok.specs.Meant.{packedDeclared, meantRow};
 
 // The highest row that a form can number.
@@ -36,13 +37,6 @@ pub extern "C" fn wnt_meant(prelude: &[u8], member: &[u8], row: u32) -> u64
     packed_declared(meant_at(prelude, member, row as u16))
 }
 
-// A number times 2^32 plus a place.
-fn packed_said(said: Refusal) -> u64
-    ensures { λ r. ⌜ r ≡ said .number * 4294967296 + said .place ⌝ }
-{
-    (said.number as u64) * 4294967296 + (said.place as u64)
-}
-
 // Resolves one member as if its root lay inside the resolved prelude's root. `work` is where the prelude is resolved.
 #[no_mangle]
 pub extern "C" fn wnt_member(prelude: &[u8], member: &[u8], out: &mut [u8], work: &mut [u8]) -> u64
@@ -50,5 +44,21 @@ pub extern "C" fn wnt_member(prelude: &[u8], member: &[u8], out: &mut [u8], work
     ensures { λ _. ⌜ now (out .exit) ≡ memberLeaves base (ltb (length (now (work .entry))) 65480) (now (prelude .entry)) 65480 (now (member .entry)) (now (out .entry)) ⌝ }
     ensures { λ _. ⌜ now (work .exit) ≡ cleared 0 65480 (now (work .entry)) ⌝ }
 {
-    packed_said(resolve_member(prelude, member, out, work))
+    packed(resolve_member(prelude, member, out, work))
+}
+
+// Resolves a batch: the prelude into `resolved`, and each member into its share of `outs`.
+#[no_mangle]
+pub extern "C" fn wnt_batch(
+    prelude: &[u8],
+    members: &[u8],
+    lengths: &[u32],
+    resolved: &mut [u8],
+    outs: &mut [u8],
+    answers: &mut [u8],
+) -> u64
+    ensures { λ r. ⌜ r ≡ batchCall base false (now (prelude .entry)) (now (members .entry)) (now (lengths .entry)) (record { prelude = now (resolved .entry); outs = now (outs .entry); answers = now (answers .entry) }) ⌝ }
+    ensures { λ _. ⌜ record { prelude = now (resolved .exit); outs = now (outs .exit); answers = now (answers .exit) } ≡ batchLeaves base false (now (prelude .entry)) (now (members .entry)) (now (lengths .entry)) (record { prelude = now (resolved .entry); outs = now (outs .entry); answers = now (answers .entry) }) ⌝ }
+{
+    batch(prelude, members, lengths, resolved, outs, answers)
 }

@@ -21,6 +21,7 @@ use Rattle.rules.specs.Tree.{flatten}
 use Rattle.rules.specs.Answer as rules
 use Rattle.rules.specs.Answer.{AnswerOf, refused, accepted, mapAnswer, answer, output}
 use Rattle.batching.specs.Batch.{Prelude, rootOf, insideAnswer, insideOutput, preludeOf, memberAnswer, memberOutput}
+use Rattle.batching.specs.BatchBytes.{packed}
 use Rattle.batching.specs.BatchCalls.{roomWith, cleared}
 use Rattle.batching.specs.Laws.MemberLaws.{prelude-told}
 use Rattle.limits.specs.Held.{setting}
@@ -115,6 +116,13 @@ module _ (a : Answer) where
   pub said-refused : (r : Refusal) (t : Told) → a ≡ Refused r t → numbers (r .number) (r .place) ≡ meaning a .plain
   said-refused r t q = rw q
 
+-- ---- packed
+
+pub packed-as : (a : rules.Answer) (n p : ℕ) → numbers n p ≡ ruled a .plain → n * 4294967296 + p ≡ packed a
+unfolding packed
+packed-as (refused number place carried) n p e = ap (λ (q : Numbers). q .number * 4294967296 + q .place) e
+packed-as (accepted rows) n p e = ap (λ (q : Numbers). q .number * 4294967296 + q .place) e ∙ (omega arith)
+
 -- ---- resolve_member
 
 is-refused : (a : rules.Answer) (n p : ℕ) → numbers n p ≡ ruled a .plain → (n ≡ 0 → ⊥) → (c : List ℕ) × (a ≡ refused n p c)
@@ -138,7 +146,7 @@ module _ (prelude area : List ℕ) (said : Refusal) (a : Answer) (told : numbers
   as-ruled = told ∙ ap (λ (x : Said). x .plain) ran
 
   module _ (h : said .number ≡ 0 → ⊥) where
-    is-told : (c : List ℕ) × (preludeOf base prelude (length area) ≡ refused (said .number) (said .place) c)
+    pub is-told : (c : List ℕ) × (preludeOf base prelude (length area) ≡ refused (said .number) (said .place) c)
     is-told =
         let r = is-refused (answer base prelude (length area)) (said .number) (said .place) as-ruled h in
         (r .0, prelude-refused (preludeOf base prelude (length area)) (said .number) (said .place) (r .0) (prelude-answer base prelude (length area) ∙ r .1))
@@ -154,7 +162,7 @@ module _ (prelude area : List ℕ) (said : Refusal) (a : Answer) (told : numbers
     told-stays member old = rw (is-told .1)
 
   module _ (h : said .number ≡ 0) (all : (i : ℕ) → Fits w8 (getD prelude i 0)) (area′ : List ℕ) (left : area′ ≡ output base prelude area) (root : List ℕ) (rows : root ≡ take (16 * said .place) (drop 8 area′)) where
-    found : Resolved prelude area (said .place)
+    pub found : Resolved prelude area (said .place)
     found =
         let r = is-accepted (answer base prelude (length area)) (said .number) (said .place) (answer-counted base prelude (length area)) as-ruled h in
         subst (Resolved prelude area) (sym (r .2)) (prelude-resolved prelude area (r .0) (all-bytes prelude all) (r .1))

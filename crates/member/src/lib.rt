@@ -54,6 +54,13 @@ pub fn said(answer: Answer) -> Refusal
     }
 }
 
+// An answer as one number: a refusal's number times 2^32 plus its place, or the number of rows.
+pub fn packed(said: Refusal) -> u64
+    ensures { λ r. ⌜ r ≡ said .number * 4294967296 + said .place ⌝ }
+{
+    (said.number as u64) * 4294967296 + (said.place as u64)
+}
+
 // A prelude's refusal, told from the member's own.
 fn of_prelude(why: Refusal) -> Refusal
     requires { ⌜ why .number ≤ 13 ⌝ }

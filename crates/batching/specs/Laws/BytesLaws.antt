@@ -94,7 +94,7 @@ abbrev pub eightAfter : AnswerOf Prelude → Answer → (old : List ℕ) → Lis
 eightAfter (AnswerOf.refused number place carried) a old = old
 eightAfter (accepted p) a old = bytes 8 (packed a)
 
-good-count : (lengths members : List ℕ) → badMembers lengths members ≡ false → between 1 8 (length (cut lengths members)) ≡ true
+pub good-count : (lengths members : List ℕ) → badMembers lengths members ≡ false → between 1 8 (length (cut lengths members)) ≡ true
 unfolding badMembers
 good-count lengths members e = rw cut-count (go (between 1 8 (length lengths)) (not (eqb (sum lengths) (length members))) e)
   where
@@ -153,12 +153,12 @@ module _ (settings : List Setting) (usual : AllUsual settings) (prelude members 
 
 -- ---- the buffers keep their lengths
 
-answers-length : (answers : List Answer) → length (answersBytes answers) ≡ 8 * length answers
+pub answers-length : (answers : List Answer) → length (answersBytes answers) ≡ 8 * length answers
 unfolding answersBytes
 answers-length [] = refl
 answers-length (a ∷ answers) = omega (arith, length-append (bytes 8 (packed a)) (answersBytes answers), bytes-length 8 (packed a), answers-length answers)
 
-members-length : (s : Setting) (root : Env) (share : ℕ) (members : List (List ℕ)) → length (memberAnswers s root share members) ≡ length members
+pub members-length : (s : Setting) (root : Env) (share : ℕ) (members : List (List ℕ)) → length (memberAnswers s root share members) ≡ length members
 unfolding memberAnswers
 members-length s root share [] = refl
 members-length s root share (m ∷ ms) = ap suc (members-length s root share ms)
@@ -170,7 +170,7 @@ after-length (accepted q) members room old h =
     let given = memberAnswers (q .setting) (rootOf (q .resolved)) (shareOf members room) members in
     omega (arith, length-append (answersBytes given) (drop (length (answersBytes given)) old), length-drop (length (answersBytes given)) old, answers-length given, members-length (q .setting) (rootOf (q .resolved)) (shareOf members room) members)
 
-enough : (lengths : List ℕ) (room : ℕ) → fewBytes lengths room ≡ false → 8 * length lengths ≤ room
+pub enough : (lengths : List ℕ) (room : ℕ) → fewBytes lengths room ≡ false → 8 * length lengths ≤ room
 unfolding fewBytes
 enough lengths room e = ltb-false room (8 * length lengths) e
 

@@ -1,0 +1,20 @@
+-- `batch::in_front` meets its contract.
+use mathlib.Core.Path.{sym}
+use native.Mathlib.Omega.{arith}
+use lib.Seq.{length-take-le}
+use borrow.Author.Needs.{needs}
+use Rattle.batch.proofs.Ways.{fronted}
+use Rattle.batch.proofs.in_front.Statement.{statement}
+use Rattle.batch.proofs.in_front.Tie as tie
+
+pub in-front-spec : {M : Type 1} → statement M
+in-front-spec =
+    tie.close
+    (tie.spec
+    (λ c. search needs)  -- slice-relend-prefix-resolve-inside
+    (λ c. sym (length-take-le _ _ (omega arith)))  -- slice-aggregate-resolve-inside
+    (λ c κs. search needs)  -- resolve-inside-requires
+    (λ c κs. search needs)  -- said-requires
+    (λ c κs. search needs)  -- packed-requires
+    (λ c. search needs)  -- same-length
+    (λ c. search (fronted, needs)))  -- returns
