@@ -224,6 +224,14 @@ right-count v input room t e = go (wrong-count v input) (ltb room (v .version .h
     go false true rest e = let no-way : _≡_ {A = ℕ} 0 1 = cc in absurd (omega arith)
     go false false rest e = (refl, refl)
 
+-- where there is no room for an output, nothing is accepted
+pub no-room-refuses : {X : Type 0} (settings : List Setting) → AllUsual settings → AllWithin settings → (input : List ℕ) → Bytes input → (rs : List Row) → answer settings input 0 ≡ accepted rs → X
+no-room-refuses settings usual within input bs rs e =
+    let T = OnBytes.trees settings usual within input [] bs rs e in
+    let h = T .usual .header in
+    let none-left = ltb-false 0 (T .setting .version .header + 64 * rowCount (T .setting .version) input) (right-count (T .setting) input 0 (T .after) (T .forms) .1) in
+    absurd (omega (arith, h, none-left))
+
 lists-made : (v : Setting) (input : List ℕ) (rooms : Rooms) (s t : Scope) (k : ℕ) → wrong-count v input ≡ false → ltb (rooms .out) (v .version .header + 64 * rowCount (v .version) input) ≡ false
     → (ltb (rooms .moved) (16 * rowCount (v .version) input) || ltb (rooms .apart) (12 * rowCount (v .version) input)) ≡ false → read (v .rules) (v .version .scopes) (rowsIn v input) ≡ tree s → resolve (v .rules) s ≡ ok (t, k)
     → movedIn v input rooms ≡ accepted (listed s t)

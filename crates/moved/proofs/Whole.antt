@@ -10,6 +10,7 @@ use lib.ListN.{length, getD, drop}
 use borrow.Author.Needs.{needs}
 use mir.Syntax.{w8}
 use mir.Val.{Fits}
+use Rattle.kit.specs.Pick.{pick}
 use Rattle.kit.specs.Out.{_&_}
 use Rattle.kit.proofs.Laws.{tests}
 use Rattle.rules.specs.Tools.{only, _orElse_}
@@ -22,7 +23,8 @@ use Rattle.rules.specs.Laws.Results.{some-same, no-option}
 use Rattle.rules.specs.Laws.Demand3.{base-usual}
 use Rattle.moving.specs.MovedAnswer.{MovedAnswer, movedAnswer, roomsOf, buffers}
 use Rattle.refusal.specs.declared.Refusal.{Refusal}
-use Rattle.form.specs.Header.{headerOf}
+use Rattle.limits.specs.Held.{settingIn}
+use Rattle.form.specs.Header.{headerFor, headerTo}
 use Rattle.resolver.specs.Meaning.{Numbers, numbers}
 use Rattle.resolver.specs.Meaning as resolved
 use Rattle.resolver.specs.declared.run.Answer.{Answer as Resolved}
@@ -31,7 +33,7 @@ use Rattle.moved_list.specs.declared.Listed.{Listed}
 use Rattle.reading_laws.specs.OnBytes
 use Rattle.reading_laws.specs.OnBytes.{base-within, body}
 use Rattle.moved.specs.Meaning.{meaning, ruled, held}
-use Rattle.moved.specs.Run.{rowsAsked, frontsT}
+use Rattle.moved.specs.Run.{rowsOf, rowsAsked, frontsT}
 use Rattle.moved.specs.declared.run.Answer.the-variants.{Listed as ListedAnswer, Refused}
 use Rattle.moved.proofs.Agrees.{Counted, answer-counted, asked, is-short, Short, short, refuses, accepts}
 
@@ -45,17 +47,21 @@ body-is input bs v e = go (hasHeader (record { version = version1; rules = today
     go false e = no-option v e
 
 -- an answer of number 0 is an acceptance
-is-accepted : (a : AnswerOf (List Row)) (number place : ℕ) → Counted a → numbers number place ≡ resolved.ruled a .plain → number ≡ 0 → (rs : List Row) × (a ≡ accepted rs)
+pub is-accepted : (a : AnswerOf (List Row)) (number place : ℕ) → Counted a → numbers number place ≡ resolved.ruled a .plain → number ≡ 0 → (rs : List Row) × (a ≡ accepted rs)
 is-accepted (refused n z c) number place k e q = let same : number ≡ n = ap (λ (x : Numbers). x .number) e in absurd (omega (arith, same, q, k))
 is-accepted (accepted rs) number place k e q = (rs, refl)
 
-module _ (form o m a : List ℕ) (rows : ℕ) (are : rows ≡ rowsAsked form) where
+module _ (form o m a : List ℕ) (rows : ℕ) (are : rows ≡ rowsAsked 0 form) where
   abbrev A : MovedAnswer
   A = movedAnswer base form (roomsOf (held o m a))
 
   rows-asked : asked base form ≡ rows
-  unfolding rowsAsked headerOf
-  rows-asked = sym are
+  unfolding rowsAsked headerTo settingOf settingIn pick only _orElse_
+  rows-asked = go (hasHeader (record { version = version1; rules = today }) form) (sym are)
+    where
+      go : (b : Bool) → rowsOf (headerFor (only b (record { version = version1; rules = today })) form) ≡ rows → rowsOf (headerFor (only b (record { version = version1; rules = today }) orElse nothing) form) ≡ rows
+      go true e = e
+      go false e = e
 
   no-room : (ltb (length m) (16 * rows) || ltb (length a) (12 * rows)) ≡ true → (meaning (Refused (record { number = 3; place = 0 })) ≡ ruled A) × (held o m a ≡ buffers base form (held o m a))
   no-room e =

@@ -4,7 +4,8 @@ use Prim.Native.Nat.{ℕ, _*_}
 use lib.ListN.{take, drop}
 use Rattle.kit.specs.Out.{Out, _&_}
 use Rattle.stores.specs.Zeros.{zeroFrom}
-use Rattle.form.specs.Header.{headerOf}
+use Rattle.limits.specs.Held.{limitsOf, setting}
+use Rattle.form.specs.Header.{headerTo}
 use Rattle.form.specs.declared.header.Header.{Header}
 use Rattle.form.specs.declared.header.Header.the-variants.{Rows, Wrong, Count}
 use Rattle.moved_list.specs.Listing.{entriesIn, noted, none}
@@ -15,9 +16,9 @@ rowsOf (Rows rows) = rows
 rowsOf Wrong = 0
 rowsOf Count = 0
 
--- how many rows a form has whose header and length are right, 0 for any other
-unfoldable pub rowsAsked : List ℕ → ℕ
-rowsAsked form = rowsOf (headerOf form)
+-- how many rows a form has whose header and length are right under the setting at place i, 0 for any other
+unfoldable pub rowsAsked : (i : ℕ) → List ℕ → ℕ
+rowsAsked i form = rowsOf (headerTo (limitsOf (setting i)) form)
 
 -- how many are listed, and the two lists
 abbrev pub Lists : Type 0

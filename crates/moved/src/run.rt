@@ -1,6 +1,7 @@
 // The whole run: the form is resolved, and its numbers are listed.
 use form::header::Header;
-use form::header::header_of;
+use form::header::header_to;
+use limits::of_input;
 use moved_list::Listed;
 use moved_list::list_numbers;
 use refusal::ROOM;
@@ -30,11 +31,11 @@ pub enum Answer {
     Refused(Refusal),
 }
 
-// How many rows a form has whose header and length are right, 0 for any other.
-fn rows_asked(form: &[u8]) -> usize
-    ensures { λ r. ⌜ (r ≡ rowsAsked (now (form .entry))) × (r ≤ 1023) ⌝ }
+// How many rows a form has whose header and length are right under the setting at place i, 0 for any other.
+pub fn rows_asked(form: &[u8], i: usize) -> usize
+    ensures { λ r. ⌜ (r ≡ rowsAsked i (now (form .entry))) × (r ≤ 16383) ⌝ }
 {
-    match header_of(form) {
+    match header_to(form, of_input(i)) {
         Header::Rows(rows) => rows,
         Header::Wrong => 0,
         Header::Count => 0,
@@ -42,7 +43,7 @@ fn rows_asked(form: &[u8]) -> usize
 }
 
 // What the resolver answers, as a refusal: its number is 0 if there is none.
-fn refusal_in(answer: Resolved) -> Refusal
+pub fn refusal_in(answer: Resolved) -> Refusal
     ensures { λ r. ⌜ numbers (r .number) (r .place) ≡ resolved.meaning answer .plain ⌝ }
 {
     match answer {
@@ -67,7 +68,13 @@ fn fill(form: &[u8], out: &[u8], moved: &mut [u8], apart: &mut [u8]) -> Listed
 }
 
 // Fills the lists' share for a form of so many rows; what lies beyond stays as it was.
-fn fill_fronts(form: &[u8], out: &[u8], moved: &mut [u8], apart: &mut [u8], rows: usize) -> Listed
+pub fn fill_fronts(
+    form: &[u8],
+    out: &[u8],
+    moved: &mut [u8],
+    apart: &mut [u8],
+    rows: usize,
+) -> Listed
     requires { ⌜ (rows ≤ 16383) × (16 * rows ≤ length (now moved)) × (12 * rows ≤ length (now apart)) ⌝ }
     ensures { λ r. ⌜ (r & now (moved .exit) & now (apart .exit)) ≡ frontsT (now (form .entry)) (now (out .entry)) (now (moved .entry)) (now (apart .entry)) rows ⌝ }
 {
@@ -82,7 +89,7 @@ pub fn moved(form: &[u8], out: &mut [u8], moved: &mut [u8], apart: &mut [u8]) ->
     ensures { λ r. ⌜ meaning r ≡ ruled (movedAnswer base (now (form .entry)) (roomsOf (held (now (out .entry)) (now (moved .entry)) (now (apart .entry))))) ⌝ }
     ensures { λ r. ⌜ held (now (out .exit)) (now (moved .exit)) (now (apart .exit)) ≡ buffers base (now (form .entry)) (held (now (out .entry)) (now (moved .entry)) (now (apart .entry))) ⌝ }
 {
-    let rows = rows_asked(form);
+    let rows = rows_asked(form, 0);
     if moved.len() < MOVED * rows {
         return Answer::Refused(Refusal {
             number: ROOM,

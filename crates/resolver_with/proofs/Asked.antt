@@ -105,7 +105,7 @@ first-unasked input e = go (hasHeader first input) e
     go false q = refl
 
 module _ (input : List ℕ) where
-  setting-asked : settingOf served input ≡ settingOf (asked input ∷ []) input
+  pub setting-asked : settingOf served input ≡ settingOf (asked input ∷ []) input
   unfolding asked
   setting-asked = asked-same served input first (first-unasked input)
 

@@ -48,7 +48,7 @@ use Rattle.resolver_with.proofs.Zeros.{exact-is, cleared-is}
 
 -- ---- what is in force
 
-few-in : (i : ℕ) → i < 2 → setting i .version .rows ≤ 16383
+pub few-in : (i : ℕ) → i < 2 → setting i .version .rows ≤ 16383
 few-in zero h = omega arith
 few-in (suc zero) h = omega arith
 few-in (suc (suc i)) h = absurd (omega arith)
@@ -125,7 +125,7 @@ exact-parts true true false d e q = let z : _≡_ {A = ℕ} 0 1 = cc in absurd (
 exact-parts true false c d e q = let z : _≡_ {A = ℕ} 0 1 = cc in absurd (omega arith)
 exact-parts false b c d e q = let z : _≡_ {A = ℕ} 0 1 = cc in absurd (omega arith)
 
-suits-exact : (i : ℕ) (entered names : List Slot) (known chains ends : List ℕ) → i < 2 → exactly (setting i .version) (lentOf entered names known chains ends) ≡ true → Suits i entered names known chains ends
+pub suits-exact : (i : ℕ) (entered names : List Slot) (known chains ends : List ℕ) → i < 2 → exactly (setting i .version) (lentOf entered names known chains ends) ≡ true → Suits i entered names known chains ends
 unfolding exactly
 suits-exact i entered names known chains ends h e =
     let p = exact-parts _ _ _ _ _ e in
@@ -156,7 +156,7 @@ agrees-in zero h input old all rows whole ends entered names rooms = run-agrees 
 agrees-in (suc zero) h input old all rows whole ends entered names rooms = run-agrees version2 able-2 input old all rows whole ends entered names rooms
 agrees-in (suc (suc i)) h input old all rows whole ends entered names rooms = absurd (omega arith)
 
-rooms-in : (i : ℕ) (entered names : List Slot) (known chains ends : List ℕ) → Suits i entered names known chains ends → Rooms (setting i .version) ends entered names
+pub rooms-in : (i : ℕ) (entered names : List Slot) (known chains ends : List ℕ) → Suits i entered names known chains ends → Rooms (setting i .version) ends entered names
 rooms-in i entered names known chains ends suits =
     let f = few-in i (suits .served) in
     let a = suits .entered in

@@ -41,7 +41,7 @@ ghost use Rattle.resolver_with.specs.Exact.{Suits, exactly, Zeroed};
 const SERVED: usize = 2;
 
 // The place of the setting that the header asks for, of those in force; the first where it asks for none of them.
-fn asked_for(form: &[u8]) -> usize
+pub fn asked_for(form: &[u8]) -> usize
     ensures { λ r. ⌜ (setting r ≡ asked (now (form .entry))) × (r < 2) ⌝ }
 {
     let mut next = 0;
@@ -58,7 +58,7 @@ fn asked_for(form: &[u8]) -> usize
 }
 
 // The walk over the rows of a form. The tables may hold anything: their indexes start empty.
-fn walk_in(
+pub fn walk_in(
     rows: &[u8],
     out: &mut [u8],
     i: usize,

@@ -19,12 +19,12 @@ use Rattle.rules.specs.Tree.{Scope, scope, flatten}
 use Rattle.rules.specs.Answer.{AnswerOf, refused, accepted, hasHeader, settingOf, sameNumbers, answer, output, formBytes}
 use Rattle.rules.specs.Laws.RowLaws.{Bytes}
 use Rattle.rules.specs.Laws.Results.{some-same, no-option}
-use Rattle.rules.specs.Laws.Demand3.{base-usual}
+use Rattle.rules.specs.Laws.Demand3.{AllUsual}
 use Rattle.moving.specs.Laws.Lists.{same-lists}
 use Rattle.binding.specs.Sheet.{Run, runOf, areaOf, firstOf, workSize}
 use Rattle.binding.specs.Laws.Runs.{Made, Agree, run-agrees}
 use Rattle.reading_laws.specs.OnBytes
-use Rattle.reading_laws.specs.OnBytes.{base-within, begins, form-long}
+use Rattle.reading_laws.specs.OnBytes.{AllWithin, begins, form-long}
 use Rattle.resolver.specs.Meaning.{Said, meaning, ruled}
 use Rattle.resolver.specs.declared.run.Answer.{Answer as Resolved}
 use Rattle.resolver.proofs.Bytes.{all-bytes}
@@ -58,30 +58,30 @@ open-first : (s : Scope) → 1 ≤ length (flatten s)
 unfolding flatten
 open-first (scope kind name fs) = omega arith
 
-module _ (form o : List ℕ) (bs : Bytes form) (long : 65480 ≤ length o) where
-  pub agrees : Agree base form (runOf base form) (answer base form (length o))
-  agrees = run-agrees base form (length o) (let a = area-is form in omega (arith, a, long))
+-- under any settings, by the header that a form of theirs has
+module _ (settings : List Setting) (usual : AllUsual settings) (within : AllWithin settings) (form : List ℕ) (head : ℕ) (heads : (v : Setting) → settingOf settings form ≡ some v → head ≡ v .version .header) (o : List ℕ) (bs : Bytes form) (long : workSize settings form ≤ length o) where
+  pub agrees : Agree settings form (runOf settings form) (answer settings form (length o))
+  agrees = run-agrees settings form (length o) long
 
   -- so many rows were written, and the area begins with the run's bytes
   pub record Wrote (run : Run) (rows : ℕ) : Type 0 where
     pub some-rows : 1 ≤ rows
-    pub size : length (run .bytes) ≡ 8 + 16 * rows
-    pub front : take (8 + 16 * rows) (output base form o) ≡ run .bytes
+    pub size : length (run .bytes) ≡ head + 16 * rows
+    pub front : take (head + 16 * rows) (output settings form o) ≡ run .bytes
 
-  wrote : (run : Run) (rs : List Row) → answer base form (length o) ≡ accepted rs → Made base form run rs → Wrote run (length rs)
+  wrote : (run : Run) (rs : List Row) → answer settings form (length o) ≡ accepted rs → Made settings form run rs → Wrote run (length rs)
   wrote run rs e M =
-      let T = OnBytes.trees base base-usual base-within form o bs rs e in
+      let T = OnBytes.trees settings usual within form o bs rs e in
       let v = T .setting in
       let same : M .setting ≡ v = some-same _ _ (sym (M .asked-for) ∙ T .asked-for) in
-      let B = begins base form o v (T .after) (T .asked-for) (T .forms) in
+      let B = begins settings form o v (T .after) (T .asked-for) (T .forms) in
       let bytes-are : run .bytes ≡ formBytes v rs = M .bytes ∙ ap (λ (u : Setting). formBytes u rs) same in
-      let header : 8 ≡ v .version .header = ap (λ (u : Setting). u .version .header) (is-one form v (T .asked-for)) in
-      let size : length (run .bytes) ≡ 8 + 16 * length rs = ap length bytes-are ∙ (form-long v rs (T .usual .header) ∙ ap (λ (n : ℕ). n + 16 * length rs) (sym header)) in
-      let out : output base form o ≡ run .bytes ++ B .0 = B .1 ∙ ap (λ (x : List ℕ). x ++ B .0) (ap (formBytes v) (T .of-tree) ∙ sym bytes-are) in
+      let size : length (run .bytes) ≡ head + 16 * length rs = ap length bytes-are ∙ (form-long v rs (T .usual .header) ∙ ap (λ (n : ℕ). n + 16 * length rs) (sym (heads v (T .asked-for)))) in
+      let out : output settings form o ≡ run .bytes ++ B .0 = B .1 ∙ ap (λ (x : List ℕ). x ++ B .0) (ap (formBytes v) (T .of-tree) ∙ sym bytes-are) in
       record {
         some-rows = subst (λ (l : List Row). 1 ≤ length l) (M .rows) (open-first (run .after));
         size = size;
-        front = ap (take (8 + 16 * length rs)) out ∙ take-at (run .bytes) (B .0) (8 + 16 * length rs) size;
+        front = ap (take (head + 16 * length rs)) out ∙ take-at (run .bytes) (B .0) (head + 16 * length rs) size;
       }
 
   -- what the code knows of the run by the rows
@@ -89,11 +89,11 @@ module _ (form o : List ℕ) (bs : Bytes form) (long : 65480 ≤ length o) where
   Known rows none = rows ≡ 0
   Known rows (some run) = Wrote run rows
 
-  pub known : (x : Resolved) → meaning x ≡ ruled (answer base form (length o)) → (rows : ℕ) → rows ≡ rowsWritten (meaning x .plain) → Known rows (runOf base form)
+  pub known : (x : Resolved) → meaning x ≡ ruled (answer settings form (length o)) → (rows : ℕ) → rows ≡ rowsWritten (meaning x .plain) → Known rows (runOf settings form)
   unfolding rowsWritten pick
-  known x said rows is = go (runOf base form) (answer base form (length o)) refl agrees (is ∙ ap (λ (w : Said). rowsWritten (w .plain)) said)
+  known x said rows is = go (runOf settings form) (answer settings form (length o)) refl agrees (is ∙ ap (λ (w : Said). rowsWritten (w .plain)) said)
     where
-      go : (r : Option Run) (a : AnswerOf (List Row)) → answer base form (length o) ≡ a → Agree base form r a → rows ≡ rowsWritten (ruled a .plain) → Known rows r
+      go : (r : Option Run) (a : AnswerOf (List Row)) → answer settings form (length o) ≡ a → Agree settings form r a → rows ≡ rowsWritten (ruled a .plain) → Known rows r
       go none (refused n z c) e g w = let t : eqb n 0 ≡ false = omega (tests, g) in rw t at w
       go (some run) (accepted rs) e g w = subst (Wrote run) (sym w) (wrote run rs e g)
 
@@ -106,30 +106,42 @@ lengths-differ xs ys n = go (sameNumbers xs ys) refl
     go true e = absurd (n (ap length (same-lists xs ys e)))
     go false e = sym e
 
-module _ (form resolved o : List ℕ) (fits : (i : ℕ) → Fits w8 (getD form i 0)) (long : 65480 ≤ length o) (x : Resolved) (said : meaning x ≡ ruled (answer base form (length o))) (rows : ℕ) (is : rows ≡ rowsWritten (meaning x .plain)) where
-  abbrev here : Known form o (all-bytes form fits) long rows (runOf base form)
-  here = known form o (all-bytes form fits) long x said rows is
+module _ (settings : List Setting) (usual : AllUsual settings) (within : AllWithin settings) (form : List ℕ) (head : ℕ) (heads : (v : Setting) → settingOf settings form ≡ some v → head ≡ v .version .header) (resolved o : List ℕ) (fits : (i : ℕ) → Fits w8 (getD form i 0)) (long : workSize settings form ≤ length o)
+    (x : Resolved) (said : meaning x ≡ ruled (answer settings form (length o))) (rows : ℕ) (is : rows ≡ rowsWritten (meaning x .plain)) where
+  abbrev Here : Option Run → Type 0
+  Here r = Known settings usual within form head heads o (all-bytes form fits) long rows r
 
-  pub none-written : rows ≡ 0 → false ≡ isOutput (runOf base form) resolved
+  abbrev here : Here (runOf settings form)
+  here = known settings usual within form head heads o (all-bytes form fits) long x said rows is
+
+  pub none-written : rows ≡ 0 → false ≡ isOutput (runOf settings form) resolved
   unfolding isOutput
-  none-written e = go (runOf base form) here
+  none-written e = go (runOf settings form) here
     where
-      go : (r : Option Run) → Known form o (all-bytes form fits) long rows r → false ≡ isOutput r resolved
+      go : (r : Option Run) → Here r → false ≡ isOutput r resolved
       go none k = refl
       go (some run) k = let some-rows = k .some-rows in absurd (omega (arith, e, some-rows))
 
-  pub other-length : (length resolved ≡ 8 + 16 * rows → ⊥) → false ≡ isOutput (runOf base form) resolved
+  pub other-length : (length resolved ≡ head + 16 * rows → ⊥) → false ≡ isOutput (runOf settings form) resolved
   unfolding isOutput
-  other-length n = go (runOf base form) here
+  other-length n = go (runOf settings form) here
     where
-      go : (r : Option Run) → Known form o (all-bytes form fits) long rows r → false ≡ isOutput r resolved
+      go : (r : Option Run) → Here r → false ≡ isOutput r resolved
       go none k = refl
       go (some run) k = lengths-differ resolved (run .bytes) (λ e. n (e ∙ k .size))
 
-  pub bytes-compared : (rows ≡ 0 → ⊥) → length resolved ≡ 8 + 16 * rows → (o′ : List ℕ) → o′ ≡ output base form o → (b : Bool) → b ≡ sameNumbers resolved (take (length resolved) o′) → b ≡ isOutput (runOf base form) resolved
+  pub bytes-compared : (rows ≡ 0 → ⊥) → length resolved ≡ head + 16 * rows → (o′ : List ℕ) → o′ ≡ output settings form o → (b : Bool) → b ≡ sameNumbers resolved (take (length resolved) o′) → b ≡ isOutput (runOf settings form) resolved
   unfolding isOutput
-  bytes-compared n size o′ left b e = go (runOf base form) here
+  bytes-compared n size o′ left b e = go (runOf settings form) here
     where
-      go : (r : Option Run) → Known form o (all-bytes form fits) long rows r → b ≡ isOutput r resolved
+      go : (r : Option Run) → Here r → b ≡ isOutput r resolved
       go none k = absurd (n k)
-      go (some run) k = e ∙ ap (sameNumbers resolved) (ap (λ (l : ℕ). take l o′) size ∙ (ap (take (8 + 16 * rows)) left ∙ k .front))
+      go (some run) k = e ∙ ap (sameNumbers resolved) (ap (λ (l : ℕ). take l o′) size ∙ (ap (take (head + 16 * rows)) left ∙ k .front))
+
+-- ---- version 1
+
+pub one-header : (form : List ℕ) (v : Setting) → settingOf base form ≡ some v → 8 ≡ v .version .header
+one-header form v e = ap (λ (u : Setting). u .version .header) (is-one form v e)
+
+pub one-long : (form o : List ℕ) → 65480 ≤ length o → workSize base form ≤ length o
+one-long form o h = let a = area-is form in omega (arith, a, h)

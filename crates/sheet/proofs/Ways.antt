@@ -65,12 +65,12 @@ pub all-zero : (l m o : List ℕ) → length l ≡ length o → m ≡ zeroFrom l
 unfolding zeroFrom
 all-zero l m o e h = h ∙ rw (sub-zero, e)
 
-module _ (old : List ℕ) where
-  pub clear-short : (new : List ℕ) → length old < 65480 → new ≡ zeroFrom old 0 → new ≡ cleared old
+module _ (old : List ℕ) (size : ℕ) where
+  pub clear-short : (new : List ℕ) → length old < size → new ≡ zeroFrom old 0 → new ≡ cleared size old
   unfolding cleared zeroFrom
-  clear-short new h e = let f : length old ≤ 65480 = omega arith in rw (e, sub-zero, take-all 65480 old f, drop-of-length-le old f, append-nil)
+  clear-short new h e = let f : length old ≤ size = omega arith in rw (e, sub-zero, take-all size old f, drop-of-length-le old f, append-nil)
 
-  pub clear-long : (new : List ℕ) → new ≡ zeroFrom (take 65480 old) 0 → new ++ drop 65480 old ≡ cleared old
+  pub clear-long : (new : List ℕ) → new ≡ zeroFrom (take size old) 0 → new ++ drop size old ≡ cleared size old
   unfolding cleared zeroFrom
   clear-long new e = rw (e, sub-zero)
 

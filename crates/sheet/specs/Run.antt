@@ -25,5 +25,5 @@ isOutput none resolved = false
 isOutput (some run) resolved = sameNumbers resolved (run .bytes)
 
 -- the working area is zero, and what lies behind it is as it was
-unfoldable pub cleared : List ℕ → List ℕ
-cleared old = replicate (length (take 65480 old)) 0 ++ drop 65480 old
+unfoldable pub cleared : (size : ℕ) → List ℕ → List ℕ
+cleared size old = replicate (length (take size old)) 0 ++ drop size old

@@ -25,7 +25,7 @@ ghost use Rattle.sheet.specs.Run.{refusedT, rowsWritten, isOutput, clear
 pub const AREA: usize = 65480;
 
 // Refusal 15: no sheet, or not an accepted input and its resolved form.
-const NOT_ITS_SHEET: u32 = 15;
+pub const NOT_ITS_SHEET: u32 = 15;
 
 pub enum Answer {
     // So many slots are not bound as written.
@@ -33,14 +33,15 @@ pub enum Answer {
     Refused(Refusal),
 }
 
-fn refused(number: u32) -> Answer
+// Document 01's refusal of that number.
+pub fn refused(number: u32) -> Answer
     ensures { λ r. ⌜ r ≡ refusedT number ⌝ }
 {
     Answer::Refused(Refusal { number, place: 0 })
 }
 
 // Whether `bytes` are what `area` begins with.
-fn begins(area: &[u8], bytes: &[u8]) -> bool
+pub fn begins(area: &[u8], bytes: &[u8]) -> bool
     ensures { λ r. ⌜ r ≡ sameNumbers (now (bytes .entry)) (take (length (now (bytes .entry))) (now (area .entry))) ⌝ }
 {
     let mut i = 0;
@@ -57,7 +58,7 @@ fn begins(area: &[u8], bytes: &[u8]) -> bool
 }
 
 // How many rows the resolver wrote, 0 if it refused. It is the number that says so: 0 is no refusal's.
-fn rows_written(answer: Resolved) -> u32
+pub fn rows_written(answer: Resolved) -> u32
     ensures { λ r. ⌜ r ≡ rowsWritten (resolver_says.meaning answer .plain) ⌝ }
 {
     match answer {
@@ -97,19 +98,19 @@ fn is_output(form: &[u8], resolved: &[u8], area: &mut [u8]) -> bool
     same
 }
 
-// Zeroes the working area, or what there is of it.
-fn clear(work: &mut [u8])
-    ensures { λ _. ⌜ now (work .exit) ≡ cleared (now (work .entry)) ⌝ }
+// Zeroes a working area up to its size, or what there is of it.
+pub fn clear(work: &mut [u8], size: usize)
+    ensures { λ _. ⌜ now (work .exit) ≡ cleared size (now (work .entry)) ⌝ }
 {
-    if work.len() < AREA {
+    if work.len() < size {
         zero_from(work, 0);
         return;
     }
-    zero_from(&mut work[..AREA], 0);
+    zero_from(&mut work[..size], 0);
 }
 
 // The bytes that the answers to a sheet take.
-fn answers_size(sheet: &[u8]) -> usize
+pub fn answers_size(sheet: &[u8]) -> usize
     ensures { λ r. ⌜ r ≡ 8 * (length (now (sheet .entry)) / 12) ⌝ }
 {
     ANSWER * (sheet.len() / SLOT)
@@ -129,11 +130,11 @@ pub fn check(
     ensures { λ r. ⌜ now (work .exit) ≡ workAfter base (now (form .entry)) (now (work .entry)) ⌝ }
 {
     if !is_sound(sheet) {
-        clear(work);
+        clear(work, AREA);
         return refused(NOT_ITS_SHEET);
     }
     if work.len() < AREA {
-        clear(work);
+        clear(work, AREA);
         return refused(ROOM);
     }
     if !is_output(form, resolved, &mut work[..AREA]) {

@@ -15,7 +15,7 @@ clear-spec =
     (λ c. search needs)  -- same-length
     (λ c. search ways)  -- returns
     (λ c. search needs)  -- slice-relend-prefix-zero-from
-    (λ c. sym (length-take-le 65480 (now (c .before .before .before .args .work)) (c .before .if1 .left)))  -- slice-aggregate-zero-from
+    (λ c. sym (length-take-le _ (now (c .before .before .before .args .work)) (c .before .if1 .left)))  -- slice-aggregate-zero-from
     (λ c κs. search needs)  -- zero-from-requires-2
     (λ c. search needs)  -- same-length-2
     (λ c. search ways))  -- returns-2

@@ -1,7 +1,10 @@
 -- `sheet::resolves_to` meets its contract.
 use denote.Ref.{now}
 use borrow.Author.Needs.{needs}
-use Rattle.sheet.proofs.Runs.{none-written, other-length, bytes-compared}
+use Rattle.rules.specs.Versions.{base}
+use Rattle.rules.specs.Laws.Demand3.{base-usual}
+use Rattle.reading_laws.specs.OnBytes.{base-within}
+use Rattle.sheet.proofs.Runs.{none-written, other-length, bytes-compared, one-header, one-long}
 use Rattle.sheet.proofs.resolves_to.Statement.{statement}
 use Rattle.sheet.proofs.resolves_to.Tie as tie
 
@@ -15,7 +18,7 @@ resolves-to-spec =
     (λ c.
     let ran = c .before .before .before .before in
     let start = ran .before .before .before .before in
-    (none-written _ _ (now (start .before .args .area)) (start .shared-slice-known .given) (start .before .pre) (ran .resolve .result) (ran .resolve .ensures .0) _ (c .before .rows-written .ensures) (c .if1 .taken), ran .resolve .ensures .1))  -- returns
+    (none-written base base-usual base-within _ 8 (one-header _) _ (now (start .before .args .area)) (start .shared-slice-known .given) (one-long _ (now (start .before .args .area)) (start .before .pre)) (ran .resolve .result) (ran .resolve .ensures .0) _ (c .before .rows-written .ensures) (c .if1 .taken), ran .resolve .ensures .1))  -- returns
     (λ c. search needs)  -- cast-if2
     (λ c. search needs)  -- mul-if2
     (λ c. search needs)  -- add-if2
@@ -24,11 +27,11 @@ resolves-to-spec =
     let wrote = c .before .before in
     let ran = wrote .before .before .before in
     let start = ran .before .before .before .before in
-    (other-length _ _ (now (start .before .args .area)) (start .shared-slice-known .given) (start .before .pre) (ran .resolve .result) (ran .resolve .ensures .0) _ (wrote .rows-written .ensures) (c .if2 .taken), ran .resolve .ensures .1))  -- returns-2
+    (other-length base base-usual base-within _ 8 (one-header _) _ (now (start .before .args .area)) (start .shared-slice-known .given) (one-long _ (now (start .before .args .area)) (start .before .pre)) (ran .resolve .result) (ran .resolve .ensures .0) _ (wrote .rows-written .ensures) (c .if2 .taken), ran .resolve .ensures .1))  -- returns-2
     (λ c κs. search needs)  -- begins-requires
     (λ c. search needs)  -- same-length-3
     (λ c.
     let wrote = c .before .before .before .before in
     let ran = wrote .before .before .before in
     let start = ran .before .before .before .before in
-    (bytes-compared _ _ (now (start .before .args .area)) (start .shared-slice-known .given) (start .before .pre) (ran .resolve .result) (ran .resolve .ensures .0) _ (wrote .rows-written .ensures) (c .before .before .before .if1 .left) (c .before .before .if2 .left) _ (ran .resolve .ensures .1) _ (c .begins .ensures), ran .resolve .ensures .1)))  -- returns-3
+    (bytes-compared base base-usual base-within _ 8 (one-header _) _ (now (start .before .args .area)) (start .shared-slice-known .given) (one-long _ (now (start .before .args .area)) (start .before .pre)) (ran .resolve .result) (ran .resolve .ensures .0) _ (wrote .rows-written .ensures) (c .before .before .before .if1 .left) (c .before .before .if2 .left) _ (ran .resolve .ensures .1) _ (c .begins .ensures), ran .resolve .ensures .1)))  -- returns-3

@@ -8,7 +8,8 @@ pub rows-asked-spec : {M : Type 1} → statement M
 rows-asked-spec =
     tie.close
     (tie.spec
-    (λ c κs. search needs)  -- header-of-requires
+    (λ c κs. search needs)  -- of-input-requires
+    (λ c κs. search needs)  -- header-to-requires
     (λ c. search needs)  -- enum-known-rows
     (λ c. search needs)  -- enum-told
     (λ c. search needs)  -- enum-told-2

@@ -1,0 +1,52 @@
+-- The settings in force are usual, their rows can be numbered in 16 bits, and the one that a header asks for is the one by which the areas go.
+use mathlib.Core.Path.{_≡_, refl, ap, sym, _∙_}
+use mathlib.Core.Bool.{Bool, true, false}
+use mathlib.Core.Option.{Option, none, some}
+use mathlib.Core.List.{List, [], _∷_}
+use native.Mathlib.Omega.{arith}
+use Prim.Native.Nat.{ℕ, zero, suc, _≤_}
+use Rattle.rules.specs.Tools.{only, _orElse_}
+use Rattle.rules.specs.Versions.{Setting}
+use Rattle.rules.specs.Answer.{hasHeader, settingOf}
+use Rattle.rules.specs.Laws.Results.{some-same, no-option}
+use Rattle.rules.specs.Laws.Demand3.{AllUsual, all-usual}
+use Rattle.reading_laws.specs.OnBytes.{AllWithin, all-within}
+use Rattle.limits.specs.Held.{settingIn, limitsOf, setting}
+use Rattle.limits.proofs.Laws.{stand-for}
+use Rattle.form.specs.Header.{headerFor, headerTo}
+use Rattle.resolver_with.specs.Served.{served, asked}
+use Rattle.resolver_with.proofs.Asked.{setting-asked}
+
+pub served-usual : AllUsual served
+served-usual = (all-usual .0, (all-usual .1 .0, tt))
+
+pub served-within : AllWithin served
+served-within = (all-within .0, (all-within .1 .0, tt))
+
+only-asked : (input : List ℕ) → settingOf served input ≡ (only (hasHeader (asked input) input) (asked input) orElse none)
+only-asked input = setting-asked input ∙ unfold settingOf in refl
+
+pub asked-is : (input : List ℕ) (v : Setting) → settingOf served input ≡ some v → asked input ≡ v
+unfolding only _orElse_
+asked-is input v e = go (hasHeader (asked input) input) (sym (only-asked input) ∙ e)
+  where
+    go : (b : Bool) → (only b (asked input) orElse none) ≡ some v → asked input ≡ v
+    go true e = some-same _ v e
+    go false e = no-option v e
+
+-- what the header says under the setting that it asks for is what it says under all in force
+pub header-asked : (i : ℕ) (input : List ℕ) → setting i ≡ asked input → headerTo (limitsOf (setting i)) input ≡ headerFor (settingOf served input) input
+unfolding headerTo only _orElse_
+header-asked i input e =
+    ap (λ (s : Setting). headerFor (only (hasHeader s input) s) input) (stand-for i ∙ e) ∙ (go (hasHeader (asked input) input) ∙ ap (λ (o : Option Setting). headerFor o input) (sym (only-asked input)))
+  where
+    go : (b : Bool) → headerFor (only b (asked input)) input ≡ headerFor (only b (asked input) orElse none) input
+    go true = refl
+    go false = refl
+
+-- each has a header of eight bytes or more
+pub header-long : (i : ℕ) → 8 ≤ setting i .version .header
+header-long zero = omega arith
+header-long (suc zero) = omega arith
+header-long (suc (suc zero)) = omega arith
+header-long (suc (suc (suc i))) = omega arith
