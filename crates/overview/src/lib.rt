@@ -6,7 +6,8 @@ use libc::STDERR_FILENO;
 use libc::STDOUT_FILENO;
 use words::say;
 
-fn say_commands(talk: i32) {
+// The commands that look at one form, and the one that resolves it.
+fn say_of_one(talk: i32) {
     say(
         talk,
         b"  wnt resolve IN OUT      resolve the form IN, and write OUT whole or not at all\n",
@@ -27,6 +28,10 @@ fn say_commands(talk: i32) {
         talk,
         b"  wnt moved FORM          say which written numbers mean another declaration once it is resolved\n",
     );
+}
+
+// Those that hold one against another.
+fn say_of_two(talk: i32) {
     say(
         talk,
         b"  wnt sheet FORM RESOLVED SHEET\n                          say what each slot of a binding sheet is bound to\n",
@@ -39,6 +44,10 @@ fn say_commands(talk: i32) {
         talk,
         b"  wnt verify FORM CLAIM   say whether another assembler's output is one of the form, or why not\n",
     );
+}
+
+// Those that write one.
+fn say_writing(talk: i32) {
     say(
         talk,
         b"  wnt convert FORM VERSION OUT\n                          write the form to OUT as one of version 1 or 2\n",
@@ -63,12 +72,23 @@ fn say_commands(talk: i32) {
         talk,
         b"  wnt form TEXT OUT       turn such a text into the form, and write OUT whole or not at all\n",
     );
+}
+
+// What tells of the program itself.
+fn say_telling(talk: i32) {
     say(talk, b"  wnt help                print this\n");
     say(
         talk,
         b"  wnt help COMMAND        say what a command does, with an example\n",
     );
     say(talk, b"  wnt --version           print the version\n\n");
+}
+
+fn say_commands(talk: i32) {
+    say_of_one(talk);
+    say_of_two(talk);
+    say_writing(talk);
+    say_telling(talk);
 }
 
 // The whole help.
