@@ -1,6 +1,6 @@
 # Completes the words of wnt in bash: the commands first, then files; behind help the commands again.
 _wnt() {
-    local commands='resolve check show explain moved diff verify convert sheet anonymise mend unresolve rows form help --help --version'
+    local commands='resolve check show explain moved diff verify convert sheet anonymise mend unresolve batch rows form help --help --version'
     local word=${COMP_WORDS[COMP_CWORD]}
     if [ "$COMP_CWORD" -eq 1 ]; then
         mapfile -t COMPREPLY < <(compgen -W "$commands" -- "$word")

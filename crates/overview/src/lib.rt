@@ -66,6 +66,10 @@ fn say_writing(talk: i32) {
     );
     say(
         talk,
+        b"  wnt batch PRELUDE OUT MEMBER OUT ..\n                          resolve a prelude, and up to 8 members each inside its root\n",
+    );
+    say(
+        talk,
         b"  wnt rows FORM           print the rows of a form as a text that can be edited\n",
     );
     say(
