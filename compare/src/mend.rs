@@ -130,12 +130,7 @@ fn changed(form: &[u8], changes: &[Change]) -> Vec<u8> {
 }
 
 /// A refusal, or the mended form and the changes. The shapes are those of the two rule sets.
-fn mended(
-    shapes: &[Shapes; 2],
-    form: &[u8],
-    room: usize,
-    space: usize,
-) -> Result<(Vec<u8>, Vec<Change>), (u32, u32)> {
+fn mended(shapes: &[Shapes; 2], form: &[u8], room: usize, space: usize) -> Result<(Vec<u8>, Vec<Change>), (u32, u32)> {
     let (version, set) = header_of(form).ok_or((1, 0))?;
     let mut changes = pieces(version, set, form);
     changes.retain(|change| change.before != change.now);

@@ -100,7 +100,8 @@ fn spoilt(shapes: &[Shapes; 2], chance: &mut Chance) -> Spoilt {
     let form = spoilt_form(version, set, &shapes[usize::from(set)], chance);
     let room = chance.pick(&[0, 1, 15, 16, 17, 32, 100, 600, 600, 600, 600]);
     let long = if chance.percent(2) { form.len() + room + chance.below(3) } else { form.len() };
-    let space = if chance.percent(70) { 100_000.max(2 * form.len()) } else { chance.pick(&[0, 12, 15, 16, 28, 44, 60, 200]) };
+    let space =
+        if chance.percent(70) { 100_000.max(2 * form.len()) } else { chance.pick(&[0, 12, 15, 16, 28, 44, 60, 200]) };
     let mut buffer = form;
     buffer.extend((0..room).map(|_| chance.below(256) as u8).collect::<Vec<u8>>());
     let list = vec![chance.below(256) as u8; space];
