@@ -9,7 +9,7 @@
 enum { STACK = 1 << 20, PAINT = 0xa5, SLOTS = 2046, LINKS = 3070 };
 
 static uint8_t stack[STACK];
-static uint8_t form[WNT_MAX_FORM_SIZE_2], mended[WNT_MAX_FORM_SIZE], out[WNT_MAX_OUT_SIZE_2], list[1 << 20];
+static uint8_t form[WNT_MAX_FORM_SIZE_2], mended[WNT_MAX_FORM_SIZE_2], out[WNT_MAX_OUT_SIZE_2], list[1 << 20];
 static uint8_t moved[WNT_MOVED_LIST_SIZE(WNT_MAX_ROWS)], apart[WNT_APART_LIST_SIZE(WNT_MAX_ROWS)];
 static wnt_slot table[SLOTS];
 static uint16_t index_of[LINKS];

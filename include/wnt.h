@@ -168,6 +168,8 @@ static inline const char *wnt_text(uint32_t number)
  * 95,400, wnt_resolve_with 10,400 and 28,184, wnt_mend 24,160, wnt_compare 8,032, wnt_convert 7,888, wnt_meant 528; at the
  * driver in itself and at 31 open scopes: wnt_member 97,056 and 120,816, wnt_batch 97,088 and 120,848. It does not depend
  * on the rows. */
+ * 95,400, wnt_resolve_with 10,400 and 28,184, wnt_mend 5,608, wnt_compare 8,032, wnt_convert 7,888, wnt_meant 528. It does
+ * not depend on the rows. */
 #define WNT_STACK_SIZE 131072
 
 /* The answer's upper half: one of the numbers above. */
@@ -296,13 +298,14 @@ uint64_t wnt_resolve_told(const uint8_t *form, size_t form_len, uint8_t *out, si
 uint64_t wnt_unresolve(const uint8_t *form, size_t form_len, uint8_t *out, size_t out_len, uint8_t *restored,
                        size_t restored_len, uint8_t *again, size_t again_len);
 
-/* Mends the form in the first `length` bytes of `buffer`, whose other bytes are room for added rows: a part row is
- * dropped, rows after the root's CLOSE are cut, missing CLOSE rows are added at the end, the row count is set to the rows
+/* Mends the form in the first `length` bytes of `buffer`, of either version and rule set; the other bytes of `buffer` are
+ * room for added rows, and no working area is needed. A part row is dropped, rows after the root's CLOSE are cut, missing CLOSE rows are added at the end, the row count is set to the rows
  * that there are, and what must be zero is zeroed. Nothing else changes. The answer has 0 in its upper half and the number
  * of changes in the lower, which is 0 for a sound form; or a refusal, and then nothing is written:
  *
- *   1        `length` is below 8, or bytes 0 to 4 are not those of a header
- *   2        `length` is above `buffer_len`, or the mended form would have no row or more than 1023
+ *   1        bytes 0 to 4 are not those of a header, or `length` is below that header's (8, or 16 for version 2), or byte 5
+ *            of version 2 is no rule set; byte 5 of version 1 is zeroed
+ *   2        `length` is above `buffer_len`, or the mended form would have no row or more than its version may have
  *   3        `buffer` has no room for the mended form, or `list` none for the list
  *   4, 5     the mended form is still none; the place is a row of it
  *

@@ -1,7 +1,7 @@
 //! A mender of its own, after request R-11: what becomes of a spoilt form, and the list of changes.
 
-use crate::recognise::recognise;
-use crate::rows::{CASE, CLOSE, DECL, EXPORT, FIELD, HEADER, MOST_ROWS, OPEN, OUTER, PATH, REF, ROW};
+use crate::recognise::read_within;
+use crate::rows::{CASE, CLOSE, DECL, EXPORT, FIELD, FIRST, OPEN, OUTER, PATH, REF, ROW, SECOND, Version};
 use crate::shapes::Shapes;
 
 /// The fields whose e says something: a builtin's code, and whether an export has an ascribed type.
@@ -71,24 +71,39 @@ fn kept(rows: &[&[u8]]) -> (usize, usize) {
     (rows.len(), open)
 }
 
-/// The pieces of a form that begins as one does: all that can change, in the form's order.
-fn pieces(form: &[u8]) -> Vec<Change> {
-    let rows: Vec<&[u8]> = form[HEADER..].chunks_exact(ROW).collect();
+/// The version and the rule set whose header a spoilt form begins with. Byte 5 of version 1 is mended, and so is not asked.
+fn header_of(form: &[u8]) -> Option<(Version, u8)> {
+    let begins = |version: Version| form.len() >= version.header && form[..5] == version.head(0, 0)[..5];
+    if begins(FIRST) {
+        Some((FIRST, 0))
+    } else if begins(SECOND) && form[5] < 2 {
+        Some((SECOND, form[5]))
+    } else {
+        None
+    }
+}
+
+/// The pieces of a form that begins as one of this version does: all that can change, in the form's order.
+fn pieces(version: Version, set: u8, form: &[u8]) -> Vec<Change> {
+    let rows: Vec<&[u8]> = form[version.header..].chunks_exact(ROW).collect();
     let (stay, open) = kept(&rows);
-    let count = ((stay + open) as u16).to_le_bytes().to_vec();
+    let head = version.head(stay + open, set);
     let piece = |at: usize, before: &[u8], now: Vec<u8>| Change { at, before: before.to_vec(), now };
-    let mut all = vec![piece(5, &form[5..6], vec![0]), piece(6, &form[6..8], count)];
+    let behind = 6 + version.counting;
+    let mut all: Vec<Change> = [(5, 6), (6, behind), (behind, version.header)]
+        .map(|(start, end)| piece(start, &form[start..end], head[start..end].to_vec()))
+        .into();
     for (number, row) in rows[..stay].iter().enumerate() {
         let now = mended_row(row);
         let part = |(start, end): (usize, usize)| {
-            piece(HEADER + ROW * number + start, &row[start..end], now[start..end].to_vec())
+            piece(version.form_size(number) + start, &row[start..end], now[start..end].to_vec())
         };
         all.extend(PARTS.map(part));
     }
     let mut close = [0; ROW];
     close[0] = CLOSE;
-    let behind = HEADER + ROW * stay;
-    all.push(piece(behind, &form[behind..], close.repeat(open)));
+    let last = version.form_size(stay);
+    all.push(piece(last, &form[last..], close.repeat(open)));
     all
 }
 
@@ -114,27 +129,25 @@ fn changed(form: &[u8], changes: &[Change]) -> Vec<u8> {
     now
 }
 
-/// A refusal, or the mended form and the changes.
-fn mended(shapes: &Shapes, form: &[u8], room: usize, space: usize) -> Result<(Vec<u8>, Vec<Change>), (u32, u32)> {
-    if form.len() < HEADER || form[..5] != *b"WNT\x01\x00" {
-        return Err((1, 0));
-    }
-    let mut changes = pieces(form);
+/// A refusal, or the mended form and the changes. The shapes are those of the two rule sets.
+fn mended(shapes: &[Shapes; 2], form: &[u8], room: usize, space: usize) -> Result<(Vec<u8>, Vec<Change>), (u32, u32)> {
+    let (version, set) = header_of(form).ok_or((1, 0))?;
+    let mut changes = pieces(version, set, form);
     changes.retain(|change| change.before != change.now);
     let now = changed(form, &changes);
-    let rows = (now.len() - HEADER) / ROW;
-    if rows == 0 || rows > MOST_ROWS {
+    let rows = (now.len() - version.header) / ROW;
+    if rows == 0 || rows > version.rows {
         return Err((2, 0));
     }
     if room < now.len() || space < listed(&changes).len() {
         return Err((3, 0));
     }
-    recognise(shapes, &now, usize::MAX)?;
+    read_within(&shapes[usize::from(set)], &version.decode(&now), version.scopes)?;
     Ok((now, changes))
 }
 
 /// What mending the first `long` bytes of a buffer leaves.
-pub fn mend(shapes: &Shapes, buffer: &[u8], long: usize, list: &[u8]) -> Left {
+pub fn mend(shapes: &[Shapes; 2], buffer: &[u8], long: usize, list: &[u8]) -> Left {
     let (mut buffer, mut list) = (buffer.to_vec(), list.to_vec());
     let result = match buffer.get(..long) {
         Some(form) => mended(shapes, form, buffer.len(), list.len()),

@@ -23,7 +23,7 @@ pub const MOST_ROWS: usize = FIRST.rows;
 pub struct Version {
     pub number: u8,
     pub header: usize,
-    counting: usize,
+    pub counting: usize,
     pub rows: usize,
     pub scopes: usize,
 }

@@ -1,11 +1,11 @@
 //! Spoilt forms, and the comparison of the proved mender with that of `mend`.
 
 use crate::chance::Chance;
-use crate::damage::damage;
+use crate::damage::damage_as;
 use crate::generate;
 use crate::library;
 use crate::mend::{Left, mend};
-use crate::rows::{CLOSE, FIELD, HEADER, OPEN, OUTER, ROW, Row, encode};
+use crate::rows::{CLOSE, FIELD, FIRST, OPEN, OUTER, ROW, Row, SECOND, Version};
 use crate::shapes::Shapes;
 use std::collections::BTreeMap;
 
@@ -17,12 +17,12 @@ struct Spoilt {
 }
 
 /// Puts a number other than zero into a part, as an old editor does; often one that 01 says is zero.
-fn spoil_part(bytes: &mut [u8], chance: &mut Chance) {
-    let rows = (bytes.len() - HEADER) / ROW;
+fn spoil_part(version: Version, bytes: &mut [u8], chance: &mut Chance) {
+    let rows = (bytes.len() - version.header) / ROW;
     if rows == 0 {
         return;
     }
-    let at = HEADER + ROW * chance.below(rows);
+    let at = version.form_size(chance.below(rows));
     let (start, end) = chance.pick(&[(1, 2), (2, 4), (4, 8), (8, 12), (12, 16)]);
     bytes[at + start + chance.below(end - start)] = chance.pick(&[1, 2, 3, 4, 7, 128, 255]);
 }
@@ -44,25 +44,33 @@ fn spoil_zero(row: &mut Row, chance: &mut Chance) {
 }
 
 /// One way to spoil the bytes of a form.
-fn spoil_bytes(bytes: &mut Vec<u8>, chance: &mut Chance) {
-    if bytes.len() < HEADER {
+fn spoil_bytes(version: Version, bytes: &mut Vec<u8>, chance: &mut Chance) {
+    if bytes.len() < version.header {
         return;
     }
     match chance.below(9) {
         0 => bytes.truncate(chance.below(bytes.len() + 1)),
-        1 => bytes.truncate(bytes.len() - (bytes.len() - HEADER).min(ROW * chance.below(4))),
+        1 => bytes.truncate(bytes.len() - (bytes.len() - version.header).min(ROW * chance.below(4))),
         2 => bytes.extend((0..chance.below(40)).map(|_| chance.below(256) as u8).collect::<Vec<u8>>()),
         3 => bytes.extend(vec![chance.pick(&[0, 7, 8, 255]); ROW * chance.below(4)]),
-        4 => bytes[6 + chance.below(2)] = chance.below(256) as u8,
-        5 => bytes[5] = chance.below(256) as u8,
-        6 => bytes[chance.below(HEADER)] = chance.below(256) as u8,
-        _ => spoil_part(bytes, chance),
+        4 => bytes[6 + chance.below(version.header - 6)] = chance.below(256) as u8,
+        5 => bytes[5] = if chance.percent(50) { chance.below(3) as u8 } else { chance.below(256) as u8 },
+        6 => bytes[chance.below(version.header)] = chance.below(256) as u8,
+        _ => spoil_part(version, bytes, chance),
     }
 }
 
+/// As many rows as a form may have, and a few more or less.
+fn longest(version: Version, chance: &mut Chance) -> Vec<u8> {
+    let open = Row::new(OPEN, 0, 0, 0, 0, 0);
+    let field = Row::new(FIELD, chance.below(24) as u8, 0, 0, 0, 0);
+    let count = version.rows - 5 + chance.below(10);
+    version.encode(&[vec![open], vec![field; count]].concat())
+}
+
 /// The bytes of a form that is spoilt in up to four ways; sometimes a sound one, sometimes none at all.
-fn spoilt_form(shapes: &Shapes, chance: &mut Chance) -> Vec<u8> {
-    let mut rows = generate::form(shapes, chance.next());
+fn spoilt_form(version: Version, set: u8, shapes: &Shapes, chance: &mut Chance) -> Vec<u8> {
+    let mut rows = generate::form_of(version, shapes, chance.next());
     if chance.percent(60) {
         for row in &mut rows {
             if chance.percent(25) {
@@ -72,28 +80,28 @@ fn spoilt_form(shapes: &Shapes, chance: &mut Chance) -> Vec<u8> {
     }
     let mut bytes = match chance.below(20) {
         0 => (0..chance.below(200)).map(|_| chance.below(12) as u8).collect(),
-        1 | 2 => damage(&rows, chance),
-        3 => {
-            // As many rows as a form may have, and a few more or less.
-            let open = Row::new(OPEN, 0, 0, 0, 0, 0);
-            let field = Row::new(FIELD, chance.below(24) as u8, 0, 0, 0, 0);
-            let count = 1018 + chance.below(10);
-            encode(&[vec![open], vec![field; count]].concat())
-        }
-        _ => encode(&rows),
+        1 | 2 => damage_as(version, &rows, chance),
+        3 if version == FIRST || chance.percent(10) => longest(version, chance),
+        _ => version.encode(&rows),
     };
+    if set > 0 && bytes.len() > 5 {
+        bytes[5] = set;
+    }
     for _ in 0..chance.below(4) {
-        spoil_bytes(&mut bytes, chance);
+        spoil_bytes(version, &mut bytes, chance);
     }
     bytes
 }
 
 /// A spoilt form in a buffer with some room, and a list's buffer that is sometimes short.
-fn spoilt(shapes: &Shapes, chance: &mut Chance) -> Spoilt {
-    let form = spoilt_form(shapes, chance);
+fn spoilt(shapes: &[Shapes; 2], chance: &mut Chance) -> Spoilt {
+    let version = chance.pick(&[FIRST, SECOND]);
+    let set = u8::from(version == SECOND && chance.percent(40));
+    let form = spoilt_form(version, set, &shapes[usize::from(set)], chance);
     let room = chance.pick(&[0, 1, 15, 16, 17, 32, 100, 600, 600, 600, 600]);
     let long = if chance.percent(2) { form.len() + room + chance.below(3) } else { form.len() };
-    let space = if chance.percent(70) { 100_000 } else { chance.pick(&[0, 12, 15, 16, 28, 44, 60, 200]) };
+    let space =
+        if chance.percent(70) { 100_000.max(2 * form.len()) } else { chance.pick(&[0, 12, 15, 16, 28, 44, 60, 200]) };
     let mut buffer = form;
     buffer.extend((0..room).map(|_| chance.below(256) as u8).collect::<Vec<u8>>());
     let list = vec![chance.below(256) as u8; space];
@@ -102,7 +110,7 @@ fn spoilt(shapes: &Shapes, chance: &mut Chance) -> Spoilt {
 
 /// Mends so many spoilt forms on both sides; answers whether both left the same each time.
 pub fn run(seed: u64, count: u64) -> bool {
-    let shapes = Shapes::new();
+    let shapes = [Shapes::new(), Shapes::newer()];
     let mut answers: BTreeMap<u64, u64> = BTreeMap::new();
     for number in 0..count {
         let mut chance = Chance::new(seed.rotate_left(32) ^ number);

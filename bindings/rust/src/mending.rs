@@ -1,6 +1,6 @@
 //! Mending: a form that an old editor spoilt, and the changes that make one of it again.
 
-use crate::{Refusal, MAX_FORM_SIZE};
+use crate::{Refusal, Version};
 
 /// What a mending changed at one place.
 #[derive(Clone, Debug, PartialEq, Eq, Hash)]
@@ -17,24 +17,28 @@ extern "C" {
     fn wnt_mend(buffer: *mut u8, buffer_len: usize, length: usize, list: *mut u8, list_len: usize) -> u64;
 }
 
-/// The most bytes of a list but for those that a cut takes away: two parts of the header, five of each row, and the cut.
-const MOST_LISTED: usize = 2 * 16 + 1023 * 5 * 16 + 16;
+/// The most bytes of a list but for those that a cut takes away: three parts of the header, five of each row, and the cut.
+const fn most_listed(version: Version) -> usize {
+    3 * 20 + version.max_rows() * 5 * 16 + 16
+}
 
-/// Mends a form and gives the mended one with the changes, in its order; a sound form stays, with no change.
+/// Mends a form of either version and gives the mended one with the changes, in its order; a sound form stays, with no change.
 ///
 /// Both buffers have the room that is needed, so it is never refused with [`Refusal::Room`].
 pub fn mend(form: &[u8]) -> Result<(Vec<u8>, Vec<Change>), Refusal> {
+    let version = Version::of(form).unwrap_or(Version::One);
     let mut buffer = form.to_vec();
-    buffer.resize(form.len().max(MAX_FORM_SIZE), 0);
-    let mut list = vec![0; MOST_LISTED + form.len()];
+    buffer.resize(form.len().max(version.form_size(version.max_rows())), 0);
+    let mut list = vec![0; most_listed(version) + form.len()];
     // SAFETY: both buffers are valid for their lengths while the call lasts, and are borrowed alone.
     let answer = unsafe { wnt_mend(buffer.as_mut_ptr(), buffer.len(), form.len(), list.as_mut_ptr(), list.len()) };
     let (number, rest) = ((answer >> 32) as u32, answer as u32);
     if number > 0 {
         return Err(Refusal::of(number, rest));
     }
-    let rows = usize::from(u16::from_le_bytes([buffer[6], buffer[7]]));
-    buffer.truncate(crate::form_size(rows));
+    let high = if version == Version::Two { [buffer[8], buffer[9]] } else { [0, 0] };
+    let rows = u32::from_le_bytes([buffer[6], buffer[7], high[0], high[1]]) as usize;
+    buffer.truncate(version.form_size(rows));
     Ok((buffer, changes(&list, rest as usize)))
 }
 

@@ -49,3 +49,18 @@ fn what_is_no_form_is_refused() {
     form[8] = 8;
     assert_eq!(mend(&form), Err(Refusal::Broken { row: 0 }));
 }
+
+#[test]
+fn a_form_of_version_2_is_mended_under_its_rule_set() {
+    let rows = empty()[8..].to_vec();
+    let form = |header: &[u8], rows: &[u8]| [header, rows].concat();
+    let sound = form(b"WNT\x02\x00\x01\x02\x00\x00\x00\x00\x00\x00\x00\x00\x00", &rows);
+    assert_eq!(mend(&sound), Ok((sound.clone(), Vec::new())));
+    let spoilt = form(b"WNT\x02\x00\x01\x09\x00\x00\x01\x00\x05\x00\x00\x00\x00", &rows[..16]);
+    let count = Change { offset: 6, before: vec![9, 0, 0, 1], now: 4 };
+    let zeros = Change { offset: 10, before: vec![0, 5, 0, 0, 0, 0], now: 6 };
+    let close = Change { offset: 32, before: Vec::new(), now: 16 };
+    assert_eq!(mend(&spoilt), Ok((sound, vec![count, zeros, close])));
+    let other = form(b"WNT\x02\x00\x02\x02\x00\x00\x00\x00\x00\x00\x00\x00\x00", &rows);
+    assert_eq!(mend(&other), Err(Refusal::Header));
+}

@@ -18,6 +18,8 @@ use files::write::save;
 use known::file::refuse_form;
 use mend::run::Answer;
 use mend::run::mend;
+use refusal::NOT_A_FORM;
+use refusal::Refusal;
 use row_parts::rows_said;
 use words::say;
 
@@ -39,8 +41,20 @@ fn save_mended(form: &[u8], path: &[u8], list: &[u8], changes: u32) -> u8 {
     }
 }
 
+// Whether a form says version 2, of which the program takes none.
+fn is_second(buffer: &[u8; 65536]) -> bool {
+    buffer[3] == 2
+}
+
 // Mends the form in the first bytes of a buffer, so many. The list has room for every change that such a form can need.
 fn mend_loaded(mut buffer: [u8; 65536], length: usize, path: &[u8]) -> u8 {
+    if is_second(&buffer) {
+        let refusal = Refusal {
+            number: NOT_A_FORM,
+            place: 0,
+        };
+        return refuse_form(part(&buffer, length), path, refusal);
+    }
     let mut list = [0u8; 163840];
     match mend(&mut buffer, length, &mut list) {
         Answer::Mended(changes) => {
@@ -77,7 +91,7 @@ pub fn mend_command(task: Task, first: u8) -> u8 {
         Task::Run => run_mend(first),
         Task::Help => say_topic(
             b"mend IN OUT",
-            b"Mends a form that an editor has spoilt and writes it to OUT, a file whole or not at all: a\npart row is dropped, rows behind the root's CLOSE are cut, missing CLOSE rows are added, the\nrow count is set, and what must be zero is zeroed. Prints each change with its row and part.\nA sound form is written as it is. What is no form even so is refused, and not written.\n",
+            b"Mends a form that an editor has spoilt and writes it to OUT, a file whole or not at all: a\npart row is dropped, rows behind the root's CLOSE are cut, missing CLOSE rows are added, the\nrow count is set, and what must be zero is zeroed. Prints each change with its row and part.\nA sound form is written as it is. What is no form even so is refused, and not written. Forms of\nversion 2 are refused too: of those the library takes care (wnt_mend).\n",
             b"mended or sound, and written",
             b"refused",
             b"mend spoilt.wnt mended.wnt",

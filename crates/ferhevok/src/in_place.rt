@@ -3,7 +3,7 @@ use mend::run::Answer;
 use mend::run::mend;
 ghost use mathlib.Core.Path.{_≡_};
 ghost use lib.ListN.{length};
-ghost use Rattle.rules.specs.Versions.{base};
+ghost use Rattle.rules.specs.Versions.{all};
 ghost use Rattle.mending.specs.Mend.{mendBuffer, bufferAfter, listAfter};
 ghost use Rattle.mend.specs.Meaning.{meaning, ruled};
 ghost use Rattle.ferhevok.specs.Packed.{packedMending};
@@ -21,9 +21,9 @@ fn packed_in(answer: Answer) -> u64
 // Mends the form in the first `long` bytes of `buffer`, and lists the changes in `list`.
 #[no_mangle]
 pub extern "C" fn wnt_mend(buffer: &mut [u8], long: usize, list: &mut [u8]) -> u64
-    ensures { λ r. ⌜ r ≡ packedMending (ruled (mendBuffer base (now (buffer .entry)) long (length (now (list .entry))))) ⌝ }
-    ensures { λ r. ⌜ now (buffer .exit) ≡ bufferAfter (mendBuffer base (now (buffer .entry)) long (length (now (list .entry)))) long (now (buffer .entry)) ⌝ }
-    ensures { λ r. ⌜ now (list .exit) ≡ listAfter (mendBuffer base (now (buffer .entry)) long (length (now (list .entry)))) (now (list .entry)) ⌝ }
+    ensures { λ r. ⌜ r ≡ packedMending (ruled (mendBuffer all (now (buffer .entry)) long (length (now (list .entry))))) ⌝ }
+    ensures { λ r. ⌜ now (buffer .exit) ≡ bufferAfter (mendBuffer all (now (buffer .entry)) long (length (now (list .entry)))) long (now (buffer .entry)) ⌝ }
+    ensures { λ r. ⌜ now (list .exit) ≡ listAfter (mendBuffer all (now (buffer .entry)) long (length (now (list .entry)))) (now (list .entry)) ⌝ }
 {
     packed_in(mend(buffer, long, list))
 }

@@ -1,175 +1,277 @@
--- What the code answers and leaves is what the rules say.
-use mathlib.Core.Path.{_≡_, refl, sym, ap, _∙_, subst}
+-- What the code answers and leaves is what the rules say, for every setting.
+use mathlib.Core.Path.{_≡_, refl, sym, ap, ap₂, _∙_, subst}
 use mathlib.Core.Bool.{Bool, true, false, _&&_, _||_, not, and-true}
 use mathlib.Core.Logic.{_⊎_, inl, inr}
-use mathlib.Core.Option.{Option}
-use mathlib.Core.List.{List, [], _∷_, _++_, append-assoc}
+use mathlib.Core.Option.{Option, none, some}
+use mathlib.Core.List.{List, [], _∷_, _++_, append-assoc, append-nil}
 use native.Mathlib.Omega.{arith}
 use native.Mathlib.Nat.{zero-add}
-use Prim.Native.Nat.{ℕ, zero, suc, _+_, _-_, _*_, _/_, _%_, _≤_, _<_}
+use Prim.Native.Nat.{ℕ, zero, suc, _+_, _-_, _*_, _/_, _%_, _^_, _≤_, _<_}
 use lib.Dec.{eqb, leb, ltb}
 use lib.ListN.{length, getD, take, drop, replicate, length-append, length-drop, length-replicate}
 use lib.Seq.{sets, sets-eq, length-take-le}
-use borrow.Author.Tests.{not-true, not-false, ltb-false, eqb-true}
+use borrow.Author.Tests.{ltb-false, eqb-true}
 use Rattle.kit.specs.Out.{_&_}
 use Rattle.kit.specs.Pick.{pick}
 use Rattle.kit.proofs.Laws.{tests, lt-or-le, sets-append}
 use Rattle.rules.specs.Tools.{if_then_else_, only, _orElse_, between}
-use Rattle.rules.specs.Versions.{version1, today, topName, base}
+use Rattle.rules.specs.Versions.{RuleSet, Version, Setting, all}
 use Rattle.rules.specs.Rows.{Row, value, bytes}
 use Rattle.rules.specs.Tree.{Reading, bad, deep, form}
 use Rattle.rules.specs.Begins.{Right}
 use Rattle.rules.specs.Reader.{read}
-use Rattle.rules.specs.Answer.{mark, sameNumbers, hasHeader, rowCount, rowsOf, rowsIn}
-use Rattle.rules.specs.Laws.ToolLaws.{and-left, and-right, false-not}
+use Rattle.rules.specs.Answer.{mark, sameNumbers, hasHeader, rowCount, rowsOf, rowsIn, headerBytes}
+use Rattle.rules.specs.Laws.ToolLaws.{leb-le}
 use Rattle.rules.specs.Laws.Reading.ReadRight.{read-right}
+use Rattle.rules.specs.Laws.Output.OutBytes
+use Rattle.headers.specs.Laws.Written.{written-header}
 use Rattle.read_form.specs.ReadForm.{asAnswer, readForm}
-use Rattle.reader.specs.Readings.{answerOf, readOf}
+use Rattle.limits.specs.declared.Limits.{Limits}
+use Rattle.limits.specs.Held.{settingIn, limitsOf, setting}
+use Rattle.limits.proofs.Laws.{stand-for}
+use Rattle.reader.specs.Readings.{answerOf, readTo}
 use Rattle.mending.specs.Mend
-use Rattle.mending.specs.Mend.{Change, Mending, refused, mended, afters, changes, listBytes, formPieces, sized, mendIn, asksFor, settingFor, mendFor, mend, mendBuffer, bufferAfter, listAfter}
+use Rattle.mending.specs.Mend.{Change, Mending, refused, mended, afters, changes, listBytes, allRows, behindHeader, headerPieces, formPieces, sized, mendIn, asksFor, settingFor, mendFor, mend, mendBuffer, bufferAfter, listAfter}
+use Rattle.mending.specs.Laws.Pieces.{afters-append, same-lists}
+use Rattle.mending.specs.Laws.SoundStays.{three}
 use Rattle.mend_form.specs.Kept.{keptIn}
-use Rattle.mend_form.specs.Filled.{first, bodyT, headT, formT}
+use Rattle.mend_form.specs.Filled.{bodyT}
 use Rattle.mend_form.specs.declared.Kept.{Kept}
-use Rattle.mend_form.proofs.Right.{form-right}
+use Rattle.mend_form.proofs.Laws.{body-size}
+use Rattle.mend_form.proofs.Right.{body-right}
+use Rattle.mend_list.specs.Listed.{changesIn}
+use Rattle.mend_list.proofs.Changes.{header-size, list-right, form-counted}
 use Rattle.mend.specs.Meaning.{meaning, ruled}
-use Rattle.mend_list.specs.Listed.{allChanges}
-use Rattle.mend.specs.Run.{Ran, refusedT, markedT, inPlace, writeT, readThen, roomT, toT, madeT}
+use Rattle.mend.specs.Run.{Ran, refusedT, lettersT, asksT, placeT, newT, inPlace, writeT, readThen, roomT, toT, madeT}
 use Rattle.mend.specs.declared.run.Answer.{Answer}
-use Rattle.mend_list.proofs.Changes.{long, form-changes}
 
--- ---- the first five bytes
+-- ---- which setting
 
-asks : (l : List ℕ) → asksFor first l ≡ markedT l
-unfolding asksFor markedT mark sameNumbers bytes pick
-asks [] = refl
-asks (a ∷ []) = refl
-asks (a ∷ b ∷ []) = refl
-asks (a ∷ b ∷ c ∷ []) = refl
-asks (a ∷ b ∷ c ∷ d ∷ []) = refl
-asks (a ∷ b ∷ c ∷ d ∷ e ∷ []) = refl
-asks (a ∷ b ∷ c ∷ d ∷ e ∷ f ∷ []) = refl
-asks (a ∷ b ∷ c ∷ d ∷ e ∷ f ∷ g ∷ []) = refl
-asks (a ∷ b ∷ c ∷ d ∷ e ∷ f ∷ g ∷ h ∷ l) =
-    let n = suc (suc (suc (suc (suc (suc (suc (suc (length l)))))))) in
-    let t : leb 8 n ≡ true = omega tests in
-    let u : ltb n 8 ≡ false = omega tests in
-    rw (t, u) (simp and-true)
+-- the first five bytes and the rule set, by a version of one byte and a rule set of one byte
+module _ (a b c d e f g h : ℕ) (rest : List ℕ) where
+  abbrev whole : List ℕ
+  whole = a ∷ b ∷ c ∷ d ∷ e ∷ f ∷ g ∷ h ∷ rest
 
-record Marked (l : List ℕ) : Type 0 where
-  enough : 8 ≤ length l
-  w : getD l 0 0 ≡ 87
-  n : getD l 1 0 ≡ 78
-  t : getD l 2 0 ≡ 84
-  low : getD l 3 0 ≡ 1
-  high : getD l 4 0 ≡ 0
+  asks-one : asksFor (setting 0) whole ≡ asksT (limitsOf (setting 0)) whole
+  unfolding asksFor asksT lettersT mark sameNumbers bytes pick
+  asks-one =
+      let n = suc (suc (suc (suc (suc (suc (suc (suc (length rest)))))))) in
+      let t : leb 8 n ≡ true = omega tests in
+      let u : ltb n 8 ≡ false = omega tests in
+      rw (t, u) (simp and-true)
 
-marked : (l : List ℕ) → markedT l ≡ true → Marked l
-unfolding markedT pick
-marked l e = go (ltb (length l) 8) refl e
+  abbrev letters : (version : ℕ) → Bool
+  letters version = eqb a 87 && (eqb b 78 && (eqb c 84 && (eqb d version && eqb e 0)))
+
+  abbrev said : (version : ℕ) → Bool
+  said version = eqb a 87 && (eqb b 78 && (eqb c 84 && (eqb d version && (eqb e 0 && true))))
+
+  -- a header of sixteen bytes
+  long-header : (rules : ℕ) → (leb 16 (length whole) && said 2 && (false || (eqb f rules && true))) ≡ pick (ltb (length whole) 16) false (letters 2 && (false || eqb f rules))
+  unfolding pick
+  long-header rules = go (lt-or-le (length whole) 16)
+    where
+      go : (length whole < 16) ⊎ (16 ≤ length whole) → (leb 16 (length whole) && said 2 && (false || (eqb f rules && true))) ≡ pick (ltb (length whole) 16) false (letters 2 && (false || eqb f rules))
+      go (inl s) =
+          let t : leb 16 (length whole) ≡ false = omega tests in
+          let v : ltb (length whole) 16 ≡ true = omega tests in
+          rw (t, v)
+      go (inr s) =
+          let t : leb 16 (length whole) ≡ true = omega tests in
+          let v : ltb (length whole) 16 ≡ false = omega tests in
+          rw (t, v) (simp and-true)
+
+  asks-two : asksFor (setting 1) whole ≡ asksT (limitsOf (setting 1)) whole
+  unfolding asksFor asksT lettersT mark sameNumbers bytes pick
+  asks-two = let u : ltb (length whole) 8 ≡ false = omega tests in rw u (long-header 0)
+
+  asks-newer : asksFor (setting 2) whole ≡ asksT (limitsOf (setting 2)) whole
+  unfolding asksFor asksT lettersT mark sameNumbers bytes pick
+  asks-newer = let u : ltb (length whole) 8 ≡ false = omega tests in rw u (long-header 1)
+
+asks : (i : ℕ) → i < 3 → (l : List ℕ) → asksFor (setting i) l ≡ asksT (limitsOf (setting i)) l
+unfolding asksFor asksT mark sameNumbers bytes pick
+asks zero h [] = refl
+asks zero h (a ∷ []) = refl
+asks zero h (a ∷ b ∷ []) = refl
+asks zero h (a ∷ b ∷ c ∷ []) = refl
+asks zero h (a ∷ b ∷ c ∷ d ∷ []) = refl
+asks zero h (a ∷ b ∷ c ∷ d ∷ e ∷ []) = refl
+asks zero h (a ∷ b ∷ c ∷ d ∷ e ∷ f ∷ []) = refl
+asks zero h (a ∷ b ∷ c ∷ d ∷ e ∷ f ∷ g ∷ []) = refl
+asks zero h (a ∷ b ∷ c ∷ d ∷ e ∷ f ∷ g ∷ i ∷ l) = asks-one a b c d e f g i l
+asks (suc zero) h [] = refl
+asks (suc zero) h (a ∷ []) = refl
+asks (suc zero) h (a ∷ b ∷ []) = refl
+asks (suc zero) h (a ∷ b ∷ c ∷ []) = refl
+asks (suc zero) h (a ∷ b ∷ c ∷ d ∷ []) = refl
+asks (suc zero) h (a ∷ b ∷ c ∷ d ∷ e ∷ []) = refl
+asks (suc zero) h (a ∷ b ∷ c ∷ d ∷ e ∷ f ∷ []) = refl
+asks (suc zero) h (a ∷ b ∷ c ∷ d ∷ e ∷ f ∷ g ∷ []) = refl
+asks (suc zero) h (a ∷ b ∷ c ∷ d ∷ e ∷ f ∷ g ∷ i ∷ l) = asks-two a b c d e f g i l
+asks (suc (suc zero)) h [] = refl
+asks (suc (suc zero)) h (a ∷ []) = refl
+asks (suc (suc zero)) h (a ∷ b ∷ []) = refl
+asks (suc (suc zero)) h (a ∷ b ∷ c ∷ []) = refl
+asks (suc (suc zero)) h (a ∷ b ∷ c ∷ d ∷ []) = refl
+asks (suc (suc zero)) h (a ∷ b ∷ c ∷ d ∷ e ∷ []) = refl
+asks (suc (suc zero)) h (a ∷ b ∷ c ∷ d ∷ e ∷ f ∷ []) = refl
+asks (suc (suc zero)) h (a ∷ b ∷ c ∷ d ∷ e ∷ f ∷ g ∷ []) = refl
+asks (suc (suc zero)) h (a ∷ b ∷ c ∷ d ∷ e ∷ f ∷ g ∷ i ∷ l) = asks-newer a b c d e f g i l
+asks (suc (suc (suc i))) h l = absurd (omega arith)
+
+-- the setting that the rules take, by its place
+abbrev settingAt : ℕ → Option Setting
+settingAt zero = some (setting 0)
+settingAt (suc zero) = some (setting 1)
+settingAt (suc (suc zero)) = some (setting 2)
+settingAt (suc (suc (suc i))) = none
+
+found : (bs : List ℕ) → settingFor all bs ≡ settingAt (placeT bs)
+unfolding settingFor placeT only _orElse_ pick
+found bs = rw (asks 0 (omega arith) bs, asks 1 (omega arith) bs, asks 2 (omega arith) bs) (go (asksT (limitsOf (setting 0)) bs) (asksT (limitsOf (setting 1)) bs) (asksT (limitsOf (setting 2)) bs))
   where
-    five : Bool
-    five = eqb (getD l 0 0) 87 && (eqb (getD l 1 0) 78 && (eqb (getD l 2 0) 84 && (eqb (getD l 3 0) 1 && eqb (getD l 4 0) 0)))
+    go : (a b c : Bool) → (only a (setting 0) orElse (only b (setting 1) orElse (only c (setting 2) orElse none))) ≡ settingAt (pick a 0 (pick b 1 (pick c 2 3)))
+    go true b c = refl
+    go false true c = refl
+    go false false true = refl
+    go false false false = refl
 
-    go : (b : Bool) → ltb (length l) 8 ≡ b → pick b false five ≡ true → Marked l
-    go true q p = false-not p
-    go false q p =
-        let p₁ = and-right (eqb (getD l 0 0) 87) _ p in
-        let p₂ = and-right (eqb (getD l 1 0) 78) _ p₁ in
-        let p₃ = and-right (eqb (getD l 2 0) 84) _ p₂ in
-        record {
-          enough = ltb-false (length l) 8 q;
-          w = eqb-true (getD l 0 0) 87 (and-left (eqb (getD l 0 0) 87) _ p);
-          n = eqb-true (getD l 1 0) 78 (and-left (eqb (getD l 1 0) 78) _ p₁);
-          t = eqb-true (getD l 2 0) 84 (and-left (eqb (getD l 2 0) 84) _ p₂);
-          low = eqb-true (getD l 3 0) 1 (and-left (eqb (getD l 3 0) 1) _ p₃);
-          high = eqb-true (getD l 4 0) 0 (and-right (eqb (getD l 3 0) 1) _ p₃);
-        }
+-- and it is asked for
+asked : (bs : List ℕ) (i : ℕ) → i ≡ placeT bs → i < 3 → asksT (limitsOf (setting i)) bs ≡ true
+unfolding placeT pick
+asked bs i e h = go (asksT (limitsOf (setting 0)) bs) (asksT (limitsOf (setting 1)) bs) (asksT (limitsOf (setting 2)) bs) refl refl refl i e h
+  where
+    go : (a b c : Bool) → asksT (limitsOf (setting 0)) bs ≡ a → asksT (limitsOf (setting 1)) bs ≡ b → asksT (limitsOf (setting 2)) bs ≡ c → (i : ℕ) → i ≡ pick a 0 (pick b 1 (pick c 2 3)) → i < 3 → asksT (limitsOf (setting i)) bs ≡ true
+    go true b c p q r i e h = rw e p
+    go false true c p q r i e h = rw e q
+    go false false true p q r i e h = rw e r
+    go false false false p q r i e h = absurd (omega arith)
 
--- ---- the size of the mended form
+-- ---- the mended form
 
-module _ (old : List ℕ) (h : 8 ≤ length old) where
+-- what is known of limits
+pub record Held (l : Limits) : Type 0 where
+  fits : 6 + pick (l .wide) 4 2 ≤ l .header
+  short : l .header ≤ 16
+  few : l .rows ≤ 16383
+  countable : 4 * l .rows < 256 ^ pick (l .wide) 4 2
+
+held : (i : ℕ) → Held (limitsOf (setting i))
+unfolding pick
+held zero = record { fits = omega arith; short = omega arith; few = omega arith; countable = omega arith }
+held (suc zero) = record { fits = omega arith; short = omega arith; few = omega arith; countable = omega arith }
+held (suc (suc zero)) = record { fits = omega arith; short = omega arith; few = omega arith; countable = omega arith }
+held (suc (suc (suc i))) = record { fits = omega arith; short = omega arith; few = omega arith; countable = omega arith }
+
+last-false : (a b : Bool) → b ≡ false → (a && b) ≡ false
+last-false true b e = e
+last-false false b e = refl
+
+module _ (l : Limits) (L : Held l) (old : List ℕ) (asks-it : asksFor (settingIn l) old ≡ true) where
+  abbrev s : Setting
+  s = settingIn l
+
   abbrev k : Kept
-  k = keptIn (drop 8 old)
+  k = keptIn (drop (l .header) old)
 
   abbrev total : ℕ
   total = k .rows + k .scopes
 
+  abbrev body : List ℕ
+  body = bodyT (drop (l .header) old) k
+
   abbrev new : List ℕ
-  new = formT old k
+  new = newT l old k
 
-  counted : rowCount version1 new ≡ total % 65536
-  unfolding rowCount formT headT value
-  counted = omega arith
+  parted : (leb (l .header) (length old) ≡ true) × (sameNumbers (take 5 old) (take 5 (mark s)) ≡ true) × (eqb (l .version) 1 || sameNumbers (take 1 (drop 5 old)) (bytes 1 (l .rules)) ≡ true)
+  unfolding asksFor settingIn
+  parted = three _ _ _ asks-it
 
-  sized-none : total ≡ 0 → sized version1 new ≡ false
-  unfolding sized
-  sized-none e = let c : rowCount version1 new ≡ 0 = omega (arith, counted) in rw c
+  pub long : l .header ≤ length old
+  long = leb-le (l .header) (length old) (parted .0)
 
-  last-false : (a b c : Bool) → b ≡ false → (a && b && c) ≡ false
-  last-false true b c e = rw e
-  last-false false b c e = refl
+  head-right : (count : ℕ) → afters (headerPieces s count old) ≡ headerBytes s count
+  unfolding headerPieces headerBytes afters mark bytes settingIn
+  head-right count = rw (same-lists (take 5 old) (take 5 (mark s)) (parted .1), append-nil)
 
-  end-false : (a b : Bool) → b ≡ false → (a && b) ≡ false
-  end-false true b e = e
-  end-false false b e = refl
+  form-right : afters (formPieces s old) ≡ new
+  unfolding formPieces behindHeader newT
+  form-right =
+      let rows = allRows 0 (length (drop (s .version .header) old) / 16) (drop (s .version .header) old) in
+      afters-append (headerPieces s (length (afters rows) / 16) old) rows
+      ∙ ap₂ (λ (p q : List ℕ). p ++ q) (ap (λ (n : ℕ). afters (headerPieces s n old)) (form-counted l old (L .fits) (L .short) long) ∙ head-right total) (unfold settingIn in body-right (drop (l .header) old))
 
-  sized-many : 1023 < total → sized version1 new ≡ false
-  unfolding sized
-  sized-many g = go (lt-or-le total 65536)
+  abbrev v : Version
+  v = s .version
+
+  new-size : length new ≡ l .header + 16 * total
+  unfolding newT
+  new-size = omega (arith, length-append (headerBytes s total) body, header-size l total (L .fits) (L .short), body-size (drop (l .header) old) k)
+
+  -- where it is as long as its count says, that is how many rows it has
+  counted : eqb (length new) (l .header + 16 * rowCount v new) ≡ true → rowCount v new ≡ total
+  counted e = omega (arith, eqb-true (length new) (l .header + 16 * rowCount v new) e, new-size)
+
+  unsized : (total ≡ 0) ⊎ (l .rows < total) → sized v new ≡ false
+  unfolding sized settingIn
+  unsized h = go (eqb (length new) (l .header + 16 * rowCount v new)) refl
     where
-      go : (total < 65536) ⊎ (65536 ≤ total) → (between 1 1023 (rowCount version1 new) && eqb (length new) (8 + 16 * rowCount version1 new)) ≡ false
-      go (inl f) =
-          let c : rowCount version1 new ≡ total = omega (arith, counted) in
-          let t : leb (rowCount version1 new) 1023 ≡ false = omega (tests, c) in
-          last-false (leb 1 (rowCount version1 new)) (leb (rowCount version1 new) 1023) _ t
-      go (inr f) =
-          let c = long old h in
-          let d = counted in
-          let t : eqb (length new) (8 + 16 * rowCount version1 new) ≡ false = omega (tests, c, d) in
-          end-false (between 1 1023 (rowCount version1 new)) _ t
+      outside : (total ≡ 0) ⊎ (l .rows < total) → rowCount v new ≡ total → between 1 (l .rows) (rowCount v new) ≡ false
+      outside (inl z) e = let t : leb 1 (rowCount v new) ≡ false = omega (tests, e) in rw t
+      outside (inr z) e = let t : leb (rowCount v new) (l .rows) ≡ false = omega (tests, e) in last-false (leb 1 (rowCount v new)) _ t
 
-  module _ (some : total ≡ 0 → ⊥) (few : total ≤ 1023) where
-    rows-counted : rowCount version1 new ≡ total
-    rows-counted = omega (arith, counted)
+      go : (b : Bool) → eqb (length new) (l .header + 16 * rowCount v new) ≡ b → (between 1 (l .rows) (rowCount v new) && eqb (length new) (l .header + 16 * rowCount v new)) ≡ false
+      go true e = rw (outside h (counted e))
+      go false e = last-false (between 1 (l .rows) (rowCount v new)) _ e
 
-    between-right : between 1 1023 (rowCount version1 new) ≡ true
+  module _ (some-rows : total ≡ 0 → ⊥) (few-rows : total ≤ l .rows) where
+    rows-counted : rowCount v new ≡ total
+    unfolding newT settingIn rowCount
+    rows-counted = OutBytes.header-count s total body (omega (arith, L .countable))
+
+    between-right : between 1 (l .rows) (rowCount v new) ≡ true
     between-right =
         let c = rows-counted in
-        let t : leb 1 (rowCount version1 new) ≡ true = omega (tests, c) in
-        let u : leb (rowCount version1 new) 1023 ≡ true = omega (tests, c) in
+        let t : leb 1 (rowCount v new) ≡ true = omega (tests, c) in
+        let u : leb (rowCount v new) (l .rows) ≡ true = omega (tests, c) in
         rw (t, u)
 
-    length-right : eqb (length new) (8 + 16 * rowCount version1 new) ≡ true
-    length-right = let c = rows-counted in let d = long old h in omega (tests, c, d)
+    length-right : eqb (length new) (l .header + 16 * rowCount v new) ≡ true
+    length-right = let c = rows-counted in let d = new-size in omega (tests, c, d)
 
-    sized-right : sized version1 new ≡ true
-    unfolding sized
+    sized-right : sized v new ≡ true
+    unfolding sized settingIn
     sized-right = rw (between-right, length-right)
 
-    headed : Marked old → hasHeader first new ≡ true
-    unfolding hasHeader formT headT mark bytes sameNumbers
-    headed m =
-        let t : leb 8 (suc (suc (suc (suc (suc (suc (suc (suc (length (bodyT (drop 8 old) k)))))))))) ≡ true = omega tests in
-        rw (m .w, m .n, m .t, m .low, m .high, t)
+    headed : hasHeader s new ≡ true
+    unfolding newT settingIn
+    headed = written-header s total body (L .fits)
 
-    body-rows : length (drop 8 new) / 16 ≡ rowCount version1 new
-    body-rows = let c = rows-counted in let d = long old h in omega (arith, c, d, length-drop 8 new)
+    read-at : readForm s new ≡ asAnswer (read (s .rules) (v .scopes) (rowsIn s new))
+    unfolding readForm if_then_else_ settingIn
+    read-at = rw (headed, between-right, length-right)
 
-    read-at : Marked old → readForm first new ≡ asAnswer (read today 32 (rowsIn first new))
-    unfolding readForm if_then_else_
-    read-at m = rw (headed m, between-right, length-right)
+    behind-head : drop (l .header) new ≡ body
+    unfolding newT settingIn
+    behind-head = OutBytes.header-drop s total body (L .fits)
 
-    code-reads : readOf (drop 8 new) ≡ answerOf (read today 32 (rowsIn first new))
-    unfolding readOf
-    code-reads = rw body-rows
+    code-reads : readTo l body ≡ answerOf (read (s .rules) (v .scopes) (rowsIn s new))
+    unfolding readTo settingIn
+    code-reads =
+        let c : length body / 16 ≡ rowCount v new = omega (arith, body-size (drop (l .header) old) k, rows-counted) in
+        rw (behind-head, ← c)
 
-    rows-in : length (rowsIn first new) ≡ total
-    unfolding rowsOf
-    rows-in = rows-long (rowCount version1 new) (drop 8 new) ∙ rows-counted
+    rows-in : length (rowsIn s new) ≡ total
+    unfolding rowsOf settingIn
+    rows-in = rows-long (rowCount v new) (drop (l .header) new) ∙ rows-counted
       where
-        rows-long : (n : ℕ) (bs : List ℕ) → length (rowsOf topName n bs) ≡ n
+        rows-long : (n : ℕ) (bs : List ℕ) → length (rowsOf (l .names) n bs) ≡ n
         rows-long zero bs = refl
         rows-long (suc n) bs = ap suc (rows-long n (drop 16 bs))
+
+    list-is : changesIn l old ≡ changes 0 (formPieces s old)
+    list-is = list-right l old (L .fits) (L .short) long (omega (arith, L .few))
 
 -- ---- the answer and the buffers
 
@@ -181,37 +283,43 @@ module _ (buffer list : List ℕ) (long-is : ℕ) where
   unfolding bufferAfter listAfter
   says-refused n p = (refl, refl, refl)
 
-  module _ (new : List ℕ) (cs : List Change) (rows : ℕ) (is : allChanges (take long-is buffer) new rows ≡ cs) (near : long-is ≤ length buffer) where
-    placed-right : length new ≤ length buffer → inPlace buffer long-is new ≡ new ++ (replicate (long-is - length new) 0 ++ drop (length new + (long-is - length new)) buffer)
+  module _ (l : Limits) (kept : Kept) (near : long-is ≤ length buffer) where
+    abbrev made : List ℕ
+    made = newT l (take long-is buffer) kept
+
+    abbrev cs : List Change
+    cs = changesIn l (take long-is buffer)
+
+    placed-right : length made ≤ length buffer → inPlace buffer long-is made ≡ made ++ (replicate (long-is - length made) 0 ++ drop (length made + (long-is - length made)) buffer)
     unfolding inPlace
     placed-right h =
-        let zeros = replicate {A = ℕ} (long-is - length new) 0 in
-        let size : length (new ++ zeros) ≡ length new + (long-is - length new) = omega (arith, length-append new zeros, length-replicate {A = ℕ} (long-is - length new) 0) in
-        let join : sets (sets buffer 0 new) (length new) zeros ≡ sets buffer 0 (new ++ zeros) = sym (sets-append buffer 0 new zeros ∙ rw zero-add) in
-        join ∙ (sets-eq (new ++ zeros) buffer 0 (omega (arith, size)) ∙ (rw (size, zero-add) (append-assoc new zeros _)))
+        let zeros = replicate {A = ℕ} (long-is - length made) 0 in
+        let size : length (made ++ zeros) ≡ length made + (long-is - length made) = omega (arith, length-append made zeros, length-replicate {A = ℕ} (long-is - length made) 0) in
+        let join : sets (sets buffer 0 made) (length made) zeros ≡ sets buffer 0 (made ++ zeros) = sym (sets-append buffer 0 made zeros ∙ rw zero-add) in
+        join ∙ (sets-eq (made ++ zeros) buffer 0 (omega (arith, size)) ∙ (rw (size, zero-add) (append-assoc made zeros _)))
 
     listed-right : length (listBytes cs) ≤ length list → sets list 0 (listBytes cs) ≡ listBytes cs ++ drop (length (listBytes cs)) list
     listed-right h = sets-eq (listBytes cs) list 0 (omega arith) ∙ rw zero-add
 
-    says-written : length new ≤ length buffer → length (listBytes cs) ≤ length list → Says (mended new cs) (writeT buffer long-is list new rows)
+    says-written : length made ≤ length buffer → length (listBytes cs) ≤ length list → Says (mended made cs) (writeT l buffer long-is list kept)
     unfolding writeT bufferAfter listAfter
-    says-written h g = rw is (refl, placed-right h, listed-right g)
+    says-written h g = (refl, placed-right h, listed-right g)
 
-    says-read : (r : Reading) (rs : List (Option Row)) → Right today 32 rs r → length rs ≤ 1023 → length new ≤ length buffer → length (listBytes cs) ≤ length list
-        → Says (Mend.read (asAnswer r) new cs) (readThen (answerOf r) buffer long-is list new rows)
+    says-read : (rules : RuleSet) (scopes : ℕ) (r : Reading) (rs : List (Option Row)) → Right rules scopes rs r → length rs ≤ 16383 → length made ≤ length buffer → length (listBytes cs) ≤ length list
+        → Says (Mend.read (asAnswer r) made cs) (readThen (answerOf r) l buffer long-is list kept)
     unfolding asAnswer answerOf readThen Mend.read
-    says-read (bad p) rs h few f g = let e : p % 4294967296 ≡ p = omega (arith, h .in-range) in rw e (says-refused 4 p)
-    says-read (deep p) rs h few f g = let e : p % 4294967296 ≡ p = omega (arith, h .in-range) in rw e (says-refused 5 p)
-    says-read (form t) rs h few f g = says-written f g
+    says-read rules scopes (bad p) rs h few f g = let e : p % 4294967296 ≡ p = omega (arith, h .in-range) in rw e (says-refused 4 p)
+    says-read rules scopes (deep p) rs h few f g = let e : p % 4294967296 ≡ p = omega (arith, h .in-range) in rw e (says-refused 5 p)
+    says-read rules scopes (form t) rs h few f g = says-written f g
 
-    says-to : (r : Reading) (rs : List (Option Row)) → Right today 32 rs r → length rs ≤ 1023 → readOf (drop 8 new) ≡ answerOf r
-        → Says (if ltb (length buffer) (length new) || ltb (length list) (length (listBytes cs)) then refused 3 0 else Mend.read (asAnswer r) new cs) (toT buffer long-is list new rows)
+    says-to : (rules : RuleSet) (scopes : ℕ) (r : Reading) (rs : List (Option Row)) → Right rules scopes rs r → length rs ≤ 16383 → readTo l (bodyT (drop (l .header) (take long-is buffer)) kept) ≡ answerOf r → length made ≡ l .header + 16 * (kept .rows + kept .scopes)
+        → Says (if ltb (length buffer) (length made) || ltb (length list) (length (listBytes cs)) then refused 3 0 else Mend.read (asAnswer r) made cs) (toT l buffer long-is list kept)
     unfolding toT roomT if_then_else_ pick
-    says-to r rs h few e = rw (is, e) (go (ltb (length buffer) (length new)) (lt-or-le (length list) (length (listBytes cs))) refl)
+    says-to rules scopes r rs h few e size = rw (e, ← size) (go (ltb (length buffer) (length made)) (lt-or-le (length list) (length (listBytes cs))) refl)
       where
-        go : (b : Bool) → (length list < length (listBytes cs)) ⊎ (length (listBytes cs) ≤ length list) → ltb (length buffer) (length new) ≡ b
-            → Says (if b || ltb (length list) (length (listBytes cs)) then refused 3 0 else Mend.read (asAnswer r) new cs)
-            (pick (pick b false (leb (length (listBytes cs)) (length list))) (readThen (answerOf r) buffer long-is list new rows) (refusedT 3 0 & buffer & list))
+        go : (b : Bool) → (length list < length (listBytes cs)) ⊎ (length (listBytes cs) ≤ length list) → ltb (length buffer) (length made) ≡ b
+            → Says (if b || ltb (length list) (length (listBytes cs)) then refused 3 0 else Mend.read (asAnswer r) made cs)
+            (pick (pick b false (leb (length (listBytes cs)) (length list))) (readThen (answerOf r) l buffer long-is list kept) (refusedT 3 0 & buffer & list))
         go true c p = says-refused 3 0
         go false (inl c) p =
             let t : ltb (length list) (length (listBytes cs)) ≡ true = omega tests in
@@ -220,114 +328,121 @@ module _ (buffer list : List ℕ) (long-is : ℕ) where
         go false (inr c) p =
             let t : ltb (length list) (length (listBytes cs)) ≡ false = omega tests in
             let u : leb (length (listBytes cs)) (length list) ≡ true = omega tests in
-            rw (t, u) (says-read r rs h few (ltb-false (length buffer) (length new) p) c)
+            rw (t, u) (says-read rules scopes r rs h few (ltb-false (length buffer) (length made) p) c)
 
   -- ---- the whole run
 
   abbrev old : List ℕ
   old = take long-is buffer
 
-  abbrev W : Mending
-  W = mendBuffer base buffer long-is (length list)
+  module _ (l : Limits) (L : Held l) (near : long-is ≤ length buffer) (asks-it : asksFor (settingIn l) old ≡ true) where
+    abbrev kept : Kept
+    kept = keptIn (drop (l .header) old)
 
-  far : length buffer < long-is → W ≡ refused 2 0
-  unfolding mendBuffer if_then_else_
-  far h = let t : ltb (length buffer) long-is ≡ true = omega tests in rw t
+    abbrev rows-left : ℕ
+    rows-left = kept .rows + kept .scopes
 
-  module _ (near : long-is ≤ length buffer) where
-    other : markedT old ≡ false → W ≡ refused 1 0
-    unfolding mendBuffer mend settingFor mendFor only _orElse_ if_then_else_
-    other e = let t : ltb (length buffer) long-is ≡ false = omega tests in rw (t, asks old, e)
+    -- refusal 2
+    too-few : (rows-left ≡ 0) ⊎ (l .rows < rows-left) → mendIn (settingIn l) old (length buffer) (length list) ≡ refused 2 0
+    unfolding mendIn if_then_else_
+    too-few h = rw (form-right l L old asks-it, unsized l L old asks-it h)
 
-    asked : markedT old ≡ true → W ≡ mendIn first old (length buffer) (length list)
-    unfolding mendBuffer mend settingFor mendFor only _orElse_ if_then_else_
-    asked e = let t : ltb (length buffer) long-is ≡ false = omega tests in rw (t, asks old, e)
+    mend-at : (some-rows : rows-left ≡ 0 → ⊥) (few-rows : rows-left ≤ l .rows)
+        → mendIn (settingIn l) old (length buffer) (length list)
+        ≡ (if ltb (length buffer) (length (newT l old kept)) || ltb (length list) (length (listBytes (changesIn l old))) then refused 3 0
+        else Mend.read (asAnswer (read (settingIn l .rules) (settingIn l .version .scopes) (rowsIn (settingIn l) (newT l old kept)))) (newT l old kept) (changesIn l old))
+    unfolding mendIn if_then_else_
+    mend-at some-rows few-rows = rw (form-right l L old asks-it, ← list-is l L old asks-it some-rows few-rows, sized-right l L old asks-it some-rows few-rows, read-at l L old asks-it some-rows few-rows)
 
-    module _ (e : markedT old ≡ true) where
-      m : Marked old
-      m = marked old e
-
-      form-is : afters (formPieces first old) ≡ new old (m .enough)
-      form-is = sym (form-right old (m .enough))
-
-      -- refusal 2
-      unsized : sized version1 (new old (m .enough)) ≡ false → mendIn first old (length buffer) (length list) ≡ refused 2 0
-      unfolding mendIn if_then_else_
-      unsized s = rw (form-is, s)
-
-      mend-at : (some : total old (m .enough) ≡ 0 → ⊥) (few : total old (m .enough) ≤ 1023)
-          → mendIn first old (length buffer) (length list)
-          ≡ (if ltb (length buffer) (length (new old (m .enough))) || ltb (length list) (length (listBytes (changes 0 (formPieces first old)))) then refused 3 0
-          else Mend.read (asAnswer (read today 32 (rowsIn first (new old (m .enough))))) (new old (m .enough)) (changes 0 (formPieces first old)))
-      unfolding mendIn if_then_else_
-      mend-at some few = rw (form-is, sized-right old (m .enough) some few, read-at old (m .enough) some few m)
-
-      says-made : Says W (madeT buffer long-is list)
-      unfolding madeT pick
-      says-made = rw (asked e) (go (lt-or-le 0 (total old (m .enough))) (lt-or-le 1023 (total old (m .enough))))
-        where
-          go : (0 < total old (m .enough)) ⊎ (total old (m .enough) ≤ 0) → (1023 < total old (m .enough)) ⊎ (total old (m .enough) ≤ 1023)
-              → Says (mendIn first old (length buffer) (length list)) (pick (eqb (total old (m .enough)) 0) (refusedT 2 0 & buffer & list)
-              (pick (ltb 1023 (total old (m .enough))) (refusedT 2 0 & buffer & list) (toT buffer long-is list (new old (m .enough)) (keptIn (drop 8 old) .rows))))
-          go (inr z) c =
-              let t : eqb (total old (m .enough)) 0 ≡ true = omega tests in
-              rw (t, unsized (sized-none old (m .enough) (omega arith))) (says-refused 2 0)
-          go (inl z) (inl c) =
-              let t : eqb (total old (m .enough)) 0 ≡ false = omega tests in
-              let u : ltb 1023 (total old (m .enough)) ≡ true = omega tests in
-              rw (t, u, unsized (sized-many old (m .enough) c)) (says-refused 2 0)
-          go (inl z) (inr c) =
-              let t : eqb (total old (m .enough)) 0 ≡ false = omega tests in
-              let u : ltb 1023 (total old (m .enough)) ≡ false = omega tests in
-              let some : total old (m .enough) ≡ 0 → ⊥ = λ q. omega arith in
-              rw (t, u, mend-at some c)
-              (says-to (new old (m .enough)) (changes 0 (formPieces first old)) (keptIn (drop 8 old) .rows) (sym (form-changes old (m .enough))) near
-              (read today 32 (rowsIn first (new old (m .enough)))) (rowsIn first (new old (m .enough))) (read-right today 32 (rowsIn first (new old (m .enough))) (read today 32 (rowsIn first (new old (m .enough)))) .0 refl)
-              (omega (arith, rows-in old (m .enough) some c)) (code-reads old (m .enough) some c))
+    says-made : Says (mendIn (settingIn l) old (length buffer) (length list)) (madeT l buffer long-is list)
+    unfolding madeT pick
+    says-made = go (lt-or-le 0 rows-left) (lt-or-le (l .rows) rows-left)
+      where
+        go : (0 < rows-left) ⊎ (rows-left ≤ 0) → (l .rows < rows-left) ⊎ (rows-left ≤ l .rows)
+            → Says (mendIn (settingIn l) old (length buffer) (length list)) (pick (eqb rows-left 0) (refusedT 2 0 & buffer & list) (pick (ltb (l .rows) rows-left) (refusedT 2 0 & buffer & list) (toT l buffer long-is list kept)))
+        go (inr z) c =
+            let t : eqb rows-left 0 ≡ true = omega tests in
+            rw (t, too-few (inl (omega arith))) (says-refused 2 0)
+        go (inl z) (inl c) =
+            let t : eqb rows-left 0 ≡ false = omega tests in
+            let u : ltb (l .rows) rows-left ≡ true = omega tests in
+            rw (t, u, too-few (inr c)) (says-refused 2 0)
+        go (inl z) (inr c) =
+            let t : eqb rows-left 0 ≡ false = omega tests in
+            let u : ltb (l .rows) rows-left ≡ false = omega tests in
+            let some-rows : rows-left ≡ 0 → ⊥ = λ q. omega arith in
+            let r = read (settingIn l .rules) (settingIn l .version .scopes) (rowsIn (settingIn l) (newT l old kept)) in
+            rw (t, u, mend-at some-rows c)
+            (says-to l kept near (settingIn l .rules) (settingIn l .version .scopes) r (rowsIn (settingIn l) (newT l old kept)) (read-right (settingIn l .rules) (settingIn l .version .scopes) (rowsIn (settingIn l) (newT l old kept)) r .0 refl)
+            (omega (arith, rows-in l L old asks-it some-rows c, L .few)) (code-reads l L old asks-it some-rows c) (new-size l L old asks-it))
 
 -- ---- the ways through `mend`
 
 module _ (buffer list : List ℕ) (n : ℕ) where
   abbrev R : Mending
-  R = mendBuffer base buffer n (length list)
+  R = mendBuffer all buffer n (length list)
 
-  three : (number place : ℕ) → R ≡ refused number place → Says buffer list n R (refusedT number place & buffer & list)
-  three number place e = rw e (says-refused buffer list n number place)
+  far : length buffer < n → R ≡ refused 2 0
+  unfolding mendBuffer if_then_else_
+  far h = let t : ltb (length buffer) n ≡ true = omega tests in rw t
+
+  other : n ≤ length buffer → (i : ℕ) → i ≡ placeT (take n buffer) → 3 ≤ i → R ≡ refused 1 0
+  unfolding mendBuffer mend mendFor if_then_else_
+  other h zero e g = absurd (omega arith)
+  other h (suc zero) e g = absurd (omega arith)
+  other h (suc (suc zero)) e g = absurd (omega arith)
+  other h (suc (suc (suc i))) e g = let t : ltb (length buffer) n ≡ false = omega tests in rw (t, found (take n buffer), ← e)
+
+  chosen : n ≤ length buffer → (i : ℕ) → i ≡ placeT (take n buffer) → i < 3 → R ≡ mendIn (settingIn (limitsOf (setting i))) (take n buffer) (length buffer) (length list)
+  unfolding mendBuffer mend mendFor if_then_else_
+  chosen h zero e g = let t : ltb (length buffer) n ≡ false = omega tests in rw (t, found (take n buffer), ← e, stand-for 0)
+  chosen h (suc zero) e g = let t : ltb (length buffer) n ≡ false = omega tests in rw (t, found (take n buffer), ← e, stand-for 1)
+  chosen h (suc (suc zero)) e g = let t : ltb (length buffer) n ≡ false = omega tests in rw (t, found (take n buffer), ← e, stand-for 2)
+  chosen h (suc (suc (suc i))) e g = absurd (omega arith)
+
+  three-told : (number place : ℕ) → R ≡ refused number place → Says buffer list n R (refusedT number place & buffer & list)
+  three-told number place e = rw e (says-refused buffer list n number place)
 
   module _ (h : length buffer < n) where
     pub far-answers : {a : Answer} → a ≡ refusedT 2 0 → meaning a ≡ ruled R
-    far-answers e = rw e (three 2 0 (far buffer list n h) .0)
+    far-answers e = rw e (three-told 2 0 (far h) .0)
 
     pub far-leaves : buffer ≡ bufferAfter R n buffer
-    far-leaves = three 2 0 (far buffer list n h) .1
+    far-leaves = three-told 2 0 (far h) .1
 
     pub far-lists : list ≡ listAfter R list
-    far-lists = three 2 0 (far buffer list n h) .2
+    far-lists = three-told 2 0 (far h) .2
 
-  module _ (near : n ≤ length buffer) {t : Bool} (w : t ≡ markedT (take n buffer)) where
-    module _ (e : not t ≡ true) where
-      other-is : R ≡ refused 1 0
-      other-is = other buffer list n near (sym w ∙ not-true t e)
-
+  module _ (near : n ≤ length buffer) (i : ℕ) (w : i ≡ placeT (take n buffer)) where
+    module _ (e : 3 ≤ i) where
       pub other-answers : {a : Answer} → a ≡ refusedT 1 0 → meaning a ≡ ruled R
-      other-answers f = rw f (three 1 0 other-is .0)
+      other-answers f = rw f (three-told 1 0 (other near i w e) .0)
 
       pub other-leaves : buffer ≡ bufferAfter R n buffer
-      other-leaves = three 1 0 other-is .1
+      other-leaves = three-told 1 0 (other near i w e) .1
 
       pub other-lists : list ≡ listAfter R list
-      other-lists = three 1 0 other-is .2
+      other-lists = three-told 1 0 (other near i w e) .2
 
-    module _ (e : not t ≡ false) where
-      pub marked-enough : 8 ≤ n
-      marked-enough = omega (arith, marked (take n buffer) (sym w ∙ not-false t e) .enough, length-take-le n buffer near)
+    module _ (e : i < 3) (l : Limits) (is : l ≡ limitsOf (setting i)) where
+      asks-it : asksFor (settingIn (limitsOf (setting i))) (take n buffer) ≡ true
+      asks-it = ap (λ (s : Setting). asksFor s (take n buffer)) (stand-for i) ∙ (asks i e (take n buffer) ∙ asked (take n buffer) i w e)
 
-      made : Says buffer list n R (madeT buffer n list)
-      made = says-made buffer list n near (sym w ∙ not-false t e)
+      pub held-fits : 6 + pick (l .wide) 4 2 ≤ l .header
+      held-fits = rw is (held i .fits)
 
-      module _ {a : Answer} {b l : List ℕ} (f : a & b & l ≡ madeT buffer n list) where
-        made-is : Says buffer list n R (a & b & l)
-        made-is = subst (Says buffer list n R) (sym f) made
+      pub held-few : l .rows ≤ 16383
+      held-few = rw is (held i .few)
+
+      pub held-long : l .header ≤ n
+      held-long = rw is (omega (arith, long (limitsOf (setting i)) (held i) (take n buffer) asks-it, length-take-le n buffer near))
+
+      made-told : Says buffer list n R (madeT l buffer n list)
+      made-told = rw (chosen near i w e, is) (says-made buffer list n (limitsOf (setting i)) (held i) near asks-it)
+
+      module _ {a : Answer} {b m : List ℕ} (f : a & b & m ≡ madeT l buffer n list) where
+        made-is : Says buffer list n R (a & b & m)
+        made-is = subst (Says buffer list n R) (sym f) made-told
 
         pub made-answers : meaning a ≡ ruled R
         made-answers = made-is .0
@@ -335,5 +450,5 @@ module _ (buffer list : List ℕ) (n : ℕ) where
         pub made-leaves : b ≡ bufferAfter R n buffer
         made-leaves = made-is .1
 
-        pub made-lists : l ≡ listAfter R list
+        pub made-lists : m ≡ listAfter R list
         made-lists = made-is .2

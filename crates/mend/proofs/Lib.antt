@@ -1,2 +1,3 @@
 pub mod Agrees
-pub mod Laws
+pub mod InPlace
+pub mod Ways

@@ -1,19 +1,23 @@
 -- The run as the code takes it.
-use mathlib.Core.Bool.{Bool, false, _&&_}
-use mathlib.Core.List.{List}
-use Prim.Native.Nat.{ℕ, _+_, _-_, _%_}
+use mathlib.Core.Bool.{Bool, false, _&&_, _||_}
+use mathlib.Core.List.{List, _++_}
+use Prim.Native.Nat.{ℕ, _+_, _*_, _-_, _%_}
 use lib.Dec.{eqb, leb, ltb}
 use lib.ListN.{length, getD, take, drop, replicate}
 use lib.Seq.{sets}
 use Rattle.kit.specs.Pick.{pick}
 use Rattle.kit.specs.Out.{Out, _&_}
-use Rattle.reader.specs.Readings.{readOf}
+use Rattle.rules.specs.Answer.{headerBytes}
+use Rattle.limits.specs.declared.Limits.{Limits}
+use Rattle.limits.specs.Held.{settingIn, limitsOf, setting}
+use Rattle.reader.specs.Readings.{readTo}
 use Rattle.reader.specs.declared.read.Reading.{Reading}
 use Rattle.reader.specs.declared.read.Reading.the-variants as reading
 use Rattle.mending.specs.Mend.{listBytes}
 use Rattle.mend_form.specs.Kept.{keptIn}
-use Rattle.mend_form.specs.Filled.{formT}
-use Rattle.mend_list.specs.Listed.{allChanges}
+use Rattle.mend_form.specs.Filled.{bodyT}
+use Rattle.mend_form.specs.declared.Kept.{Kept}
+use Rattle.mend_list.specs.Listed.{changesIn}
 use Rattle.mend.specs.declared.run.Answer.{Answer}
 use Rattle.mend.specs.declared.run.Answer.the-variants.{Mended, Refused}
 
@@ -24,35 +28,55 @@ Ran = Out Answer (Out (List ℕ) (List ℕ))
 abbrev pub refusedT : (number place : ℕ) → Answer
 refusedT number place = Refused (record { number = number; place = place })
 
-unfoldable pub markedT : List ℕ → Bool
-markedT l =
-    pick (ltb (length l) 8) false
-    (eqb (getD l 0 0) 87 && (eqb (getD l 1 0) 78 && (eqb (getD l 2 0) 84 && (eqb (getD l 3 0) 1 && eqb (getD l 4 0) 0))))
+-- ---- the setting
+
+-- the letters, and this version
+unfoldable pub lettersT : List ℕ → (version : ℕ) → Bool
+lettersT l version =
+    eqb (getD l 0 0) 87 && (eqb (getD l 1 0) 78 && (eqb (getD l 2 0) 84 && (eqb (getD l 3 0) version && eqb (getD l 4 0) 0)))
+
+unfoldable pub asksT : Limits → List ℕ → Bool
+asksT l form =
+    pick (ltb (length form) 8) false
+    (pick (ltb (length form) (l .header)) false (lettersT form (l .version) && (eqb (l .version) 1 || eqb (getD form 5 0) (l .rules))))
+
+-- the place of the setting in the list of all, 3 where there is none
+unfoldable pub placeT : List ℕ → ℕ
+placeT form =
+    pick (asksT (limitsOf (setting 0)) form) 0
+    (pick (asksT (limitsOf (setting 1)) form) 1 (pick (asksT (limitsOf (setting 2)) form) 2 3))
+
+-- ---- the run
+
+-- the mended form of which these rows stay
+unfoldable pub newT : Limits → (old : List ℕ) → Kept → List ℕ
+newT l old k = headerBytes (settingIn l) (k .rows + k .scopes) ++ bodyT (drop (l .header) old) k
 
 unfoldable pub inPlace : (buffer : List ℕ) (long : ℕ) (form : List ℕ) → List ℕ
 inPlace buffer long form = sets (sets buffer 0 form) (length form) (replicate (long - length form) 0)
 
-unfoldable pub writeT : (buffer : List ℕ) (long : ℕ) (list form : List ℕ) (rows : ℕ) → Ran
-writeT buffer long list form rows =
-    let cs = allChanges (take long buffer) form rows in
-    Mended (length cs) & inPlace buffer long form & sets list 0 (listBytes cs)
+unfoldable pub writeT : Limits → (buffer : List ℕ) (long : ℕ) (list : List ℕ) → Kept → Ran
+writeT l buffer long list k =
+    let cs = changesIn l (take long buffer) in
+    Mended (length cs) & inPlace buffer long (newT l (take long buffer) k) & sets list 0 (listBytes cs)
 
-unfoldable pub readThen : Reading → (buffer : List ℕ) (long : ℕ) (list form : List ℕ) (rows : ℕ) → Ran
-readThen (reading.Broken row) buffer long list form rows = refusedT 4 (row % 4294967296) & buffer & list
-readThen (reading.Deep row) buffer long list form rows = refusedT 5 (row % 4294967296) & buffer & list
-readThen reading.Whole buffer long list form rows = writeT buffer long list form rows
+unfoldable pub readThen : Reading → Limits → (buffer : List ℕ) (long : ℕ) (list : List ℕ) → Kept → Ran
+readThen (reading.Broken row) l buffer long list k = refusedT 4 (row % 4294967296) & buffer & list
+readThen (reading.Deep row) l buffer long list k = refusedT 5 (row % 4294967296) & buffer & list
+readThen reading.Whole l buffer long list k = writeT l buffer long list k
 
--- whether a form that keeps so many rows, and its list, have room
-unfoldable pub roomT : (old form : List ℕ) (rows room space : ℕ) → Bool
-roomT old form rows room space = pick (ltb room (length form)) false (leb (length (listBytes (allChanges old form rows))) space)
+-- whether a form of so many bytes, and its list, have room
+unfoldable pub roomT : Limits → (old : List ℕ) (size room space : ℕ) → Bool
+roomT l old size room space = pick (ltb room size) false (leb (length (listBytes (changesIn l old))) space)
 
-unfoldable pub toT : (buffer : List ℕ) (long : ℕ) (list form : List ℕ) (rows : ℕ) → Ran
-toT buffer long list form rows =
-    pick (roomT (take long buffer) form rows (length buffer) (length list)) (readThen (readOf (drop 8 form)) buffer long list form rows)
+unfoldable pub toT : Limits → (buffer : List ℕ) (long : ℕ) (list : List ℕ) → Kept → Ran
+toT l buffer long list k =
+    pick (roomT l (take long buffer) (l .header + 16 * (k .rows + k .scopes)) (length buffer) (length list))
+    (readThen (readTo l (bodyT (drop (l .header) (take long buffer)) k)) l buffer long list k)
     (refusedT 3 0 & buffer & list)
 
-unfoldable pub madeT : (buffer : List ℕ) (long : ℕ) (list : List ℕ) → Ran
-madeT buffer long list =
-    let old = take long buffer in let k = keptIn (drop 8 old) in let rows = k .rows + k .scopes in
+unfoldable pub madeT : Limits → (buffer : List ℕ) (long : ℕ) (list : List ℕ) → Ran
+madeT l buffer long list =
+    let k = keptIn (drop (l .header) (take long buffer)) in let rows = k .rows + k .scopes in
     pick (eqb rows 0) (refusedT 2 0 & buffer & list)
-    (pick (ltb 1023 rows) (refusedT 2 0 & buffer & list) (toT buffer long list (formT old k) (k .rows)))
+    (pick (ltb (l .rows) rows) (refusedT 2 0 & buffer & list) (toT l buffer long list k))

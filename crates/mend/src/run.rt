@@ -1,11 +1,14 @@
-// The whole run on a buffer: the mended form is made beside it, and comes into it once nothing can be refused any more.
-use copy::copy;
-use mend_form::HEADER;
-use mend_form::ROWS;
-use mend_form::mend_into;
+// The whole run on a buffer: the mended rows are made one at a time to be listed and read, and come into it once nothing can be
+// refused any more.
+use crate::place::put_form;
+use crate::place::wide;
+use limits::Limits;
+use limits::of_input;
+use mend_form::Kept;
+use mend_form::kept_in;
 use mend_list::list_changes;
+use mend_read::read_mended;
 use reader::read::Reading;
-use reader::read::read;
 use refusal::BROKEN;
 use refusal::DEEP;
 use refusal::NOT_A_FORM;
@@ -13,16 +16,24 @@ use refusal::ROOM;
 use refusal::ROW_COUNT;
 use refusal::Refusal;
 ghost use mathlib.Core.Path.{_≡_};
-ghost use Prim.Native.Nat.{_+_, _*_, _-_, _≤_, _<_};
-ghost use lib.ListN.{length, drop, replicate};
-ghost use lib.Seq.{sets};
+ghost use mathlib.Core.Bool.{_&&_};
+ghost use Prim.Native.Nat.{_+_, _*_, _-_, _/_, _≤_, _<_};
+ghost use lib.Dec.{eqb};
+ghost use lib.ListN.{length, take, drop, getD};
 ghost use Rattle.kit.specs.Out.{_&_};
-ghost use Rattle.rules.specs.Versions.{base};
+ghost use Rattle.kit.specs.Pick.{pick};
+ghost use Rattle.rules.specs.Versions.{all};
+ghost use Rattle.limits.specs.Held.{limitsOf, setting};
+ghost use Rattle.reader.specs.Readings.{readTo};
 ghost use Rattle.mending.specs.Mend.{listBytes, mendBuffer, bufferAfter, listAfter};
+ghost use Rattle.mend_form.specs.Kept.{keptIn};
+ghost use Rattle.mend_form.specs.Filled.{bodyT};
+ghost use Rattle.mend_list.specs.Listed.{changesIn};
 ghost use Rattle.mend.specs.Meaning.{meaning, ruled};
-ghost use Rattle.mend.specs.Run.{refusedT, markedT, inPlace, writeT, readThen, roomT, toT, madeT};
-ghost use Rattle.mend_list.specs.Listed.{allChanges};
-ghost use Rattle.reader.specs.Readings.{readOf};
+ghost use Rattle.mend.specs.Run.{refusedT, lettersT, asksT, placeT, writeT, readThen, roomT, toT, madeT};
+
+// How many settings there are.
+const SETTINGS: usize = 3;
 
 pub enum Answer {
     // So many changes were made.
@@ -37,129 +48,157 @@ fn refused(number: u32, place: u32) -> Answer
     Answer::Refused(Refusal { number, place })
 }
 
-// Whether a form begins as one of version 1 does. Byte 5 is mended, and so is not asked.
-fn is_marked(form: &[u8]) -> bool
-    ensures { λ r. ⌜ r ≡ markedT (now (form .entry)) ⌝ }
+// ---- the setting
+
+// Whether a form begins with the letters and this version.
+fn has_letters(form: &[u8], version: u8) -> bool
+    requires { ⌜ 5 ≤ length (now form) ⌝ }
+    ensures { λ r. ⌜ r ≡ lettersT (now (form .entry)) version ⌝ }
 {
-    if form.len() < HEADER {
+    (form[0] == b'W')
+        & ((form[1] == b'N') & ((form[2] == b'T') & ((form[3] == version) & (form[4] == 0))))
+}
+
+// Whether a form begins as one of these limits does. Byte 5 of version 1 is mended, and so is not asked.
+fn asks_for(form: &[u8], limits: Limits) -> bool
+    ensures { λ r. ⌜ r ≡ asksT limits (now (form .entry)) ⌝ }
+{
+    if form.len() < 8 {
         return false;
     }
-    (form[0] == b'W')
-        & ((form[1] == b'N') & ((form[2] == b'T') & ((form[3] == 1) & (form[4] == 0))))
-}
-
-// Zeroes from byte `from` up to byte `end`.
-fn zero(buffer: &mut [u8], from: usize, end: usize)
-    requires { ⌜ end ≤ length (now buffer) ⌝ }
-    ensures { λ _. ⌜ now (buffer .exit) ≡ sets (now (buffer .entry)) from (replicate (end - from) 0) ⌝ }
-{
-    let mut k = from;
-    while k < end {
-        buffer[k] = 0;
-        k += 1;
+    if form.len() < wide(limits.header) {
+        return false;
     }
+    has_letters(form, limits.version) & ((limits.version == 1) | (form[5] == limits.rules))
 }
 
-// The mended form in place of the first `long` bytes, and zeros where it is shorter.
-fn put_mended(buffer: &mut [u8], long: usize, form: &[u8])
-    requires { ⌜ (length (now form) ≤ length (now buffer)) × (long ≤ length (now buffer)) ⌝ }
-    ensures { λ _. ⌜ now (buffer .exit) ≡ inPlace (now (buffer .entry)) long (now (form .entry)) ⌝ }
+// The place in the list of all settings of the one that a form begins as; behind them where there is none.
+fn setting_for(form: &[u8]) -> usize
+    ensures { λ r. ⌜ r ≡ placeT (now (form .entry)) ⌝ }
 {
-    copy(form, buffer, 0);
-    zero(buffer, form.len(), long);
+    if asks_for(form, of_input(0)) {
+        return 0;
+    }
+    if asks_for(form, of_input(1)) {
+        return 1;
+    }
+    if asks_for(form, of_input(2)) {
+        return 2;
+    }
+    SETTINGS
 }
 
-// Writes the list and the form, which keeps the first `rows` rows.
-fn write(buffer: &mut [u8], long: usize, list: &mut [u8], form: &[u8], rows: usize) -> Answer
-    requires { ⌜ (length (now form) ≤ length (now buffer)) × (long ≤ length (now buffer)) × (8 + 16 * rows ≤ long) × (8 + 16 * rows ≤ length (now form)) × (rows ≤ 1023) ⌝ }
-    ensures { λ r. ⌜ (r & now (buffer .exit) & now (list .exit)) ≡ writeT (now (buffer .entry)) long (now (list .entry)) (now (form .entry)) rows ⌝ }
+// ---- the run
+
+// The rows that stay.
+fn kept_of(old: &[u8], limits: Limits) -> Kept
+    requires { ⌜ limits .header ≤ length (now old) ⌝ }
+    ensures { λ r. ⌜ (r ≡ keptIn (drop (limits .header) (now (old .entry)))) × (r .rows + r .scopes < 18446744073709551616) ⌝ }
 {
-    let done = list_changes(&buffer[..long], form, rows, list);
-    put_mended(buffer, long, form);
-    Answer::Mended(done.count)
+    let header = wide(limits.header);
+    kept_in(&old[header..])
+}
+
+// What the rows are, once they are mended.
+fn read_of(old: &[u8], limits: Limits) -> Reading
+    requires { ⌜ limits .header ≤ length (now old) ⌝ }
+    ensures { λ r. ⌜ r ≡ readTo limits (bodyT (drop (limits .header) (now (old .entry))) (keptIn (drop (limits .header) (now (old .entry))))) ⌝ }
+{
+    let header = wide(limits.header);
+    read_mended(&old[header..], limits)
 }
 
 // How many bytes the list has.
-fn list_size(old: &[u8], form: &[u8], rows: usize) -> usize
-    requires { ⌜ (8 + 16 * rows ≤ length (now old)) × (8 + 16 * rows ≤ length (now form)) × (rows ≤ 1023) ⌝ }
-    ensures { λ r. ⌜ r ≡ length (listBytes (allChanges (now (old .entry)) (now (form .entry)) rows)) ⌝ }
+fn list_size(old: &[u8], limits: Limits) -> usize
+    ensures { λ r. ⌜ r ≡ length (listBytes (changesIn limits (now (old .entry)))) ⌝ }
 {
     let mut none = [0u8; 1];
-    let done = list_changes(old, form, rows, &mut none);
+    let done = list_changes(old, limits, &mut none);
     done.size
 }
 
-// Whether a mended form, which keeps the first `rows` rows, and its list have room.
-fn has_room(old: &[u8], form: &[u8], rows: usize, room: usize, space: usize) -> bool
-    requires { ⌜ (8 + 16 * rows ≤ length (now old)) × (8 + 16 * rows ≤ length (now form)) × (rows ≤ 1023) ⌝ }
-    ensures { λ r. ⌜ r ≡ roomT (now (old .entry)) (now (form .entry)) rows room space ⌝ }
+// Whether a mended form of so many bytes, and its list, have room.
+fn has_room(old: &[u8], limits: Limits, size: usize, room: usize, space: usize) -> bool
+    ensures { λ r. ⌜ r ≡ roomT limits (now (old .entry)) size room space ⌝ }
 {
-    if room < form.len() {
+    if room < size {
         return false;
     }
-    list_size(old, form, rows) <= space
+    list_size(old, limits) <= space
 }
 
-// Refusals 4 and 5 for a mended form; then it is written.
+// Writes the list and the form.
+fn write(buffer: &mut [u8], long: usize, list: &mut [u8], limits: Limits, kept: Kept) -> Answer
+    requires { ⌜ (6 + pick (limits .wide) 4 2 ≤ limits .header) × (long ≤ length (now buffer)) × (limits .header + 16 * kept .rows ≤ long) × (limits .header + 16 * (kept .rows + kept .scopes) ≤ length (now buffer)) ⌝ }
+    ensures { λ r. ⌜ (r & now (buffer .exit) & now (list .exit)) ≡ writeT limits (now (buffer .entry)) long (now (list .entry)) kept ⌝ }
+{
+    let done = list_changes(&buffer[..long], limits, list);
+    put_form(buffer, long, limits, kept);
+    Answer::Mended(done.count)
+}
+
+// Refusals 4 and 5 for a mended form that has room; then it is written.
 fn read_and_write(
     buffer: &mut [u8],
     long: usize,
     list: &mut [u8],
-    form: &[u8],
-    rows: usize,
+    limits: Limits,
+    kept: Kept,
 ) -> Answer
-    requires { ⌜ (length (now form) ≤ length (now buffer)) × (long ≤ length (now buffer)) × (8 + 16 * rows ≤ long) × (8 + 16 * rows ≤ length (now form)) × (rows ≤ 1023) ⌝ }
-    ensures { λ r. ⌜ (r & now (buffer .exit) & now (list .exit)) ≡ readThen (readOf (drop 8 (now (form .entry)))) (now (buffer .entry)) long (now (list .entry)) (now (form .entry)) rows ⌝ }
+    requires { ⌜ (6 + pick (limits .wide) 4 2 ≤ limits .header) × (long ≤ length (now buffer)) × (limits .header + 16 * kept .rows ≤ long) × (limits .header + 16 * (kept .rows + kept .scopes) ≤ length (now buffer)) ⌝ }
+    requires { ⌜ kept ≡ keptIn (drop (limits .header) (take long (now buffer))) ⌝ }
+    ensures { λ r. ⌜ (r & now (buffer .exit) & now (list .exit)) ≡ readThen (readTo limits (bodyT (drop (limits .header) (take long (now (buffer .entry)))) kept)) limits (now (buffer .entry)) long (now (list .entry)) kept ⌝ }
 {
-    match read(&form[HEADER..]) {
+    match read_of(&buffer[..long], limits) {
         Reading::Broken(row) => refused(BROKEN, (row % 4294967296) as u32),
         Reading::Deep(row) => refused(DEEP, (row % 4294967296) as u32),
-        Reading::Whole => write(buffer, long, list, form, rows),
+        Reading::Whole => write(buffer, long, list, limits, kept),
     }
 }
 
-// Refusals 3 to 5 for a mended form, which keeps the first `rows` rows; then it is written.
-fn mend_to(buffer: &mut [u8], long: usize, list: &mut [u8], form: &[u8], rows: usize) -> Answer
-    requires { ⌜ (long ≤ length (now buffer)) × (8 + 16 * rows ≤ long) × (8 + 16 * rows ≤ length (now form)) × (rows ≤ 1023) ⌝ }
-    ensures { λ r. ⌜ (r & now (buffer .exit) & now (list .exit)) ≡ toT (now (buffer .entry)) long (now (list .entry)) (now (form .entry)) rows ⌝ }
+// Refusals 3 to 5 for a form of which these rows stay; then it is written.
+fn mend_to(buffer: &mut [u8], long: usize, list: &mut [u8], limits: Limits, kept: Kept) -> Answer
+    requires { ⌜ (6 + pick (limits .wide) 4 2 ≤ limits .header) × (long ≤ length (now buffer)) × (limits .header + 16 * kept .rows ≤ long) × (kept .rows + kept .scopes ≤ 16383) ⌝ }
+    requires { ⌜ kept ≡ keptIn (drop (limits .header) (take long (now buffer))) ⌝ }
+    ensures { λ r. ⌜ (r & now (buffer .exit) & now (list .exit)) ≡ toT limits (now (buffer .entry)) long (now (list .entry)) kept ⌝ }
 {
     let room = buffer.len();
     let space = list.len();
-    if !has_room(&buffer[..long], form, rows, room, space) {
+    let size = wide(limits.header) + 16 * (kept.rows + kept.scopes);
+    if !has_room(&buffer[..long], limits, size, room, space) {
         return refused(ROOM, 0);
     }
-    read_and_write(buffer, long, list, form, rows)
+    read_and_write(buffer, long, list, limits, kept)
 }
 
-// Makes the mended form of one that begins as a form does. One with no row, or more than a form may have, is refusal 2.
-fn mend_marked(buffer: &mut [u8], long: usize, list: &mut [u8]) -> Answer
-    requires { ⌜ (long ≤ length (now buffer)) × (8 ≤ long) ⌝ }
-    ensures { λ r. ⌜ (r & now (buffer .exit) & now (list .exit)) ≡ madeT (now (buffer .entry)) long (now (list .entry)) ⌝ }
+// Mends a form that begins as one of these limits does. One with no row, or more than a form may have, is refusal 2.
+fn mend_marked(buffer: &mut [u8], long: usize, list: &mut [u8], limits: Limits) -> Answer
+    requires { ⌜ (6 + pick (limits .wide) 4 2 ≤ limits .header) × (limits .rows ≤ 16383) × (long ≤ length (now buffer)) × (limits .header ≤ long) ⌝ }
+    ensures { λ r. ⌜ (r & now (buffer .exit) & now (list .exit)) ≡ madeT limits (now (buffer .entry)) long (now (list .entry)) ⌝ }
 {
-    let mut form = [0u8; 16376];
-    let kept = mend_into(&buffer[..long], &mut form);
+    let kept = kept_of(&buffer[..long], limits);
     let rows = kept.rows + kept.scopes;
     if rows == 0 {
         return refused(ROW_COUNT, 0);
     }
-    if ROWS < rows {
+    if limits.rows < rows {
         return refused(ROW_COUNT, 0);
     }
-    let size = HEADER + 16 * rows;
-    mend_to(buffer, long, list, &form[..size], kept.rows)
+    mend_to(buffer, long, list, limits, kept)
 }
 
 // Mends the form in the first `long` bytes of `buffer`; the rest of it is room for added rows. A refusal changes nothing.
 pub fn mend(buffer: &mut [u8], long: usize, list: &mut [u8]) -> Answer
-    ensures { λ r. ⌜ meaning r ≡ ruled (mendBuffer base (now (buffer .entry)) long (length (now (list .entry)))) ⌝ }
-    ensures { λ r. ⌜ now (buffer .exit) ≡ bufferAfter (mendBuffer base (now (buffer .entry)) long (length (now (list .entry)))) long (now (buffer .entry)) ⌝ }
-    ensures { λ r. ⌜ now (list .exit) ≡ listAfter (mendBuffer base (now (buffer .entry)) long (length (now (list .entry)))) (now (list .entry)) ⌝ }
+    ensures { λ r. ⌜ meaning r ≡ ruled (mendBuffer all (now (buffer .entry)) long (length (now (list .entry)))) ⌝ }
+    ensures { λ r. ⌜ now (buffer .exit) ≡ bufferAfter (mendBuffer all (now (buffer .entry)) long (length (now (list .entry)))) long (now (buffer .entry)) ⌝ }
+    ensures { λ r. ⌜ now (list .exit) ≡ listAfter (mendBuffer all (now (buffer .entry)) long (length (now (list .entry)))) (now (list .entry)) ⌝ }
 {
     if buffer.len() < long {
         return refused(ROW_COUNT, 0);
     }
-    if !is_marked(&buffer[..long]) {
+    let i = setting_for(&buffer[..long]);
+    if SETTINGS <= i {
         return refused(NOT_A_FORM, 0);
     }
-    mend_marked(buffer, long, list)
+    mend_marked(buffer, long, list, of_input(i))
 }

@@ -1,27 +1,24 @@
 -- The ways through the code.
-use mathlib.Core.Path.{_≡_, refl, ap, _∙_}
+use mathlib.Core.Path.{_≡_, refl, sym, ap, _∙_}
 use mathlib.Core.Bool.{Bool, true, false}
-use mathlib.Core.List.{List}
+use mathlib.Core.List.{List, [], _++_, append-nil}
 use native.Mathlib.Omega.{arith}
-use native.Mathlib.Nat.{add-zero}
+use native.Mathlib.Nat.{zero-add}
 use native.Mathlib.Numerals.{add-one}
 use Prim.Native.Nat.{ℕ, zero, suc, _+_, _-_, _*_, _/_, _%_, _≤_, _<_}
 use lib.Dec.{eqb, ltb}
-use lib.ListN.{length, getD, set, length-append}
-use lib.Seq.{sets, length-sets}
+use lib.ListN.{length, getD, set, drop, replicate, length-append}
+use lib.Seq.{sets, sets-eq, drop-length}
 use borrow.Author.Needs.{needs}
 use borrow.Author.Tests.{ne-eqb}
-use Rattle.kit.specs.Out.{_&_}
 use Rattle.kit.specs.Pick.{pick}
-use Rattle.kit.proofs.Laws.{tests, left-suc, sets-append}
+use Rattle.kit.proofs.Laws.{tests, left-suc, yes!, no! }
 use Rattle.rules.specs.Tools.{if_then_else_}
 use Rattle.rules.specs.Rows.{Close, encodeRow}
 use Rattle.rules.specs.Rows
-use Rattle.put.specs.Put.{putRow, rowBytes, bytesOf, ruleRow}
-use Rattle.rows.specs.declared.row.Row.the-variants as code
 use Rattle.mending.specs.Mend.{closesRoot, depthAfter, closeRows}
 use Rattle.mend_form.specs.Kept.{kept, keptT, keptIn}
-use Rattle.mend_form.specs.Filled.{partAt, staysT, byteT, rowT, rowsT, bodyT}
+use Rattle.mend_form.specs.Filled.{partAt, staysT, byteT, rowT, rowsT, bodyT, rowIn}
 use Rattle.mend_form.specs.declared.Kept.{Kept}
 
 -- ---- depth_after
@@ -111,103 +108,77 @@ module _ (code b j byte part : ℕ) (is : part ≡ partAt j) where
 
 pub ruleset byte-ways = (byte-code, byte-low, byte-high, byte-outer, byte-stays, byte-zero, needs)
 
--- ---- stores one behind the other
+-- ---- the bytes of a row, one behind the other
 
-pub row-start : (rows new : List ℕ) (a : ℕ) → sets new (a + 0) (rowT rows a 0 (16 - 0)) ≡ sets new a (rowT rows a 0 16)
-row-start rows new a = rw add-zero
+pub row-start : (rows new : List ℕ) (a : ℕ) → sets new 0 (rowT rows a 0 (16 - 0)) ≡ sets new 0 (rowT rows a 0 16)
+row-start rows new a = refl
 
-pub rows-start : (rows new : List ℕ) (n : ℕ) → sets new (16 * 0) (rowsT rows 0 (n - 0)) ≡ sets new 0 (rowsT rows 0 n)
-rows-start rows new n = let z : n - 0 ≡ n = omega arith in rw z
-
-pub row-turn : (rows new T : List ℕ) (a j v : ℕ) → sets new (a + j) (rowT rows a j (16 - j)) ≡ T → j < 16
-    → v ≡ byteT (getD rows a 0) (getD rows (a + 1) 0) j (getD rows (a + j) 0) → sets (set new (a + j) v) (a + (j + 1)) (rowT rows a (j + 1) (16 - (j + 1))) ≡ T
+pub row-turn : (rows new T : List ℕ) (a j v : ℕ) → sets new j (rowT rows a j (16 - j)) ≡ T → j < 16
+    → v ≡ byteT (getD rows a 0) (getD rows (a + 1) 0) j (getD rows (a + j) 0) → sets (set new j v) (j + 1) (rowT rows a (j + 1) (16 - (j + 1))) ≡ T
 unfolding rowT
 row-turn rows new T a j v inv h e =
-    let next : a + (j + 1) ≡ suc (a + j) = omega arith in
-    rw (next, e) (rw (left-suc j 16 h) at inv)
-
-pub row-end : (rows new T : List ℕ) (a j : ℕ) → sets new (a + j) (rowT rows a j (16 - j)) ≡ T → 16 ≤ j → new ≡ T
-unfolding rowT
-row-end rows new T a j inv h = let z : 16 - j ≡ 0 = omega arith in (rw z at inv)
+    let next : sets (set new j v) (suc j) (rowT rows a (j + 1) (16 - (j + 1))) ≡ T = rw e (rw (left-suc j 16 h) at inv) in
+    ap (λ (n : ℕ). sets (set new j v) n (rowT rows a (j + 1) (16 - (j + 1)))) (add-one j) ∙ next
 
 pub row-size : (rows : List ℕ) (a j left : ℕ) → length (rowT rows a j left) ≡ left
 unfolding rowT
 row-size rows a j zero = refl
 row-size rows a j (suc left) = ap suc (row-size rows a (j + 1) left)
 
-pub rows-turn : (rows new T l : List ℕ) (i n : ℕ) → sets new (16 * i) (rowsT rows i (n - i)) ≡ T → i < n
-    → l ≡ sets new (16 * i) (rowT rows (16 * i) 0 16) → sets l (16 * (i + 1)) (rowsT rows (i + 1) (n - (i + 1))) ≡ T
-unfolding rowsT
-rows-turn rows new T l i n inv h e =
-    let next : 16 * (i + 1) ≡ 16 * i + length (rowT rows (16 * i) 0 16) = omega (arith, row-size rows (16 * i) 0 16) in
-    rw (e, next, ← sets-append) (rw (left-suc i n h) at inv)
+all-stored : (start vs : List ℕ) → length start ≡ 16 → length vs ≡ 16 → sets start 0 vs ≡ vs
+all-stored start vs size wide =
+    let past : drop (0 + length vs) start ≡ [] = ap (λ (n : ℕ). drop n start) (zero-add (length vs) ∙ (wide ∙ sym size)) ∙ drop-length start in
+    sets-eq vs start 0 (omega arith) ∙ (ap (λ (l : List ℕ). vs ++ l) past ∙ append-nil vs)
 
-pub rows-end : (rows new T : List ℕ) (i n : ℕ) → sets new (16 * i) (rowsT rows i (n - i)) ≡ T → n ≤ i → new ≡ T
-unfolding rowsT
-rows-end rows new T i n inv h = let z : n - i ≡ 0 = omega arith in (rw z at inv)
+none-left : (rows new T : List ℕ) (a j : ℕ) → sets new j (rowT rows a j 0) ≡ T → new ≡ T
+unfolding rowT
+none-left rows new T a j e = e
+
+pub row-end : (rows new start : List ℕ) (a j : ℕ) → sets new j (rowT rows a j (16 - j)) ≡ sets start 0 (rowT rows a 0 16) → 16 ≤ j → length start ≡ 16 → new ≡ rowT rows a 0 16
+row-end rows new start a j inv h size =
+    let z : 16 - j ≡ 0 = omega arith in
+    none-left rows new _ a j (rw z at inv) ∙ all-stored start (rowT rows a 0 16) size (row-size rows a 0 16)
+
+pub ruleset row-ways = (row-start, row-turn, row-end, needs)
+
+-- ---- row_of
+
+module _ (rows : List ℕ) (k : Kept) (i : ℕ) where
+  pub row-behind : k .rows ≤ i → i - k .rows < k .scopes → set (replicate 16 0) 0 8 ≡ rowIn rows k i
+  unfolding rowIn Rows.computes
+  row-behind h g = yes! _ (omega tests) (yes! _ (omega tests) refl)
+
+  pub row-past : k .rows ≤ i → k .scopes ≤ i - k .rows → replicate 16 0 ≡ rowIn rows k i
+  unfolding rowIn
+  row-past h g = yes! _ (omega tests) (no! _ (omega tests) refl)
+
+  module _ (h : i < k .rows) where
+    pub row-none : length rows / 16 ≤ i → replicate 16 0 ≡ rowIn rows k i
+    unfolding rowIn
+    row-none g = no! _ (omega tests) (yes! _ (omega tests) refl)
+
+    pub row-stays : {r : List ℕ} → r ≡ rowT rows (16 * i) 0 16 → i < length rows / 16 → r ≡ rowIn rows k i
+    unfolding rowIn
+    row-stays e g = no! _ (omega tests) (no! _ (omega tests) e)
+
+pub ruleset of-ways = (row-behind, row-past, row-none, row-stays, needs)
+
+-- ---- how long they are
 
 pub rows-size : (rows : List ℕ) (i left : ℕ) → length (rowsT rows i left) ≡ 16 * left
 unfolding rowsT
 rows-size rows i zero = refl
 rows-size rows i (suc left) = omega (arith, row-size rows (16 * i) 0 16, rows-size rows (i + 1) left, length-append (rowT rows (16 * i) 0 16) (rowsT rows (i + 1) left))
 
-pub ruleset rows-ways = (row-start, rows-start, row-turn, row-end, rows-turn, rows-end, needs)
-
--- ---- CLOSE rows
-
-close-bytes : rowBytes code.Close ≡ encodeRow Close
-unfolding rowBytes bytesOf ruleRow
-close-bytes = refl
-
-close-size : length (encodeRow Close) ≡ 16
+pub close-size : length (encodeRow Close) ≡ 16
 unfolding Rows.computes
 close-size = refl
 
-module _ (new l : List ℕ) (i r n : ℕ) (put : r & l ≡ putRow new i code.Close) (h : i < n) (room : 16 * n ≤ length new) where
-  put-is : r & l ≡ i + 1 & sets new (16 * i) (encodeRow Close)
-  unfolding putRow pick
-  put-is = let t : ltb i (length new / 16) ≡ true = omega tests in put ∙ rw (t, close-bytes)
-
-  pub closes-next : r ≡ i + 1
-  closes-next = let p = put-is in cc
-
-  closes-left : l ≡ sets new (16 * i) (encodeRow Close)
-  closes-left = let p = put-is in cc
-
-  pub closes-less : n - r < n - i
-  closes-less = rw closes-next (omega arith)
-
-  pub closes-length : length l ≡ length new
-  closes-length = rw closes-left (length-sets new (16 * i) (encodeRow Close))
-
-  pub closes-turn : {T : List ℕ} → sets new (16 * i) (closeRows (n - i)) ≡ T → sets l (16 * r) (closeRows (n - r)) ≡ T
-  unfolding closeRows
-  closes-turn inv =
-      let next : 16 * (i + 1) ≡ 16 * i + length (encodeRow Close) = omega (arith, close-size) in
-      rw (closes-next, closes-left, next, ← sets-append) (rw (left-suc i n h) at inv)
-
-pub closes-start : (new : List ℕ) (at count : ℕ) → sets new (16 * at) (closeRows (at + count - at)) ≡ sets new (16 * at) (closeRows count)
-closes-start new at count = let z : at + count - at ≡ count = omega arith in rw z
-
-pub closes-end : (new T : List ℕ) (i n : ℕ) → sets new (16 * i) (closeRows (n - i)) ≡ T → n ≤ i → new ≡ T
-unfolding closeRows
-closes-end new T i n inv h = let z : n - i ≡ 0 = omega arith in (rw z at inv)
-
-pub ruleset closes-ways = (closes-next, closes-less, closes-length, closes-turn, closes-start, closes-end, needs)
-
-close-rows-size : (n : ℕ) → length (closeRows n) ≡ 16 * n
+pub close-rows-size : (n : ℕ) → length (closeRows n) ≡ 16 * n
 unfolding closeRows
 close-rows-size zero = refl
 close-rows-size (suc n) = omega (arith, close-size, close-rows-size n, length-append (encodeRow Close) (closeRows n))
 
--- ---- fill_rows
-
 pub body-size : (rows : List ℕ) (k : Kept) → length (bodyT rows k) ≡ 16 * (k .rows + k .scopes)
 unfolding bodyT
 body-size rows k = omega (arith, rows-size rows 0 (k .rows), close-rows-size (k .scopes), length-append (rowsT rows 0 (k .rows)) (closeRows (k .scopes)))
-
-pub body-filled : (rows new l₁ l₂ : List ℕ) (k : Kept) → l₁ ≡ sets new 0 (rowsT rows 0 (k .rows)) → l₂ ≡ sets l₁ (16 * k .rows) (closeRows (k .scopes)) → l₂ ≡ sets new 0 (bodyT rows k)
-unfolding bodyT
-body-filled rows new l₁ l₂ k e f =
-    let next : 16 * k .rows ≡ 0 + length (rowsT rows 0 (k .rows)) = omega (arith, rows-size rows 0 (k .rows)) in
-    rw (f, e, next, sets-append)

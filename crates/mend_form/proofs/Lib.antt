@@ -1,3 +1,3 @@
 pub mod Laws
 pub mod Right
-pub mod Ways
+pub mod Rows

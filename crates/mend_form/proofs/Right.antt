@@ -1,4 +1,4 @@
--- What the code writes is the mended form of the rules.
+-- The rows that the code makes are those of the rules' mended form.
 use mathlib.Core.Path.{_≡_, refl, sym, ap, ap₂, _∙_, subst}
 use mathlib.Core.Bool.{Bool, true, false}
 use mathlib.Core.List.{List, [], _∷_, _++_, append-assoc, append-nil}
@@ -12,12 +12,11 @@ use Rattle.kit.specs.Pick.{pick}
 use Rattle.kit.proofs.Laws.{tests}
 use Rattle.rules.specs.Tools.{if_then_else_}
 use Rattle.rules.specs.Rows.{value, bytes}
-use Rattle.mending.specs.Mend.{Piece, piece, afters, Fate, stays, fates, fated, parts, rowPieces, closesRoot, depthAfter, closeRows, allRows, behindHeader, headerPieces, formPieces}
+use Rattle.mending.specs.Mend.{Piece, piece, afters, Fate, stays, fates, fated, parts, rowPieces, closesRoot, depthAfter, closeRows, allRows}
 use Rattle.mending.specs.Laws.Pieces.{afters-append}
 use Rattle.mend_form.specs.Kept.{kept, keptT, keptIn}
-use Rattle.mend_form.specs.Filled.{first, partAt, staysT, byteT, rowT, rowsT, bodyT, headT, formT}
+use Rattle.mend_form.specs.Filled.{partAt, staysT, byteT, rowT, rowsT, bodyT}
 use Rattle.mend_form.specs.declared.Kept.{Kept}
-use Rattle.mend_form.proofs.Laws.{body-size}
 
 -- ---- a row
 
@@ -107,7 +106,7 @@ row-right (c ∷ b ∷ e ∷ f ∷ x₀ ∷ x₁ ∷ x₂ ∷ x₃ ∷ y₀ ∷ 
 row-right (c ∷ b ∷ e ∷ f ∷ x₀ ∷ x₁ ∷ x₂ ∷ x₃ ∷ y₀ ∷ y₁ ∷ y₂ ∷ y₃ ∷ z₀ ∷ z₁ ∷ z₂ ∷ z₃ ∷ v ∷ rest) h = absurd (omega arith)
 
 -- the row at byte a
-alone : (rows : List ℕ) (a j left : ℕ) → j + left ≤ 16 → rowT rows a j left ≡ rowT (take 16 (drop a rows)) 0 j left
+pub alone : (rows : List ℕ) (a j left : ℕ) → j + left ≤ 16 → rowT rows a j left ≡ rowT (take 16 (drop a rows)) 0 j left
 unfolding rowT
 alone rows a j zero h = refl
 alone rows a j (suc left) h =
@@ -182,7 +181,7 @@ split rows i (suc left) depth =
     let code = getD rows (16 * i) 0 in
     by-root rows i left depth code (closesRoot code depth) (split rows (i + 1) left (depthAfter code depth)) (cut-rows rows i left depth code (first-byte rows (16 * i)))
 
--- ---- the whole form
+-- ---- all rows
 
 -- the pieces behind the header: those of the rows that stay, and what is cut off or added
 pub rows-split : (rows : List ℕ) → (allRows 0 (length rows / 16) rows ≡ keptPieces rows 0 (keptIn rows .rows) ++ (piece (drop (16 * keptIn rows .rows) rows) (closeRows (keptIn rows .scopes)) ∷ []))
@@ -203,21 +202,3 @@ body-right rows =
   where
     one : (p : Piece) → afters (p ∷ []) ≡ p .after
     one p = unfold afters in append-nil (p .after)
-
-pub head-right : (form : List ℕ) (count : ℕ) → 8 ≤ length form → afters (headerPieces first count form) ≡ headT form count
-unfolding headerPieces headT afters bytes
-head-right [] count h = absurd (omega arith)
-head-right (a ∷ []) count h = absurd (omega arith)
-head-right (a ∷ b ∷ []) count h = absurd (omega arith)
-head-right (a ∷ b ∷ c ∷ []) count h = absurd (omega arith)
-head-right (a ∷ b ∷ c ∷ d ∷ []) count h = absurd (omega arith)
-head-right (a ∷ b ∷ c ∷ d ∷ e ∷ l) count h = refl
-
-pub form-right : (form : List ℕ) → 8 ≤ length form → formT form (keptIn (drop 8 form)) ≡ afters (formPieces first form)
-unfolding formT formPieces behindHeader
-form-right form h =
-    let k = keptIn (drop 8 form) in
-    let rows = allRows 0 (length (drop 8 form) / 16) (drop 8 form) in
-    let body = body-right (drop 8 form) in
-    let count : length (afters rows) / 16 ≡ k .rows + k .scopes = omega (arith, ap length body, body-size (drop 8 form) k) in
-    sym (afters-append (headerPieces first (length (afters rows) / 16) form) rows ∙ ap₂ (λ (p q : List ℕ). p ++ q) (ap (λ (n : ℕ). afters (headerPieces first n form)) count ∙ head-right form (k .rows + k .scopes) h) body)

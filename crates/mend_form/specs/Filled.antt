@@ -1,20 +1,13 @@
--- The mended form as the code writes it: byte by byte, by the code of the row and the part that a byte belongs to.
+-- The mended rows as the code makes them: byte by byte, by the code of the row and the part that a byte belongs to.
 use mathlib.Core.Bool.{Bool, true, false, _&&_, _||_}
 use mathlib.Core.List.{List, [], _∷_, _++_}
-use Prim.Native.Nat.{ℕ, zero, suc, _+_, _*_, _/_, _%_}
-use lib.Dec.{eqb, ltb}
-use lib.ListN.{length, getD, drop}
-use lib.Seq.{sets}
+use Prim.Native.Nat.{ℕ, zero, suc, _+_, _*_, _-_, _/_, _%_}
+use lib.Dec.{eqb, leb, ltb}
+use lib.ListN.{length, getD, replicate}
 use Rattle.kit.specs.Pick.{pick}
-use Rattle.kit.specs.Out.{Out, _&_}
-use Rattle.rules.specs.Versions.{Setting, version1, today}
-use Rattle.mending.specs.Mend.{afters, closeRows, formPieces}
-use Rattle.mend_form.specs.Kept.{kept, keptIn}
+use Rattle.rules.specs.Rows.{Close, encodeRow}
+use Rattle.mending.specs.Mend.{closeRows}
 use Rattle.mend_form.specs.declared.Kept.{Kept}
-
--- the setting in force
-abbrev pub first : Setting
-first = record { version = version1; rules = today }
 
 unfoldable pub partAt : ℕ → ℕ
 partAt j = pick (ltb j 2) j (pick (ltb j 4) 2 (2 + j / 4))
@@ -45,22 +38,17 @@ unfoldable pub rowsT : (rows : List ℕ) (i left : ℕ) → List ℕ
 rowsT rows i zero = []
 rowsT rows i (suc left) = rowT rows (16 * i) 0 16 ++ rowsT rows (i + 1) left
 
+-- all rows of the mended form, of which these stay
 unfoldable pub bodyT : (rows : List ℕ) → Kept → List ℕ
 bodyT rows k = rowsT rows 0 (k .rows) ++ closeRows (k .scopes)
 
-unfoldable pub headT : (form : List ℕ) (count : ℕ) → List ℕ
-headT form count =
-    getD form 0 0 ∷ getD form 1 0 ∷ getD form 2 0 ∷ getD form 3 0 ∷ getD form 4 0 ∷ 0 ∷ count % 256 ∷ count / 256 % 256 ∷ []
+-- row i of them, all zero where there is none
+unfoldable pub rowIn : (rows : List ℕ) → Kept → (i : ℕ) → List ℕ
+rowIn rows k i =
+    pick (leb (k .rows) i) (pick (ltb (i - k .rows) (k .scopes)) (encodeRow Close) (replicate 16 0))
+    (pick (leb (length rows / 16) i) (replicate 16 0) (rowT rows (16 * i) 0 16))
 
-unfoldable pub formT : (form : List ℕ) → Kept → List ℕ
-formT form k = headT form (k .rows + k .scopes) ++ bodyT (drop 8 form) k
-
--- which rows stay, and the mended form at the front of `new`, where it has a row, no more than a form may have, and room
-unfoldable pub mendedIn : (form new : List ℕ) → Out Kept (List ℕ)
-mendedIn form new =
-    let k = keptIn (drop 8 form) in let total = k .rows + k .scopes in
-    pick (ltb (length form) 8) (kept 0 0 & new)
-    (pick (eqb total 0) (k & new)
-    (pick (ltb 1023 total) (k & new)
-    (pick (ltb (length new) (8 + 16 * total)) (k & new)
-    (k & sets new 0 (afters (formPieces first form))))))
+-- `left` of them from row i on
+unfoldable pub fromT : (rows : List ℕ) → Kept → (i left : ℕ) → List ℕ
+fromT rows k i zero = []
+fromT rows k i (suc left) = rowIn rows k i ++ fromT rows k (i + 1) left

@@ -1,21 +1,12 @@
-// The mended form of a spoilt one: the rows that stay, what becomes of their parts, and the CLOSE rows that were missing.
-use put::put_row;
+// The rows of the mended form of a spoilt one: which stay, what becomes of their parts, and the CLOSE rows that were missing.
 use rows::row::CLOSE;
 use rows::row::OPEN;
-use rows::row::Row;
 ghost use mathlib.Core.Path.{_≡_};
 ghost use Prim.Native.Nat.{_+_, _*_, _/_, _≤_, _<_};
 ghost use lib.ListN.{length};
-ghost use lib.Seq.{sets};
-ghost use Rattle.kit.specs.Out.{_&_};
-ghost use Rattle.mending.specs.Mend.{closesRoot, depthAfter, closeRows};
+ghost use Rattle.mending.specs.Mend.{closesRoot, depthAfter};
 ghost use Rattle.mend_form.specs.Kept.{keptIn};
-ghost use Rattle.mend_form.specs.Filled.{partAt, staysT, byteT, rowT, rowsT, bodyT, headT, mendedIn};
-
-// The bytes of a header, and the most rows of a form of version 1.
-pub const HEADER: usize = 8;
-
-pub const ROWS: usize = 1023;
+ghost use Rattle.mend_form.specs.Filled.{partAt, staysT, byteT, rowT, rowIn};
 
 // The rows that stay, the first ones, and the scopes that are open behind them.
 pub struct Kept {
@@ -50,7 +41,7 @@ fn depth_after(code: u8, depth: usize) -> usize
 }
 
 // Counts OPEN and CLOSE codes up to the root's CLOSE.
-fn kept_in(rows: &[u8]) -> Kept
+pub fn kept_in(rows: &[u8]) -> Kept
     ensures { λ r. ⌜ (r ≡ keptIn (now (rows .entry))) × (r .rows ≤ length (now (rows .entry)) / 16) × (r .scopes ≤ length (now (rows .entry)) / 16) ⌝ }
 {
     let n = rows.len() / 16;
@@ -121,91 +112,36 @@ fn mended_byte(code: u8, b: u8, j: usize, byte: u8) -> u8
     if stays(code, b, part) { byte } else { 0 }
 }
 
-// Mends the row in the sixteen bytes from a.
-fn mend_row(rows: &[u8], a: usize, new: &mut [u8])
-    requires { ⌜ (a + 16 ≤ length (now rows)) × (a + 16 ≤ length (now new)) ⌝ }
-    ensures { λ _. ⌜ now (new .exit) ≡ sets (now (new .entry)) a (rowT (now (rows .entry)) a 0 16) ⌝ }
+// Row i as it is mended.
+fn mended_row(rows: &[u8], i: usize) -> [u8; 16]
+    requires { ⌜ 16 * (i + 1) ≤ length (now rows) ⌝ }
+    ensures { λ r. ⌜ r ≡ rowT (now (rows .entry)) (16 * i) 0 16 ⌝ }
 {
+    let a = 16 * i;
     let code = rows[a];
     let b = rows[a + 1];
+    let mut row = [0u8; 16];
     let mut j = 0;
     while j < 16 {
-        new[a + j] = mended_byte(code, b, j, rows[a + j]);
+        row[j] = mended_byte(code, b, j, rows[a + j]);
         j += 1;
     }
+    row
 }
 
-// Mends the first `count` rows.
-fn mend_rows(rows: &[u8], count: usize, new: &mut [u8])
-    requires { ⌜ (16 * count ≤ length (now rows)) × (16 * count ≤ length (now new)) ⌝ }
-    ensures { λ _. ⌜ now (new .exit) ≡ sets (now (new .entry)) 0 (rowsT (now (rows .entry)) 0 count) ⌝ }
+// Row i of the mended form: one that stays, or a CLOSE row behind those; all zero where there is none.
+pub fn row_of(rows: &[u8], kept: Kept, i: usize) -> [u8; 16]
+    ensures { λ r. ⌜ r ≡ rowIn (now (rows .entry)) kept i ⌝ }
 {
-    let mut i = 0;
-    while i < count {
-        mend_row(rows, 16 * i, new);
-        i += 1;
+    let mut row = [0u8; 16];
+    if kept.rows <= i {
+        if i - kept.rows < kept.scopes {
+            row[0] = CLOSE;
+        }
+        return row;
     }
-}
-
-// Adds so many CLOSE rows from row `at` on.
-fn add_closes(new: &mut [u8], at: usize, count: usize)
-    requires { ⌜ 16 * (at + count) ≤ length (now new) ⌝ }
-    ensures { λ _. ⌜ now (new .exit) ≡ sets (now (new .entry)) (16 * at) (closeRows count) ⌝ }
-{
-    let end = at + count;
-    let mut i = at;
-    while i < end {
-        i = put_row(new, i, Row::Close);
+    if rows.len() / 16 <= i {
+        return row;
     }
-}
-
-// ---- the whole form
-
-// The rows of the mended form.
-fn fill_rows(rows: &[u8], kept: Kept, new: &mut [u8])
-    requires { ⌜ (16 * kept .rows ≤ length (now rows)) × (16 * (kept .rows + kept .scopes) ≤ length (now new)) ⌝ }
-    ensures { λ _. ⌜ now (new .exit) ≡ sets (now (new .entry)) 0 (bodyT (now (rows .entry)) kept) ⌝ }
-{
-    mend_rows(rows, kept.rows, new);
-    add_closes(new, kept.rows, kept.scopes);
-}
-
-// The header: byte 5 is zero, and the row count is that of the rows.
-fn fill_header(form: &[u8], count: usize, new: &mut [u8])
-    requires { ⌜ (8 ≤ length (now form)) × (8 ≤ length (now new)) ⌝ }
-    ensures { λ _. ⌜ now (new .exit) ≡ sets (now (new .entry)) 0 (headT (now (form .entry)) count) ⌝ }
-{
-    new[0] = form[0];
-    new[1] = form[1];
-    new[2] = form[2];
-    new[3] = form[3];
-    new[4] = form[4];
-    new[5] = 0;
-    new[6] = (count % 256) as u8;
-    new[7] = (count / 256 % 256) as u8;
-}
-
-// Writes the mended form to the front of `new`, and answers which rows stay. Where it would have no row or more than a form
-// may have, or `new` is too short for it, nothing is written.
-pub fn mend_into(form: &[u8], new: &mut [u8]) -> Kept
-    ensures { λ r. ⌜ (r & now (new .exit)) ≡ mendedIn (now (form .entry)) (now (new .entry)) ⌝ }
-    ensures { λ r. ⌜ r .rows + r .scopes < 18446744073709551616 ⌝ }
-{
-    if form.len() < HEADER {
-        return Kept { rows: 0, scopes: 0 };
-    }
-    let kept = kept_in(&form[HEADER..]);
-    let total = kept.rows + kept.scopes;
-    if total == 0 {
-        return kept;
-    }
-    if ROWS < total {
-        return kept;
-    }
-    if new.len() < HEADER + 16 * total {
-        return kept;
-    }
-    fill_header(form, total, new);
-    fill_rows(&form[HEADER..], kept, &mut new[HEADER..]);
-    kept
+    mended_row(rows, i)
 }

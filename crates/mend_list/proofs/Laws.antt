@@ -8,17 +8,23 @@ use native.Mathlib.Numerals.{add-one}
 use Prim.Native.Nat.{ℕ, zero, suc, _+_, _-_, _*_, _/_, _%_, _≤_, _<_}
 use lib.Dec.{eqb, ltb}
 use lib.ListN.{length, getD, set, take, drop, replicate, length-append, length-drop, length-replicate}
-use lib.Seq.{sets, length-take-le}
+use lib.Seq.{sets, length-sets, length-take-le, take-all}
 use borrow.Author.Needs.{needs}
 use borrow.Author.Tests.{ne-eqb, eq-eqb}
 use Rattle.kit.specs.Out.{Out, _&_}
 use Rattle.kit.specs.Pick.{pick}
-use Rattle.kit.proofs.Laws.{tests, left-suc, sets-append, drop-next}
+use Rattle.kit.proofs.Laws.{tests, left-suc, sets-append, drop-next, yes!, no! }
 use Rattle.rules.specs.Rows.{bytes}
 use Rattle.stores.proofs.Laws.{set-past, length-word}
-use Rattle.rules.specs.Answer.{sameNumbers}
+use Rattle.rules.specs.Answer.{sameNumbers, headerBytes}
+use Rattle.limits.specs.declared.Limits.{Limits}
+use Rattle.limits.specs.Held.{settingIn}
 use Rattle.mending.specs.Mend.{Change, changeBytes, listBytes}
-use Rattle.mend_list.specs.Listed.{listed, none, noted, change, pieceChanges, widthT, rowChanges, rowsChanges, headChanges, allChanges, changesIn}
+use Rattle.mend_list.specs.Listed.{listed, none, noted, change, pieceChanges, widthT, rowChanges, rowsChanges, headT, headChanges, restChanges, allChanges, changesIn}
+use Rattle.mend_form.specs.Kept.{keptIn}
+use Rattle.mend_form.specs.Filled.{rowIn}
+use Rattle.mend_form.specs.declared.Kept.{Kept}
+use Rattle.mend_form.proofs.Rows.{in-size}
 use Rattle.mend_list.specs.declared.Listed.{Listed}
 
 -- ---- stores
@@ -99,46 +105,28 @@ pub ruleset change-ways = (words-put, change-put, change-end, needs)
 
 -- ---- pieces
 
-module _ (old new : List ℕ) (at k n : ℕ) (T : Bool) where
-  pub same-turn : sameNumbers (take (n - k) (drop (at + k) old)) (take (n - k) (drop (at + k) new)) ≡ T → k < n → at + n ≤ length old → at + n ≤ length new → getD old (at + k) 0 ≡ getD new (at + k) 0
-      → sameNumbers (take (n - (k + 1)) (drop (at + (k + 1)) old)) (take (n - (k + 1)) (drop (at + (k + 1)) new)) ≡ T
-  unfolding sameNumbers
-  same-turn inv h f g e =
-      let t : at + (k + 1) ≡ at + k + 1 = omega arith in
-      rw t (rw (left-suc k n h, drop-next old (at + k) 0 (omega arith), drop-next new (at + k) 0 (omega arith), eq-eqb (getD old (at + k) 0) (getD new (at + k) 0) e) at inv)
+module _ (old new : List ℕ) (at to k n : ℕ) (T : Bool) (inv : sameNumbers (take (n - k) (drop (at + k) old)) (take (n - k) (drop (to + k) new)) ≡ T) where
+  module _ (h : k < n) (f : at + n ≤ length old) (g : to + n ≤ length new) where
+    pub same-turn : getD old (at + k) 0 ≡ getD new (to + k) 0 → sameNumbers (take (n - (k + 1)) (drop (at + (k + 1)) old)) (take (n - (k + 1)) (drop (to + (k + 1)) new)) ≡ T
+    unfolding sameNumbers
+    same-turn e =
+        let t : at + (k + 1) ≡ at + k + 1 = omega arith in
+        let u : to + (k + 1) ≡ to + k + 1 = omega arith in
+        rw (t, u) (rw (left-suc k n h, drop-next old (at + k) 0 (omega arith), drop-next new (to + k) 0 (omega arith), eq-eqb (getD old (at + k) 0) (getD new (to + k) 0) e) at inv)
 
-  pub same-not : sameNumbers (take (n - k) (drop (at + k) old)) (take (n - k) (drop (at + k) new)) ≡ T → k < n → at + n ≤ length old → at + n ≤ length new → (getD old (at + k) 0 ≡ getD new (at + k) 0 → ⊥) → false ≡ T
-  unfolding sameNumbers
-  same-not inv h f g e =
-      (rw (left-suc k n h, drop-next old (at + k) 0 (omega arith), drop-next new (at + k) 0 (omega arith), ne-eqb (getD old (at + k) 0) (getD new (at + k) 0) e) at inv)
+    pub same-not : (getD old (at + k) 0 ≡ getD new (to + k) 0 → ⊥) → false ≡ T
+    unfolding sameNumbers
+    same-not e =
+        (rw (left-suc k n h, drop-next old (at + k) 0 (omega arith), drop-next new (to + k) 0 (omega arith), ne-eqb (getD old (at + k) 0) (getD new (to + k) 0) e) at inv)
 
-  pub same-end : sameNumbers (take (n - k) (drop (at + k) old)) (take (n - k) (drop (at + k) new)) ≡ T → n ≤ k → true ≡ T
+  pub same-end : n ≤ k → true ≡ T
   unfolding sameNumbers
-  same-end inv h = let z : n - k ≡ 0 = omega arith in (rw z at inv)
+  same-end h = let z : n - k ≡ 0 = omega arith in (rw z at inv)
 
-pub same-start : (old new : List ℕ) (at n : ℕ) → sameNumbers (take (n - 0) (drop (at + 0) old)) (take (n - 0) (drop (at + 0) new)) ≡ sameNumbers (take n (drop at old)) (take n (drop at new))
-same-start old new at n = let z : n - 0 ≡ n = omega arith in rw (z, add-zero)
+pub same-start : (old new : List ℕ) (at to n : ℕ) → sameNumbers (take (n - 0) (drop (at + 0) old)) (take (n - 0) (drop (to + 0) new)) ≡ sameNumbers (take n (drop at old)) (take n (drop to new))
+same-start old new at to n = let z : n - 0 ≡ n = omega arith in rw (z, add-zero, add-zero)
 
 pub ruleset same-ways = (same-turn, same-not, same-end, same-start, needs)
-
--- lists of two lengths differ
-pub same-length : (a b : List ℕ) → (length a ≡ length b → ⊥) → false ≡ sameNumbers a b
-unfolding sameNumbers
-same-length [] [] h = absurd (h refl)
-same-length [] (y ∷ b) h = refl
-same-length (x ∷ a) [] h = refl
-same-length (x ∷ a) (y ∷ b) h = go (eqb x y) (same-length a b (λ e. h (ap suc e)))
-  where
-    go : (t : Bool) → false ≡ sameNumbers a b → false ≡ (t && sameNumbers a b)
-    go true e = e
-    go false e = refl
-
-pub other-length : (old new : List ℕ) (at n m : ℕ) → at + n ≤ length old → at + m ≤ length new → (n ≡ m → ⊥) → false ≡ sameNumbers (take n (drop at old)) (take m (drop at new))
-other-length old new at n m h g e =
-    same-length (take n (drop at old)) (take m (drop at new)) (λ q. e (omega (arith, q, length-take-le n (drop at old) (omega (arith, length-drop at old)), length-take-le m (drop at new) (omega (arith, length-drop at new)))))
-
-pub equal-length : (old new : List ℕ) (at n m : ℕ) {t : Bool} → t ≡ sameNumbers (take n (drop at old)) (take n (drop at new)) → n ≡ m → t ≡ sameNumbers (take n (drop at old)) (take m (drop at new))
-equal-length old new at n m e q = e ∙ rw q
 
 -- ---- changes one behind the other
 
@@ -158,15 +146,19 @@ pub noted-none : (s : Listed) (l : List ℕ) → s & l ≡ noted s l []
 unfolding noted listBytes
 noted-none s l = rw (add-zero, add-zero)
 
-module _ (old new l : List ℕ) (at n m : ℕ) (s : Listed) {t : Bool} (w : t ≡ sameNumbers (take n (drop at old)) (take m (drop at new))) where
-  pub piece-kept : t ≡ true → s & l ≡ noted s l (pieceChanges old new at n m)
+pub change-listed : (old l l₁ : List ℕ) (at n m r : ℕ) (s : Listed) → l₁ ≡ sets l (s .size) (changeBytes (change old at n m)) → r ≡ s .size + length (changeBytes (change old at n m))
+    → listed r (s .count + 1) & l₁ ≡ noted s l (change old at n m ∷ [])
+unfolding noted listBytes
+change-listed old l l₁ at n m r s f g = rw (f, g, append-nil)
+
+module _ (old new l : List ℕ) (at to n : ℕ) (s : Listed) {t : Bool} (w : t ≡ sameNumbers (take n (drop at old)) (take n (drop to new))) where
+  pub piece-kept : t ≡ true → s & l ≡ noted s l (pieceChanges old new at to n)
   unfolding pieceChanges pick
   piece-kept e = rw (← w, e) (noted-none s l)
 
-  pub piece-listed : t ≡ false → (l₁ : List ℕ) (r : ℕ) → l₁ ≡ sets l (s .size) (changeBytes (change old at n m)) → r ≡ s .size + length (changeBytes (change old at n m))
-      → listed r (s .count + 1) & l₁ ≡ noted s l (pieceChanges old new at n m)
-  unfolding pieceChanges pick noted listBytes
-  piece-listed e l₁ r f g = rw (← w, e, f, g, append-nil)
+  pub piece-listed : t ≡ false → {x : Out Listed (List ℕ)} → x ≡ noted s l (change old at n n ∷ []) → x ≡ noted s l (pieceChanges old new at to n)
+  unfolding pieceChanges pick
+  piece-listed e f = rw (← w, e) f
 
 pub ruleset piece-ways = (piece-kept, piece-listed, needs)
 
@@ -204,71 +196,110 @@ module _ (j : ℕ) where
 pub ruleset width-ways = (width-none, width-0, width-1, width-2, width-4, width-8, width-12, needs)
 
 module _ (old new l₁ l : List ℕ) (a j : ℕ) (s r : Listed) where
-  pub row-turn : {T : Out Listed (List ℕ)} {w : ℕ} → noted s l (rowChanges old new a j (16 - j)) ≡ T → j < 16 → w ≡ widthT j → r & l₁ ≡ noted s l (pieceChanges old new (a + j) w w)
+  pub row-turn : {T : Out Listed (List ℕ)} {w : ℕ} → noted s l (rowChanges old new a j (16 - j)) ≡ T → j < 16 → w ≡ widthT j → r & l₁ ≡ noted s l (pieceChanges old new (a + j) j w)
       → noted r l₁ (rowChanges old new a (j + 1) (16 - (j + 1))) ≡ T
   unfolding rowChanges
   row-turn inv h e f =
-      let g : r & l₁ ≡ noted s l (pieceChanges old new (a + j) (widthT j) (widthT j)) = f ∙ rw e in
-      noted-more s r l l₁ (pieceChanges old new (a + j) (widthT j) (widthT j)) (rowChanges old new a (j + 1) (16 - (j + 1))) g ∙ (rw (left-suc j 16 h) at inv)
+      let g : r & l₁ ≡ noted s l (pieceChanges old new (a + j) j (widthT j)) = f ∙ rw e in
+      noted-more s r l l₁ (pieceChanges old new (a + j) j (widthT j)) (rowChanges old new a (j + 1) (16 - (j + 1))) g ∙ (rw (left-suc j 16 h) at inv)
 
-  pub rows-turn : {T : Out Listed (List ℕ)} {n : ℕ} → noted s l (rowsChanges old new j (n - j)) ≡ T → j < n → r & l₁ ≡ noted s l (rowChanges old new (8 + 16 * j) 0 16)
-      → noted r l₁ (rowsChanges old new (j + 1) (n - (j + 1))) ≡ T
+pub row-end : (old new l : List ℕ) (a j : ℕ) (s : Listed) {T : Out Listed (List ℕ)} → noted s l (rowChanges old new a j (16 - j)) ≡ T → 16 ≤ j → s & l ≡ T
+unfolding rowChanges
+row-end old new l a j s inv h = let z : 16 - j ≡ 0 = omega arith in noted-none s l ∙ (rw z at inv)
+
+pub ruleset row-ways = (row-turn, row-end, needs)
+
+-- the row that was made
+pub mended-listed : (old row l : List ℕ) (header i : ℕ) (k : Kept) (s : Listed) {x : Out Listed (List ℕ)} → row ≡ rowIn (take (length old - header) (drop header old)) k i → x ≡ noted s l (rowChanges old row (header + 16 * i) 0 16)
+    → x ≡ noted s l (rowChanges old (rowIn (drop header old) k i) (header + 16 * i) 0 16)
+mended-listed old row l header i k s e f =
+    f ∙ ap (λ (r : List ℕ). noted s l (rowChanges old r (header + 16 * i) 0 16)) (e ∙ ap (λ (b : List ℕ). rowIn b k i) (take-all (length old - header) (drop header old) (simp length-drop (omega arith))))
+
+pub mended-wide : (old row : List ℕ) (k : Kept) (i : ℕ) → row ≡ rowIn old k i → 16 ≤ length row
+mended-wide old row k i e = omega (arith, ap length e, in-size old k i)
+
+module _ (old l₁ l : List ℕ) (header i : ℕ) (k : Kept) (s r : Listed) where
+  pub rows-turn : {T : Out Listed (List ℕ)} {n : ℕ} → noted s l (rowsChanges header old k i (n - i)) ≡ T → i < n → r & l₁ ≡ noted s l (rowChanges old (rowIn (drop header old) k i) (header + 16 * i) 0 16)
+      → noted r l₁ (rowsChanges header old k (i + 1) (n - (i + 1))) ≡ T
   unfolding rowsChanges
   rows-turn {n = n} inv h f =
-      noted-more s r l l₁ (rowChanges old new (8 + 16 * j) 0 16) (rowsChanges old new (j + 1) (n - (j + 1))) f ∙ (rw (left-suc j n h) at inv)
+      noted-more s r l l₁ (rowChanges old (rowIn (drop header old) k i) (header + 16 * i) 0 16) (rowsChanges header old k (i + 1) (n - (i + 1))) f ∙ (rw (left-suc i n h) at inv)
 
-module _ (old new l : List ℕ) (a j : ℕ) (s : Listed) {T : Out Listed (List ℕ)} where
-  pub row-end : noted s l (rowChanges old new a j (16 - j)) ≡ T → 16 ≤ j → s & l ≡ T
-  unfolding rowChanges
-  row-end inv h = let z : 16 - j ≡ 0 = omega arith in noted-none s l ∙ (rw z at inv)
-
-  pub rows-end : {n : ℕ} → noted s l (rowsChanges old new j (n - j)) ≡ T → n ≤ j → s & l ≡ T
+module _ (old l : List ℕ) (header i n : ℕ) (k : Kept) (s : Listed) where
+  pub rows-end : {T : Out Listed (List ℕ)} → noted s l (rowsChanges header old k i (n - i)) ≡ T → n ≤ i → s & l ≡ T
   unfolding rowsChanges
-  rows-end {n} inv h = let z : n - j ≡ 0 = omega arith in noted-none s l ∙ (rw z at inv)
+  rows-end inv h = let z : n - i ≡ 0 = omega arith in noted-none s l ∙ (rw z at inv)
 
-pub rows-start : (old new l : List ℕ) (s : Listed) (n : ℕ) → noted s l (rowsChanges old new 0 (n - 0)) ≡ noted s l (rowsChanges old new 0 n)
-rows-start old new l s n = let z : n - 0 ≡ n = omega arith in rw z
+pub rows-start : (old l : List ℕ) (header n : ℕ) (k : Kept) (s : Listed) → noted s l (rowsChanges header old k 0 (n - 0)) ≡ noted s l (rowsChanges header old k 0 n)
+rows-start old l header n k s = let z : n - 0 ≡ n = omega arith in rw z
 
-pub ruleset row-ways = (row-turn, rows-turn, row-end, rows-end, rows-start, needs)
+pub ruleset rows-ways = (rows-turn, rows-end, rows-start, needs)
 
-pub head-listed : (old new l l₁ l₂ : List ℕ) (r₁ r₂ : Listed) → r₁ & l₁ ≡ noted none l (pieceChanges old new 5 1 1) → r₂ & l₂ ≡ noted r₁ l₁ (pieceChanges old new 6 2 2) → r₂ & l₂ ≡ noted none l (headChanges old new)
+-- ---- the whole form
+
+pub head-made : (l : Limits) (count : ℕ) (head : List ℕ) → head ≡ sets (replicate 16 0) 0 (headerBytes (settingIn l) count) → head ≡ headT l count
+unfolding headT
+head-made l count head e = e
+
+pub head-wide : (l : Limits) (count : ℕ) (head : List ℕ) → head ≡ headT l count → 16 ≤ length head
+unfolding headT
+head-wide l count head e = omega (arith, ap length e, length-sets (replicate {A = ℕ} 16 0) 0 (headerBytes (settingIn l) count), length-replicate {A = ℕ} 16 0)
+
+pub head-listed : (lim : Limits) (old new l l₁ l₂ l₃ : List ℕ) (behind header : ℕ) (r₁ r₂ r₃ : Listed) → behind ≡ 6 + pick (lim .wide) 4 2 → header ≡ lim .header → r₁ & l₁ ≡ noted none l (pieceChanges old new 5 5 1)
+    → r₂ & l₂ ≡ noted r₁ l₁ (pieceChanges old new 6 6 (behind - 6)) → r₃ & l₃ ≡ noted r₂ l₂ (pieceChanges old new behind behind (header - behind)) → r₃ & l₃ ≡ noted none l (headChanges lim old new)
 unfolding headChanges
-head-listed old new l l₁ l₂ r₁ r₂ e f = f ∙ noted-more none r₁ l l₁ (pieceChanges old new 5 1 1) (pieceChanges old new 6 2 2) e
+head-listed lim old new l l₁ l₂ l₃ behind header r₁ r₂ r₃ b h e f g =
+    rw (← b, ← h)
+    (g ∙ (noted-more r₁ r₂ l₁ l₂ (pieceChanges old new 6 6 (behind - 6)) (pieceChanges old new behind behind (header - behind)) f
+    ∙ noted-more none r₁ l l₁ (pieceChanges old new 5 5 1) (pieceChanges old new 6 6 (behind - 6) ++ pieceChanges old new behind behind (header - behind)) e))
 
-pub all-listed : (old new l l₁ l₂ l₃ : List ℕ) (rows : ℕ) (r₁ r₂ r₃ : Listed) → r₁ & l₁ ≡ noted none l (headChanges old new) → r₂ & l₂ ≡ noted r₁ l₁ (rowsChanges old new 0 rows)
-    → r₃ & l₃ ≡ noted r₂ l₂ (pieceChanges old new (8 + 16 * rows) (length old - (8 + 16 * rows)) (length new - (8 + 16 * rows))) → r₃ & l₃ ≡ noted none l (allChanges old new rows)
+module _ (old l : List ℕ) (a m : ℕ) (s : Listed) where
+  pub rest-kept : length old - a ≡ m → s & l ≡ noted s l (restChanges old a m)
+  unfolding restChanges pick
+  rest-kept h = let t : eqb (length old - a) m ≡ true = omega tests in rw t (noted-none s l)
+
+  pub rest-listed : (length old - a ≡ m → ⊥) → {x : Out Listed (List ℕ)} → x ≡ noted s l (change old a (length old - a) m ∷ []) → x ≡ noted s l (restChanges old a m)
+  unfolding restChanges pick
+  rest-listed h f = let t : eqb (length old - a) m ≡ false = omega tests in rw t f
+
+pub ruleset rest-ways = (rest-kept, rest-listed, needs)
+
+pub all-listed : (lim : Limits) (old head l l₁ l₂ l₃ : List ℕ) (k : Kept) (header : ℕ) (r₁ r₂ r₃ : Listed) → head ≡ headT lim (k .rows + k .scopes) → r₁ & l₁ ≡ noted none l (headChanges lim old head) → header ≡ lim .header
+    → r₂ & l₂ ≡ noted r₁ l₁ (rowsChanges header old k 0 (k .rows)) → r₃ & l₃ ≡ noted r₂ l₂ (restChanges old (header + 16 * k .rows) (16 * k .scopes)) → r₃ & l₃ ≡ noted none l (allChanges lim old k)
 unfolding allChanges
-all-listed old new l l₁ l₂ l₃ rows r₁ r₂ r₃ e f g =
-    g ∙ noted-more none r₂ l l₂ (headChanges old new ++ rowsChanges old new 0 rows) _ (f ∙ noted-more none r₁ l l₁ (headChanges old new) (rowsChanges old new 0 rows) e)
+all-listed lim old head l l₁ l₂ l₃ k header r₁ r₂ r₃ q e h f g =
+    let front = headChanges lim old (headT lim (k .rows + k .scopes)) in
+    let rows = rowsChanges (lim .header) old k 0 (k .rows) in
+    let e′ : r₁ & l₁ ≡ noted none l front = e ∙ ap (λ (x : List ℕ). noted none l (headChanges lim old x)) q in
+    let f′ : r₂ & l₂ ≡ noted r₁ l₁ rows = f ∙ ap (λ (n : ℕ). noted r₁ l₁ (rowsChanges n old k 0 (k .rows))) h in
+    let g′ : r₃ & l₃ ≡ noted r₂ l₂ (restChanges old (lim .header + 16 * k .rows) (16 * k .scopes)) = g ∙ ap (λ (n : ℕ). noted r₂ l₂ (restChanges old (n + 16 * k .rows) (16 * k .scopes))) h in
+    g′ ∙ noted-more none r₂ l l₂ (front ++ rows) _ (f′ ∙ noted-more none r₁ l l₁ front rows e′)
 
-module _ (old new l : List ℕ) (rows : ℕ) where
-  pub in-many : 1023 < rows → none & l ≡ noted none l (changesIn old new rows)
-  unfolding changesIn pick
-  in-many h = let t : ltb 1023 rows ≡ true = omega tests in rw t (noted-none none l)
+module _ (lim : Limits) (old l : List ℕ) (header behind : ℕ) (is-header : header ≡ lim .header) (is-behind : behind ≡ 6 + pick (lim .wide) 4 2) where
+  pub in-short : header < behind → none & l ≡ noted none l (changesIn lim old)
+  unfolding changesIn
+  in-short h = noted-none none l ∙ ap (noted none l) (yes! _ (omega tests) refl)
 
-  module _ (few : rows ≤ 1023) where
-    pub in-short : length old < 8 + 16 * rows → none & l ≡ noted none l (changesIn old new rows)
-    unfolding changesIn pick
-    in-short h = let t : ltb 1023 rows ≡ false = omega tests in let u : ltb (length old) (8 + 16 * rows) ≡ true = omega tests in rw (t, u) (noted-none none l)
+  module _ (a : behind ≤ header) where
+    pub in-long : 16 < header → none & l ≡ noted none l (changesIn lim old)
+    unfolding changesIn
+    in-long h = noted-none none l ∙ ap (noted none l) (no! _ (omega tests) (yes! _ (omega tests) refl))
 
-    module _ (long : 8 + 16 * rows ≤ length old) where
-      pub in-other : length new < 8 + 16 * rows → none & l ≡ noted none l (changesIn old new rows)
-      unfolding changesIn pick
-      in-other h =
-          let t : ltb 1023 rows ≡ false = omega tests in
-          let u : ltb (length old) (8 + 16 * rows) ≡ false = omega tests in
-          let v : ltb (length new) (8 + 16 * rows) ≡ true = omega tests in
-          rw (t, u, v) (noted-none none l)
+    module _ (b : header ≤ 16) where
+      pub in-none : length old < header → none & l ≡ noted none l (changesIn lim old)
+      unfolding changesIn
+      in-none h = noted-none none l ∙ ap (noted none l) (no! _ (omega tests) (no! _ (omega tests) (yes! _ (omega tests) refl)))
 
--- where both have the rows, it is the whole list
-pub in-both : (old new : List ℕ) (rows : ℕ) → rows ≤ 1023 → 8 + 16 * rows ≤ length old → 8 + 16 * rows ≤ length new → changesIn old new rows ≡ allChanges old new rows
-unfolding changesIn pick
-in-both old new rows few long long′ =
-    let t : ltb 1023 rows ≡ false = omega tests in
-    let u : ltb (length old) (8 + 16 * rows) ≡ false = omega tests in
-    let v : ltb (length new) (8 + 16 * rows) ≡ false = omega tests in
-    rw (t, u, v)
+      module _ (c : header ≤ length old) (k : Kept) (is : k ≡ keptIn (take (length old - header) (drop header old))) where
+        kept-is : k ≡ keptIn (drop (lim .header) old)
+        kept-is = is ∙ (ap keptIn (take-all (length old - header) (drop header old) (simp length-drop (omega arith))) ∙ ap (λ (n : ℕ). keptIn (drop n old)) is-header)
 
-pub in-whole : (old new l : List ℕ) (rows : ℕ) {x : Out Listed (List ℕ)} → x ≡ noted none l (allChanges old new rows) → rows ≤ 1023 → 8 + 16 * rows ≤ length old → 8 + 16 * rows ≤ length new
-    → x ≡ noted none l (changesIn old new rows)
-in-whole old new l rows e few long long′ = e ∙ ap (noted none l) (sym (in-both old new rows few long long′))
+        pub in-many : 16383 < k .rows → none & l ≡ noted none l (changesIn lim old)
+        unfolding changesIn
+        in-many h = noted-none none l ∙ ap (noted none l) (rw (← kept-is) (no! _ (omega tests) (no! _ (omega tests) (no! _ (omega tests) (yes! _ (omega tests) refl)))))
+
+        pub in-whole : k .rows ≤ 16383 → {x : Out Listed (List ℕ)} → x ≡ noted none l (allChanges lim old k) → x ≡ noted none l (changesIn lim old)
+        unfolding changesIn
+        in-whole h e = e ∙ ap (noted none l) (rw (← kept-is) (no! _ (omega tests) (no! _ (omega tests) (no! _ (omega tests) (no! _ (omega tests) refl)))))
+
+pub ruleset in-ways = (in-short, in-long, in-none, in-many, in-whole, needs)

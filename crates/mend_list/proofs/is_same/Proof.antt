@@ -8,10 +8,10 @@ use Rattle.mend_list.proofs.is_same.Statement.{statement}
 use Rattle.mend_list.proofs.is_same.Tie as tie
 
 abbrev Inv-loop : tie.InvT-loop
-Inv-loop old new at n k₀ k = sameNumbers (take (n - k) (drop (at + k) old)) (take (n - k) (drop (at + k) new)) ≡ sameNumbers (take n (drop at old)) (take n (drop at new))
+Inv-loop old new at to n k₀ k = sameNumbers (take (n - k) (drop (at + k) old)) (take (n - k) (drop (to + k) new)) ≡ sameNumbers (take n (drop at old)) (take n (drop to new))
 
 abbrev μ-loop : tie.MeasureT-loop
-μ-loop old new at n k₀ k = n - k
+μ-loop old new at to n k₀ k = n - k
 
 pub is-same-spec : {M : Type 1} → statement M
 is-same-spec =

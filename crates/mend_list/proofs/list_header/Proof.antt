@@ -6,8 +6,14 @@ use Rattle.mend_list.proofs.list_header.Tie as tie
 
 pub list-header-spec : {M : Type 1} → statement M
 list-header-spec =
-    tie.close (tie.spec
+    tie.close
+    (tie.spec
+    (λ c κs. search needs)  -- behind-count-requires
     (λ c κs. search needs)  -- list-piece-requires
+    (λ c. search needs)  -- sub-list-piece
     (λ c κs. search needs)  -- list-piece-requires-2
+    (λ c κs. search needs)  -- wide-requires
+    (λ c. search needs)  -- sub-list-piece-2
+    (λ c κs. search needs)  -- list-piece-requires-3
     (λ c. search needs)  -- same-length
     (λ c. search (head-listed, needs)))  -- returns

@@ -6,10 +6,10 @@ use Rattle.mend_list.proofs.list_piece.Tie as tie
 
 pub list-piece-spec : {M : Type 1} → statement M
 list-piece-spec =
-    tie.close (tie.spec
-    (λ c κs. search needs)  -- is-kept-requires
+    tie.close
+    (tie.spec
+    (λ c κs. search needs)  -- is-same-requires
     (λ c. search piece-ways)  -- returns
-    (λ c κs. search needs)  -- put-change-requires
-    (λ c. search needs)  -- add-t12
+    (λ c κs. search needs)  -- list-change-requires
     (λ c. search needs)  -- same-length
     (λ c. search piece-ways))  -- returns-2

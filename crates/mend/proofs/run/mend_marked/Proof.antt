@@ -2,7 +2,7 @@
 use mathlib.Core.Path.{sym}
 use native.Mathlib.Omega.{arith}
 use lib.Seq.{length-take-le}
-use Rattle.mend.proofs.Laws.{made-none, made-many, kept-fits, form-fits, made-whole}
+use Rattle.mend.proofs.Ways.{fits-first, kept-fits, made-none, made-many, made-whole}
 use borrow.Author.Needs.{needs}
 use Rattle.mend.proofs.run.mend_marked.Statement.{statement}
 use Rattle.mend.proofs.run.mend_marked.Tie as tie
@@ -11,10 +11,9 @@ pub mend-marked-spec : {M : Type 1} → statement M
 mend-marked-spec =
     tie.close
     (tie.spec
-    (λ c. search needs)  -- slice-reshare-prefix-mend-into
-    (λ c. sym (length-take-le _ _ (omega arith)))  -- slice-aggregate-mend-into
-    (λ c. search needs)  -- slice-aggregate-mend-into-2
-    (λ c κs. search needs)  -- mend-into-requires
+    (λ c. search needs)  -- slice-reshare-prefix-kept-of
+    (λ c. sym (length-take-le _ _ (omega arith)))  -- slice-aggregate-kept-of
+    (λ c κs. search (fits-first, needs))  -- kept-of-requires
     (λ c. search needs)  -- add-rows
     (λ c κs. search needs)  -- refused-requires
     (λ c. search needs)  -- same-length
@@ -22,11 +21,7 @@ mend-marked-spec =
     (λ c κs. search needs)  -- refused-requires-2
     (λ c. search needs)  -- same-length-2
     (λ c. search (made-many, needs))  -- returns-2
-    (λ c. search needs)  -- mul-size
-    (λ c. search needs)  -- add-size
-    (λ c. search needs)  -- array-share-prefix-form
-    (λ c. sym (length-take-le _ _ (omega arith)))  -- slice-aggregate-mend-to
-    (λ c κs. (search needs, search (kept-fits, needs), search (form-fits, needs), search needs))  -- mend-to-requires
+    (λ c κs. ((search needs, search needs, search (kept-fits, needs), search needs), search needs))  -- mend-to-requires
     (λ c. search needs)  -- same-length-3
     (λ c. search needs)  -- same-length-4
     (λ c. search (made-whole, needs)))  -- returns-3

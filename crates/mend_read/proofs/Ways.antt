@@ -1,0 +1,63 @@
+-- The ways through the reading of mended rows: those of the reader, on the bytes of the mended rows.
+use mathlib.Core.Path.{_≡_, refl, sym, ap, _∙_}
+use mathlib.Core.List.{List}
+use native.Mathlib.Omega.{arith}
+use Prim.Native.Nat.{ℕ, _+_, _-_, _/_, _≤_, _<_}
+use lib.ListN.{length, take, drop, replicate}
+use types.Run.{OneOf}
+use denote.Enum.Declared.{tagOf}
+use borrow.Author.Needs.{needs}
+use Rattle.rows.proofs.row.Row as rowType
+use Rattle.rows.specs.Taken.{rowTo}
+use Rattle.rows.specs.Apart.{rowOf}
+use Rattle.rows.proofs.Laws.{parts-row}
+use Rattle.rows.specs.declared.row.Row.{Row}
+use Rattle.rows.specs.declared.row.Row.the-variants as row
+use Rattle.parts.specs.Apart.{partsAt}
+use Rattle.parts.specs.declared.Parts.{Parts}
+use Rattle.limits.specs.declared.Limits.{Limits}
+use Rattle.limits.specs.Held.{rulesOf}
+use Rattle.read_row.specs.Machine.{inRoot}
+use Rattle.reader.specs.Machine.{rowsT}
+use Rattle.reader.specs.Readings.{readTo}
+use Rattle.reader.specs.declared.read.Reading.{Reading}
+use Rattle.reader.specs.declared.read.Reading.the-variants.{Broken, Deep}
+use Rattle.reader.proofs.Steps
+use Rattle.reader.proofs.Steps.{notOpen}
+use Rattle.mend_form.specs.Kept.{keptIn}
+use Rattle.mend_form.specs.Filled.{bodyT, rowIn}
+use Rattle.mend_form.specs.declared.Kept.{Kept}
+use Rattle.mend_form.proofs.Laws.{body-size}
+use Rattle.mend_form.proofs.Rows.{parts-body}
+
+-- the parts of the row that was made are those of the mended form's row
+pub part-is : (rows : List ℕ) (k : Kept) (i : ℕ) (this : List ℕ) (p : Parts) → k .rows ≤ length rows / 16 → this ≡ rowIn rows k i → p ≡ partsAt this 0 → p ≡ partsAt (bodyT rows k) i
+part-is rows k i this p there e g = g ∙ (ap (λ (l : List ℕ). partsAt l 0) e ∙ sym (parts-body rows k there i))
+
+-- ---- read_mended
+
+module _ (l : Limits) (rows : List ℕ) (k : Kept) (is : k ≡ keptIn rows) (there : k .rows ≤ length rows / 16) (first : List ℕ) (made : first ≡ rowIn rows k 0) (this : Row) (g : this ≡ rowTo (l .names) first 0) where
+  body-is : bodyT rows k ≡ bodyT rows (keptIn rows)
+  body-is = ap (bodyT rows) is
+
+  root-is : this ≡ rowTo (l .names) (bodyT rows k) 0
+  root-is =
+      g ∙ (parts-row (l .names) first 0 ∙ (ap (rowOf (l .names)) (ap (λ (r : List ℕ). partsAt r 0) made ∙ sym (parts-body rows k there 0)) ∙ sym (parts-row (l .names) (bodyT rows k) 0)))
+
+  pub mended-other : OneOf notOpen (tagOf rowType.the-type this) → Broken 0 ≡ readTo l (bodyT rows (keptIn rows))
+  mended-other h = Steps.read-other l (bodyT rows k) this root-is h ∙ ap (readTo l) body-is
+
+  module _ (kind name : ℕ) (o : this ≡ row.Open kind name) where
+    pub mended-kind : (kind ≡ 0 → ⊥) → Broken 0 ≡ readTo l (bodyT rows (keptIn rows))
+    mended-kind h = Steps.read-kind l (bodyT rows k) this root-is kind name o h ∙ ap (readTo l) body-is
+
+    module _ (h : kind ≡ 0) (n : ℕ) (q : n ≡ l .scopes) where
+      pub mended-none : n ≡ 0 → Deep 0 ≡ readTo l (bodyT rows (keptIn rows))
+      mended-none z = Steps.read-none l (bodyT rows k) this root-is kind name o h n q z ∙ ap (readTo l) body-is
+
+      pub mended-root : (n ≡ 0 → ⊥) → n ≤ 255 → (r : Reading) → r ≡ rowsT (rulesOf (l .rules)) (l .names) (bodyT rows k) 1 (k .rows + k .scopes - 1) inRoot (take (n - 0) (drop 0 (replicate 255 0))) → r ≡ readTo l (bodyT rows (keptIn rows))
+      mended-root z few r e =
+          let count : k .rows + k .scopes - 1 ≡ length (bodyT rows k) / 16 - 1 = omega (arith, body-size rows k) in
+          Steps.read-root l (bodyT rows k) this root-is kind name o h n q z few r (e ∙ ap (λ (m : ℕ). rowsT (rulesOf (l .rules)) (l .names) (bodyT rows k) 1 m inRoot (take (n - 0) (drop 0 (replicate 255 0)))) count) ∙ ap (readTo l) body-is
+
+pub ruleset mended-ways = (mended-other, mended-kind, mended-none, mended-root, needs)
