@@ -82,7 +82,10 @@ fn each_member_of_a_batch_is_what_it_is_alone() {
     let (prelude, first, second) = (decoders(), naming(3), naming(4));
     let got = batch(&prelude, &[&first, &second]).expect("the prelude is accepted");
     assert_eq!(Ok(got.prelude), resolve(&prelude));
-    assert_eq!(got.members, [member(&prelude, &first).map_err(|no| no.why), member(&prelude, &second).map_err(|no| no.why)]);
+    assert_eq!(
+        got.members,
+        [member(&prelude, &first).map_err(|no| no.why), member(&prelude, &second).map_err(|no| no.why)]
+    );
 }
 
 #[test]
