@@ -19,6 +19,8 @@ use files::parts::front;
 use files::read::Loaded;
 use files::read::load;
 use files::standard::error_noted;
+use known::version::is_second;
+use known::version::say_second;
 use libc::STDERR_FILENO;
 use libc::STDOUT_FILENO;
 use options::given::FRESH;
@@ -30,6 +32,7 @@ use options::given::PLACES;
 use options::given::has;
 use options::given::read_options;
 use options::names::load_names;
+use refusal::NOT_A_FORM;
 use refusal::Refusal;
 use words::refusals::say_meaning;
 use words::refusals::say_where;
@@ -64,6 +67,15 @@ fn say_trouble(path: &[u8], refusal: Refusal, is_left: bool) {
     say_where(STDERR_FILENO, refusal.number, refusal.place);
     say_why(refusal.number, is_left);
     say(STDERR_FILENO, b"\n");
+}
+
+// Forms of version 2 could be compared, but their rows would not be shown as they are.
+fn refuse_second(path: &[u8]) -> u8 {
+    say(STDERR_FILENO, path);
+    say(STDERR_FILENO, b": ");
+    say_where(STDERR_FILENO, NOT_A_FORM, 0);
+    say_second(STDERR_FILENO);
+    FAILED
 }
 
 // Whether the left is refused by itself: then it is the left that is refused.
@@ -130,6 +142,24 @@ fn compare_forms(
     }
 }
 
+// The same of forms of version 1.
+fn compare_first(
+    names: &[u8],
+    left: &[u8],
+    right: &[u8],
+    left_path: &[u8],
+    right_path: &[u8],
+    set: u8,
+) -> u8 {
+    if is_second(left) {
+        refuse_second(left_path)
+    } else if is_second(right) {
+        refuse_second(right_path)
+    } else {
+        compare_forms(names, left, right, left_path, right_path, set)
+    }
+}
+
 fn compare_paths(names: &[u8], left_path: &[u8], right_path: &[u8], set: u8) -> u8 {
     let mut left = io::large_buffer();
     let mut right = io::large_buffer();
@@ -137,7 +167,7 @@ fn compare_paths(names: &[u8], left_path: &[u8], right_path: &[u8], set: u8) -> 
         Loaded::Failed => FAILED,
         Loaded::Bytes(one) => match load(right_path, &mut right) {
             Loaded::Failed => FAILED,
-            Loaded::Bytes(other) => compare_forms(
+            Loaded::Bytes(other) => compare_first(
                 names,
                 part(&left, one),
                 part(&right, other),

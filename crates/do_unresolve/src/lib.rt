@@ -15,6 +15,8 @@ use files::read::Loaded;
 use files::read::load;
 use files::standard::error_noted;
 use files::write::save;
+use known::version::is_second;
+use known::version::say_second;
 use resolver::run::Answer;
 use unresolve::run::unresolve;
 use words::say;
@@ -34,12 +36,15 @@ fn save_input(form: &[u8], rows: u32, path: &[u8]) -> u8 {
 }
 
 // The buffers have room for every input, so that there is one refusal.
-fn refuse(path: &[u8]) -> u8 {
+fn refuse(form: &[u8], path: &[u8]) -> u8 {
     let before = error_noted();
-    say(
-        talk_beside(path),
-        b"refused 14: no input has these bytes as its output\n",
-    );
+    let talk = talk_beside(path);
+    say(talk, b"refused 14: ");
+    if is_second(form) {
+        say_second(talk);
+    } else {
+        say(talk, b"no input has these bytes as its output\n");
+    }
     said(NO, before)
 }
 
@@ -49,7 +54,7 @@ fn unresolve_form(form: &[u8], path: &[u8]) -> u8 {
     let mut again = io::large_buffer();
     match unresolve(form, &mut out, &mut restored, &mut again) {
         Answer::Accepted(rows) => save_input(part(&out, bytes_of(rows)), rows, path),
-        Answer::Refused(_, _) => refuse(path),
+        Answer::Refused(_, _) => refuse(form, path),
     }
 }
 

@@ -1,5 +1,7 @@
 // A file that the resolver refuses.
 use crate::text::is_text;
+use crate::version::is_second;
+use crate::version::say_second;
 use command::forms::talk_beside;
 use command::status::NO;
 use command::status::said;
@@ -39,11 +41,14 @@ pub fn what_is(number: u32, resolved: bool) -> Known
     }
 }
 
-// Of what is no form: whether it is empty or looks like text.
+// Of what is no form: whether it is empty, looks like text, or is a form of version 2.
 fn say_no_form(talk: i32, bytes: &[u8], refusal: Refusal) {
     if bytes.len() == 0 {
         say_where(talk, refusal.number, refusal.place);
         say(talk, b"this is no form: the file is empty\n");
+    } else if is_second(bytes) {
+        say_where(talk, refusal.number, refusal.place);
+        say_second(talk);
     } else if is_text(bytes) {
         say_where(talk, refusal.number, refusal.place);
         say(

@@ -1,3 +1,4 @@
 // What a file is that the resolver refuses, and the words for it.
 pub mod file;
 mod text;
+pub mod version;
