@@ -168,3 +168,25 @@ pub fn check(repetitions: usize) {
         println!("| {name} | {both} | {ours:.1} | {check:.1} | {:.2} |", check / ours);
     }
 }
+
+/// Prints what listing moved numbers costs beside resolving, in the same way.
+pub fn moved(repetitions: usize) {
+    println!("| shape | rows | wnt_resolve | wnt_moved | ratio |\n|---|---|---|---|---|");
+    for (name, make) in FORMS {
+        let form = encode(&make(FIRST.rows));
+        let rows = form.len() / ROW;
+        let mut out = vec![0; output_size(rows)];
+        let (mut moved, mut apart) = (vec![0; 16 * rows], vec![0; 12 * rows]);
+        let (mut resolving, mut listing) = (Duration::MAX, Duration::MAX);
+        for _ in 0..repetitions {
+            let start = Instant::now();
+            library::resolve(&form, &mut out);
+            resolving = resolving.min(start.elapsed());
+            let start = Instant::now();
+            library::moved(&form, &mut out, &mut moved, &mut apart);
+            listing = listing.min(start.elapsed());
+        }
+        let (ours, list) = (resolving.as_nanos() as f64 / 1e3, listing.as_nanos() as f64 / 1e3);
+        println!("| {name} | {rows} | {ours:.1} | {list:.1} | {:.2} |", list / ours);
+    }
+}

@@ -2,6 +2,8 @@
 
 use crate::chance::Chance;
 use crate::library;
+use crate::vectors::{FILLED, Function, Lent, Sample, Vector, said};
+use std::collections::BTreeSet;
 
 /// A row's parts: code, b, e, x, y, z.
 type Row = [u32; 6];
@@ -12,9 +14,6 @@ type Field = Vec<Row>;
 const OPEN: u32 = 7;
 const CLOSE: u32 = 8;
 const FIRST_FRESH: u32 = 1 << 31;
-
-/// What the buffers are filled with, to see which bytes were changed.
-const FILLED: u8 = 0xa5;
 
 /// A number below `n`.
 fn below(chance: &mut Chance, n: u32) -> u32 {
@@ -222,10 +221,14 @@ fn expected(left: &Form, right: &Form, choice: u32) -> Vec<u8> {
 fn damaged(form: &Form, chance: &mut Chance) -> (Vec<u8>, (u32, u32)) {
     let mut bytes = form.bytes();
     let rows = form.rows().len();
-    match below(chance, 4) {
+    match below(chance, 5) {
         0 => {
             let at = below(chance, 6) as usize;
             bytes[at] ^= 1 + below(chance, 255) as u8;
+            if bytes[3] == 2 {
+                // Version 2 has a header too.
+                bytes[3] = 3;
+            }
             (bytes, (1, 0))
         }
         1 => {
@@ -237,6 +240,7 @@ fn damaged(form: &Form, chance: &mut Chance) -> (Vec<u8>, (u32, u32)) {
             bytes[8 + 16 * row as usize] = 10;
             (bytes, (4, row))
         }
+        3 => (deep(form).bytes(), (5, 3 * MOST_SCOPES)),
         _ => {
             // The CLOSE of the root is cut off: the form ends early.
             bytes.truncate(bytes.len() - 16);
@@ -246,39 +250,93 @@ fn damaged(form: &Form, chance: &mut Chance) -> (Vec<u8>, (u32, u32)) {
     }
 }
 
+/// How many scopes may be open at once.
+const MOST_SCOPES: u32 = 32;
+
+/// The form with a first field that opens one scope too many, each inside the one before.
+fn deep(form: &Form) -> Form {
+    let mut form = form.clone();
+    let opened = [[1, 6, 0, 0, 0, 0], [2, 11, 0, 1, 0, 0], [OPEN, 0, 0, 1, 0, 0]];
+    let mut rows = opened.repeat(MOST_SCOPES as usize);
+    rows.extend(vec![[CLOSE, 0, 0, 0, 0, 0]; MOST_SCOPES as usize]);
+    form.fields.insert(0, rows);
+    form
+}
+
 // ---- the run
+
+/// Two builds as bytes, one call of the comparison for each choice, and how both come to be refused, if they do.
+struct Pair {
+    left: Form,
+    right: Form,
+    bytes: [Vec<u8>; 2],
+    refused: Option<(u32, u32)>,
+}
+
+/// One comparison: the choice, whose higher bits are by chance, and what the list then holds.
+struct Call {
+    choice: u32,
+    answer: u64,
+    content: Vec<u8>,
+    /// The kinds of its entries.
+    kinds: BTreeSet<u32>,
+}
+
+impl Pair {
+    fn draw(chance: &mut Chance) -> Pair {
+        let left = Form::by_chance(chance);
+        let right = if below(chance, 5) == 0 { Form::by_chance(chance) } else { left.changed(chance) };
+        let mut bytes = [left.bytes(), right.bytes()];
+        let mut refused = None;
+        if below(chance, 8) == 0 {
+            let (spoilt, why) = damaged(&right, chance);
+            (bytes[1], refused) = (spoilt, Some(why));
+        }
+        if below(chance, 8) == 0 {
+            let (spoilt, why) = damaged(&left, chance);
+            (bytes[0], refused) = (spoilt, Some(why));
+        }
+        Pair { left, right, bytes, refused }
+    }
+
+    /// What must come of it under a choice.
+    fn call(&self, choice: u32, chance: &mut Chance) -> Call {
+        let list = expected(&self.left, &self.right, choice);
+        let room = if below(chance, 4) == 0 { below(chance, list.len() as u32 + 1) as usize } else { list.len() + 40 };
+        let choice = choice + 4 * below(chance, 100);
+        let short = if room < list.len() { Some((3, 0)) } else { None };
+        let mut content = vec![FILLED; room];
+        if let Some((number, place)) = self.refused.or(short) {
+            let answer = (u64::from(number) << 32) + u64::from(place);
+            return Call { choice, answer, content, kinds: BTreeSet::new() };
+        }
+        content[..list.len()].copy_from_slice(&list);
+        Call { choice, answer: list.len() as u64, content, kinds: kinds(&list) }
+    }
+}
+
+/// The kinds of the entries of a list.
+fn kinds(mut list: &[u8]) -> BTreeSet<u32> {
+    let mut kinds = BTreeSet::new();
+    while !list.is_empty() {
+        let number = |at: usize| u32::from_le_bytes(list[4 * at..4 * at + 4].try_into().expect("four bytes"));
+        kinds.insert(number(0));
+        list = &list[20 + 16 * number(4) as usize..];
+    }
+    kinds
+}
 
 /// One pair under the four choices; what differs, in words.
 fn pair(chance: &mut Chance) -> Result<(), String> {
-    let left = Form::by_chance(chance);
-    let right = if below(chance, 5) == 0 { Form::by_chance(chance) } else { left.changed(chance) };
-    let (mut l_bytes, mut r_bytes) = (left.bytes(), right.bytes());
-    let mut refused = None;
-    if below(chance, 8) == 0 {
-        let (bytes, why) = damaged(&right, chance);
-        (r_bytes, refused) = (bytes, Some(why));
-    }
-    if below(chance, 8) == 0 {
-        let (bytes, why) = damaged(&left, chance);
-        (l_bytes, refused) = (bytes, Some(why));
-    }
+    let pair = Pair::draw(chance);
+    let [left, right] = &pair.bytes;
     for choice in 0..4 {
-        let list = expected(&left, &right, choice);
-        let room = if below(chance, 4) == 0 { below(chance, list.len() as u32 + 1) as usize } else { list.len() + 40 };
-        let mut held = vec![FILLED; room];
-        let answer = library::compare(&l_bytes, &r_bytes, choice + 4 * below(chance, 100), &mut held);
-        let short = if room < list.len() { Some((3, 0)) } else { None };
-        let (wanted, content) = match refused.or(short) {
-            Some((number, place)) => ((u64::from(number) << 32) + u64::from(place), vec![FILLED; room]),
-            None => {
-                let mut content = list.clone();
-                content.resize(room, FILLED);
-                (list.len() as u64, content)
-            }
-        };
+        let Call { choice, answer: wanted, content, .. } = pair.call(choice, chance);
+        let mut held = vec![FILLED; content.len()];
+        let answer = library::compare(left, right, choice, &mut held);
         if (answer, &held) != (wanted, &content) {
             return Err(format!(
-                "choice {choice}, answer {answer:#x}, wanted {wanted:#x}\nleft {l_bytes:?}\nright {r_bytes:?}"
+                "choice {choice}, answer {answer:#x}, wanted {wanted:#x}\nleft {left:?}\nright {right:?}"
             ));
         }
     }
@@ -296,4 +354,39 @@ pub fn run(pairs: u64, seed: u64) -> bool {
     }
     println!("{pairs} pairs of builds under four choices, seed {seed}: 0 differences");
     true
+}
+
+/// How many pairs are looked through for vectors, how long they may be, and how many there are of each kind.
+const LOOKED: u64 = 4_000;
+const SHORT: usize = 400;
+const EACH: usize = 4;
+
+/// Vectors of each refusal, and of each combination of entries under each choice.
+pub fn vectors(seed: u64, sample: &mut Sample) {
+    for number in 0..LOOKED {
+        let mut chance = Chance::new(seed.rotate_left(32) ^ number);
+        let pair = Pair::draw(&mut chance);
+        if pair.refused.is_none_or(|(number, _)| number != 5) && pair.bytes.iter().any(|bytes| bytes.len() > SHORT) {
+            continue;
+        }
+        for choice in 0..4 {
+            let call = pair.call(choice, &mut chance);
+            let vector = Vector {
+                function: Function::Compare,
+                number: call.choice,
+                answer: call.answer,
+                inputs: pair.bytes.to_vec(),
+                lent: vec![Lent::holding(&call.content)],
+            };
+            let whose = if pair.bytes[0] == pair.left.bytes() { "" } else { " of the left" };
+            let kinds: Vec<String> = match call.answer {
+                0 => vec![format!("choice {choice}, equal")],
+                answer if answer >> 32 == 0 => {
+                    call.kinds.iter().map(|kind| format!("choice {choice}, entry {kind}")).collect()
+                }
+                answer => vec![format!("{}{whose}", said(answer))],
+            };
+            sample.offer(kinds, EACH, &vector);
+        }
+    }
 }

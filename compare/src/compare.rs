@@ -3,7 +3,7 @@
 use crate::chance::Chance;
 use crate::oracle::Oracle;
 use crate::recognise::recognise;
-use crate::rows::{Answer, Version};
+use crate::rows::{self, Answer, Version};
 use crate::shapes::Shapes;
 
 /// A resolver as a C program calls it: `wnt_resolve`, or a copy of its answers with a planted change.
@@ -86,6 +86,14 @@ impl Comparison {
         match recognise(&self.shapes, &case.form, case.out_len) {
             Ok(rows) => self.oracle.answer(&rows, case.choice),
             Err((number, place)) => Answer::refused(number, place),
+        }
+    }
+
+    /// The bytes of what the crate makes of a form, if it accepts it.
+    pub fn resolved(&self, form: &[u8]) -> Option<Vec<u8>> {
+        match self.expected(&Case { form: form.to_vec(), out_len: usize::MAX, fill: 0, choice: 0 }) {
+            Answer::Accepted(rows) => Some(rows::encode(&rows)),
+            _ => None,
         }
     }
 

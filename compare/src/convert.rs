@@ -8,6 +8,7 @@ use crate::recognise::{Refusal, read_within, sized};
 use crate::rows::{FIRST, ROW, Row, SECOND, Version};
 use crate::shapes::Shapes;
 use crate::source;
+use crate::vectors::{FILLED, Function, Lent, Sample, Vector, said};
 use std::time::Instant;
 
 /// The rule sets by their number: the second has heap types in the core type space.
@@ -82,24 +83,30 @@ fn lengthen(rows: &mut Vec<Row>, chance: &mut Chance) {
     rows.splice(1..1, std::iter::repeat_n(field, more));
 }
 
-/// Whether the library's answer and output are those of the second converter.
-fn is_right(rules: &Rules, asked: &Asked) -> (Result<usize, Refusal>, bool) {
+/// The answer of the second converter, and what the output then holds.
+fn wanted(rules: &Rules, asked: &Asked) -> (Result<usize, Refusal>, Vec<u8>) {
     let Asked { form, version, out_len } = asked;
-    let mut out = vec![0xa5; *out_len];
-    let mut wanted = out.clone();
-    let expected = converted(rules, form, *version, *out_len);
-    let answer = match &expected {
-        Ok(bytes) => {
-            wanted[..bytes.len()].copy_from_slice(bytes);
-            Ok((bytes.len() - if *version == 1 { FIRST.header } else { SECOND.header }) / ROW)
-        }
-        Err(refusal) => Err(*refusal),
-    };
-    let packed = match answer {
+    let mut out = vec![FILLED; *out_len];
+    let answer = converted(rules, form, *version, *out_len).map(|bytes| {
+        out[..bytes.len()].copy_from_slice(&bytes);
+        (bytes.len() - if *version == 1 { FIRST.header } else { SECOND.header }) / ROW
+    });
+    (answer, out)
+}
+
+/// An answer as the library packs it.
+fn packed(answer: Result<usize, Refusal>) -> u64 {
+    match answer {
         Ok(rows) => rows as u64,
         Err((number, place)) => (u64::from(number) << 32) | u64::from(place),
-    };
-    let right = library::convert(form, *version, &mut out) == packed && out == wanted;
+    }
+}
+
+/// Whether the library's answer and output are those of the second converter.
+fn is_right(rules: &Rules, asked: &Asked) -> (Result<usize, Refusal>, bool) {
+    let (answer, wanted) = wanted(rules, asked);
+    let mut out = vec![FILLED; asked.out_len];
+    let right = library::convert(&asked.form, asked.version, &mut out) == packed(answer) && out == wanted;
     (answer, right)
 }
 
@@ -135,4 +142,36 @@ pub fn run(seed: u64, count: u64) -> bool {
     println!("converted {}, refused {}", done[0], refusals.join(", "));
     println!("{count} forms converted in {:.1} s, 0 differences", start.elapsed().as_secs_f64());
     true
+}
+
+/// How many random forms are looked through for vectors, how long one is and at the limits of version 1 may be, and how
+/// many there are of each kind.
+const LOOKED: u64 = 3_000;
+const SHORT: usize = 400;
+const LONG: usize = 16 + 16 * 1025;
+const EACH: usize = 5;
+
+/// Vectors of each answer from either version and rule set to either version and to none.
+pub fn vectors(seed: u64, sample: &mut Sample) {
+    let rules = Rules { shapes: [Shapes::new(), Shapes::newer()] };
+    let random = (0..LOOKED).map(|number| random(&rules, seed, number));
+    let small = |asked: &Asked| asked.form.len() <= LONG && asked.out_len <= LONG;
+    for asked in random.chain(fixed(&rules)).filter(small) {
+        let (answer, out) = wanted(&rules, &asked);
+        let limit = asked.form.len() > SHORT;
+        if limit && !matches!(answer, Err((2 | 5, _))) {
+            continue;
+        }
+        let from = header_of(&asked.form).map_or("none".to_string(), |(from, set)| format!("{}.{set}", from.number));
+        let to = if asked.version > 2 { 0 } else { asked.version };
+        let vector = Vector {
+            function: Function::Convert,
+            number: asked.version,
+            answer: packed(answer),
+            inputs: vec![asked.form],
+            lent: vec![Lent::holding(&out)],
+        };
+        let at = if limit { " at a limit" } else { "" };
+        sample.offer([format!("{from} to {to}, {}{at}", said(vector.answer))], if limit { 1 } else { EACH }, &vector);
+    }
 }

@@ -8,6 +8,7 @@ use crate::rows::{Answer, FIRST, SECOND, Version};
 use crate::run::{is_form, stated_cases_hold};
 use crate::source::{self, Stage};
 use crate::tally::Tally;
+use crate::vectors::{self, FILLED, Function, Sample, Vector, said};
 use std::time::Instant;
 
 /// The most elements that an area is longer than it must be.
@@ -251,4 +252,46 @@ pub fn run(comparison: &Comparison, seed: u64, count: u64) -> bool {
     );
     println!("{} forms compared in {:.1} s, 0 differences", tally.forms, start.elapsed().as_secs_f64());
     true
+}
+
+/// How many random forms are looked through for vectors, the most rows of one and of a form at the limits, and how many
+/// there are of each kind.
+const LOOKED: u64 = 40_000;
+const FEW_ROWS: usize = 16;
+const DEEP_ROWS: usize = 260;
+const EACH: usize = 2;
+
+/// Vectors of each answer in either version, and of areas that are shorter or longer than they must be.
+pub fn vectors(comparison: &Comparison, seed: u64, sample: &mut Sample) {
+    let forms = fixed(comparison).into_iter().chain((0..LOOKED).map(|number| random(comparison, seed, number)));
+    for (stage, lent) in forms {
+        let most = if stage == Stage::Limits { DEEP_ROWS } else { FEW_ROWS };
+        if lent.case.form.len() <= SECOND.form_size(most) {
+            lent.offer(&expected(comparison, &lent), sample);
+        }
+    }
+}
+
+impl Lent {
+    fn offer(&self, answer: &Answer, sample: &mut Sample) {
+        let Lent { case, lengths } = self;
+        let sizes = sizes(asked_for(&case.form));
+        let out = after(answer, &case.form, vec![FILLED; case.out_len]);
+        let areas = sizes.into_iter().zip(*lengths).map(|(size, length)| vectors::Lent::cleared(length, size));
+        let vector = Vector {
+            function: Function::ResolveWith,
+            number: 0,
+            answer: answer.packed(),
+            inputs: vec![case.form.clone()],
+            lent: [vectors::Lent::holding(&out)].into_iter().chain(areas).collect(),
+        };
+        let shorter = sizes.iter().zip(lengths).position(|(size, length)| length < size);
+        let longer = sizes.iter().zip(lengths).position(|(size, length)| length > size);
+        let kind = match (shorter, longer) {
+            (Some(area), _) => format!("area {area} is short"),
+            (_, Some(area)) => format!("area {area} is long"),
+            _ => said(answer.packed()),
+        };
+        sample.offer([format!("version {}, {kind}", asked_for(&case.form).number)], EACH, &vector);
+    }
 }

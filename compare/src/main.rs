@@ -57,7 +57,8 @@ compare --builds N [--seed S]                  compare N pairs of builds with a 
 compare --sensitivity [--seed S]               plant changes on both sides and show that each is caught
                                                (built with --features planted)
 compare --vectors N [--seed S] [--onto FILE] > OTHER
-                                               write fixed vectors, at most N of each refusal, behind those of FILE
+                                               write fixed vectors of all functions; of resolving those of FILE and behind
+                                               them new ones, at most N of each refusal in all
 compare --renaming N [--seed S]                resolve N random forms again with other names, and compare the two
 compare --bench FILE [--repetitions N] [--larger] [--least]
                                                time both sides; the picture goes to FILE as SVG. With --larger forms of
@@ -70,10 +71,9 @@ compare --mend N [--seed S]                    mend N spoilt forms, and compare 
 compare --meant N [--seed S]                   ask what the names of N members mean, and compare with a second reading
 compare --moved N [--seed S]                   list the moved numbers of N forms, and compare with a second reading
 compare --sheet N [--seed S]                   hold a binding sheet against N forms, and compare with a second reading
-compare --sheet-vectors N [--seed S] > OTHER   write fixed vectors of binding sheets, at most N of each outcome
 compare --check N [--seed S]                   check N claimed outputs, and compare with a checker written for it
 compare --check-bench N                        time checking beside resolving, the shortest of N calls each
-compare --check-vectors N [--seed S] > OTHER   write fixed vectors of claims, at most N of each kind and verdict
+compare --moved-bench N                        time listing moved numbers beside resolving, the shortest of N calls each
 compare --told N [--seed S]                    compare on N forms what refusals tell besides
 compare --unresolve N [--seed S]               send N outputs of random forms back to names and round, and damaged ones
 compare --members N [--seed S]                 resolve N members inside preludes, and compare on trees that hold both
@@ -121,10 +121,21 @@ fn write_vectors(arguments: &[String], count: u64) -> bool {
         eprintln!("the vectors to keep cannot be read");
         return false;
     };
-    let seed = number(arguments, "--seed").unwrap_or(1);
-    let (bytes, tally) = vectors::file(&comparison(), &kept, count as usize, seed);
-    eprintln!("{} new vectors\n{}", tally.forms, tally.summary());
-    std::io::stdout().write_all(&bytes).is_ok()
+    let (comparison, seed) = (comparison(), number(arguments, "--seed").unwrap_or(1));
+    let mut sample = vectors::Sample::default();
+    let tally = vectors::resolved::vectors(&comparison, &kept, count as usize, seed, &mut sample);
+    lent::vectors(&comparison, seed, &mut sample);
+    convert::vectors(seed, &mut sample);
+    moved::vectors(&comparison, seed, &mut sample);
+    sheet::vectors(&comparison, seed, &mut sample);
+    verify::vectors(&comparison, seed, &mut sample);
+    builds::vectors(seed, &mut sample);
+    names_back::vectors(&comparison, seed, &mut sample);
+    spoil::vectors(seed, &mut sample);
+    members::vectors(&comparison, seed, &mut sample);
+    meant::vectors(seed, &mut sample);
+    eprintln!("{} new vectors of resolving\n{}\n{}", tally.forms, tally.summary(), sample.summary());
+    std::io::stdout().write_all(sample.bytes()).is_ok()
 }
 
 fn bench(arguments: &[String], file: &str) -> bool {
@@ -177,18 +188,15 @@ fn main() -> ExitCode {
         spoil::run(number(&arguments, "--seed").unwrap_or(1), count)
     } else if let Some(pairs) = number(&arguments, "--meant") {
         meant::run(number(&arguments, "--seed").unwrap_or(1), pairs)
-    } else if let Some(each) = number(&arguments, "--check-vectors") {
-        let seed = number(&arguments, "--seed").unwrap_or(1);
-        std::io::stdout().write_all(&verify::vectors(&comparison(), seed, each as usize)).is_ok()
     } else if let Some(forms) = number(&arguments, "--moved") {
-        moved::run(number(&arguments, "--seed").unwrap_or(1), forms)
+        moved::run(&comparison(), number(&arguments, "--seed").unwrap_or(1), forms)
     } else if let Some(forms) = number(&arguments, "--sheet") {
-        sheet::run(number(&arguments, "--seed").unwrap_or(1), forms)
-    } else if let Some(most) = number(&arguments, "--sheet-vectors") {
-        let vectors = sheet::vectors(number(&arguments, "--seed").unwrap_or(1), most as usize);
-        std::io::stdout().write_all(&vectors).is_ok()
+        sheet::run(&comparison(), number(&arguments, "--seed").unwrap_or(1), forms)
     } else if let Some(repetitions) = number(&arguments, "--check-bench") {
         bench::check(repetitions as usize);
+        true
+    } else if let Some(repetitions) = number(&arguments, "--moved-bench") {
+        bench::moved(repetitions as usize);
         true
     } else if let Some(pairs) = number(&arguments, "--check") {
         verify::run(&comparison(), number(&arguments, "--seed").unwrap_or(1), pairs)

@@ -6,6 +6,7 @@ use crate::generate;
 use crate::library;
 use crate::rows::{self, CLOSE, DECL, EXPORT, FIELD, HEADER, OPEN, OUTER, REF, Row};
 use crate::shapes::Shapes;
+use crate::vectors::{Function, Sample, Vector};
 use std::collections::BTreeMap;
 
 /// A scope: its name, the scope around it, and what it declares, in order.
@@ -193,4 +194,42 @@ pub fn run(seed: u64, pairs: u64) -> bool {
     }
     println!("{pairs} pairs asked, 0 differences");
     true
+}
+
+/// How many pairs are looked through for vectors, the most rows of either form, and how many there are of each kind.
+const LOOKED: u64 = 3_000;
+const FEW_ROWS: usize = 20;
+const EACH: usize = 4;
+
+/// Vectors of what names of references and outer aliases mean, and of rows that have none.
+pub fn vectors(seed: u64, sample: &mut Sample) {
+    let shapes = Shapes::new();
+    for number in 0..LOOKED {
+        let mut chance = Chance::new(seed.rotate_left(32) ^ number);
+        let (prelude, member) = pair(&shapes, &mut chance);
+        if prelude.len() > FEW_ROWS || member.len() > FEW_ROWS {
+            continue;
+        }
+        let (scopes, outer) = (Scopes::of(&member), Scopes::of(&prelude));
+        let version = 1 + chance.next() % 2;
+        for row in (0..member.len() + 1).chain([65535, 65536, u32::MAX as usize]) {
+            let declared = meant(&member, &scopes, &outer.all[0], row);
+            let answer = declared.map_or(0, |(form, at)| (form << 32) + at as u64);
+            let kind = match member.get(row) {
+                Some(row) if row.code == REF => format!("REF, e {}", row.e),
+                Some(row) if row.code == OUTER => format!("OUTER, e {}", row.e),
+                Some(_) => "no reference".to_string(),
+                None => "no row".to_string(),
+            };
+            let vector = Vector {
+                function: Function::Meant,
+                number: row as u32,
+                answer,
+                inputs: vec![bytes(&prelude, version), bytes(&member, version)],
+                lent: Vec::new(),
+            };
+            let of = ["nothing", "of the member", "of the prelude"][(answer >> 32) as usize];
+            sample.offer([format!("version {version}, {kind}: {of}")], EACH, &vector);
+        }
+    }
 }

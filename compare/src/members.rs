@@ -2,9 +2,12 @@
 
 use crate::chance::Chance;
 use crate::compare::Comparison;
+use crate::damage::damage;
 use crate::library;
 use crate::meant::pair;
-use crate::rows::{self, Answer, CLOSE, DECL, FIELD, HEADER, OPEN, OUTER, REF, Row, output_size};
+use crate::recognise::{recognise, recognise_as};
+use crate::rows::{self, Answer, CLOSE, DECL, FIELD, FIRST, HEADER, OPEN, OUTER, REF, Row, output_size};
+use crate::vectors::{FILLED, Function, Lent, Sample, Vector, said};
 use std::collections::BTreeMap;
 
 /// The bytes of the working area.
@@ -169,4 +172,78 @@ pub fn run(comparison: &Comparison, seed: u64, pairs: u64) -> bool {
     }
     println!("{pairs} members resolved, 0 differences");
     true
+}
+
+/// How many pairs are looked through for vectors, the most rows of a prelude and of a member, and how many there are of
+/// each kind.
+const LOOKED: u64 = 30_000;
+const FEW_ROWS: usize = 30;
+const EACH: usize = 4;
+
+/// A prelude and a member, damaged now and then, and the lengths of the output and the area.
+struct Asked {
+    prelude: Vec<u8>,
+    member: Vec<u8>,
+    room: usize,
+    work: usize,
+}
+
+impl Asked {
+    fn draw(comparison: &Comparison, chance: &mut Chance) -> Option<Asked> {
+        let (prelude, mut member) = pair(&comparison.shapes, chance);
+        if has_component(&prelude, member[0].x) || has_component(&member, member[0].x) {
+            member[0].x = 0;
+        }
+        if prelude.len() > FEW_ROWS || member.len() > FEW_ROWS {
+            return None;
+        }
+        let enough = output_size(member.len());
+        let room = if chance.percent(5) { chance.below(enough) } else { enough + chance.below(9) };
+        let work = if chance.percent(5) { chance.below(WORK) } else { WORK + chance.below(9) };
+        let spoilt = |rows: &[Row], chance: &mut Chance| {
+            if chance.percent(10) { damage(rows, chance) } else { rows::encode(rows) }
+        };
+        Some(Asked { prelude: spoilt(&prelude, chance), member: spoilt(&member, chance), room, work })
+    }
+
+    /// What is expected: by the recogniser for refusals 1 to 5 of either form, else by the crate.
+    fn expected(&self, comparison: &Comparison) -> Answer {
+        let area = if self.work < WORK { 0 } else { WORK };
+        let prelude = match recognise(&comparison.shapes, &self.prelude, area) {
+            Ok(prelude) => prelude,
+            Err((number, place)) => return Answer::refused(OF_PRELUDE + number, place),
+        };
+        if let Answer::Refused { number, place } = comparison.oracle.answer(&prelude, 0) {
+            return Answer::refused(OF_PRELUDE + number, place);
+        }
+        match recognise_as(FIRST.one_scope_less(), &comparison.shapes, &self.member, self.room) {
+            Ok(member) => expected(comparison, &prelude, &member, 0),
+            Err((number, place)) => Answer::refused(number, place),
+        }
+    }
+}
+
+/// Vectors of each answer.
+pub fn vectors(comparison: &Comparison, seed: u64, sample: &mut Sample) {
+    for number in 0..LOOKED {
+        let Some(asked) = Asked::draw(comparison, &mut Chance::new(seed.rotate_left(32) ^ number)) else { continue };
+        let answer = asked.expected(comparison);
+        if answer == Answer::Panicked {
+            continue;
+        }
+        let Asked { prelude, member, room, work } = asked;
+        let out = output(&answer, &rows::decode(&member), &vec![FILLED; room]);
+        let aliases = match &answer {
+            Answer::Accepted(rows) => rows.iter().filter(|row| row.code == DECL && row.x >= FRESH).count().min(2),
+            _ => 0,
+        };
+        let vector = Vector {
+            function: Function::Member,
+            number: 0,
+            answer: answer.packed(),
+            inputs: vec![prelude, member],
+            lent: vec![Lent::holding(&out), Lent::cleared(work, WORK)],
+        };
+        sample.offer([format!("{}, {aliases} aliases", said(vector.answer))], EACH, &vector);
+    }
 }

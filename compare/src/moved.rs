@@ -1,13 +1,14 @@
 //! Written numbers that insertions have moved: `wnt_moved` beside a reading of the rows of the input and of the output.
 
+use crate::cases;
 use crate::chance::Chance;
+use crate::compare::{Case, Comparison, after};
+use crate::damage::damage;
 use crate::generate;
 use crate::library;
-use crate::rows::{self, CLOSE, DECL, FIELD, FIRST_INSERTED, OPEN, OUTER, PATH, REF, Row};
-use crate::shapes::Shapes;
-
-/// What the buffers are filled with, to see which bytes were changed.
-const FILLED: u8 = 0xa5;
+use crate::rows::{self, Answer, CLOSE, DECL, FIELD, FIRST_INSERTED, OPEN, OUTER, PATH, REF, Row};
+use crate::vectors::{FILLED, Function, Lent, Sample, Vector, said};
+use std::collections::BTreeSet;
 
 /// A scope: its name, the scope around it, and the DECL rows of each space in order.
 pub struct Scope {
@@ -80,25 +81,49 @@ fn written(scopes: &Scopes, row: &Row, here: usize) -> Option<(usize, u8, u32)> 
     }
 }
 
-/// The entries of both lists, by the rows of the input and of the output.
-fn lists(form: &[Row], out: &[Row]) -> (Vec<[u32; 4]>, Vec<[u32; 3]>) {
-    let (before, after) = (Scopes::of(form), Scopes::of(out));
-    let (kept, kept_out) = (places(form), places(out));
-    let place = |kept: &[usize], row: usize| kept.iter().position(|k| *k == row);
-    let (mut moved, mut apart) = (Vec::new(), Vec::new());
-    for (at, row) in form.iter().enumerate() {
-        let Some((scope, space, number)) = written(&before, row, before.of_row[at]) else { continue };
-        let meant = before.all[scope].declares[space as usize].get(number as usize);
-        let Some(meant) = meant else {
-            apart.push([row.z, u32::from(space), number]);
-            continue;
-        };
-        let gets = after.all[scope].declares[space as usize][number as usize];
-        if place(&kept, *meant) != place(&kept_out, gets) {
-            moved.push([row.z, u32::from(space), *meant as u32, gets as u32]);
+/// The entries of both lists, and of which kinds they are.
+#[derive(Default)]
+struct Lists {
+    moved: Vec<[u32; 4]>,
+    apart: Vec<[u32; 3]>,
+    kinds: BTreeSet<String>,
+}
+
+impl Lists {
+    /// Those of an input and its output, by their rows.
+    fn of(form: &[Row], out: &[Row]) -> Lists {
+        let (before, after) = (Scopes::of(form), Scopes::of(out));
+        let (kept, kept_out) = (places(form), places(out));
+        let place = |kept: &[usize], row: usize| kept.iter().position(|k| *k == row);
+        let mut lists = Lists::default();
+        for (at, row) in form.iter().enumerate() {
+            let Some((scope, space, number)) = written(&before, row, before.of_row[at]) else { continue };
+            let meant = before.all[scope].declares[space as usize].get(number as usize);
+            let Some(meant) = meant else {
+                lists.apart.push([row.z, u32::from(space), number]);
+                lists.kinds.insert(format!("{} apart", operand(row)));
+                continue;
+            };
+            let gets = after.all[scope].declares[space as usize][number as usize];
+            if place(&kept, *meant) != place(&kept_out, gets) {
+                lists.moved.push([row.z, u32::from(space), *meant as u32, gets as u32]);
+                lists.kinds.insert(format!("{} moved", operand(row)));
+            } else {
+                lists.kinds.insert(format!("{} kept", operand(row)));
+            }
         }
+        lists
     }
-    (moved, apart)
+}
+
+/// What a written number is of.
+fn operand(row: &Row) -> &'static str {
+    match (row.code, row.e, row.y) {
+        (OUTER, 0, _) => "outer",
+        (OUTER, ..) => "outer of a name",
+        (_, _, 0) => "reference",
+        _ => "path",
+    }
 }
 
 /// The form with some of its names written as numbers, in and out of range.
@@ -128,6 +153,50 @@ fn content<const N: usize>(entries: &[[u32; N]], share: usize, length: usize) ->
     bytes
 }
 
+/// A form and the lengths of the three buffers.
+struct Asked {
+    case: Case,
+    moved: usize,
+    apart: usize,
+}
+
+/// What must come of it: the answer, the three buffers, and the lists where it is accepted.
+struct Wanted {
+    answer: u64,
+    buffers: [Vec<u8>; 3],
+    lists: Option<Lists>,
+}
+
+impl Asked {
+    fn draw(comparison: &Comparison, chance: &mut Chance) -> Asked {
+        let form = numbered(&generate::form(&comparison.shapes, chance.next()), chance);
+        let longer =
+            |chance: &mut Chance, share: usize| share + chance.below(20) - usize::from(chance.percent(3) && share > 0);
+        let (moved, apart) = (longer(chance, 16 * form.len()), longer(chance, 12 * form.len()));
+        let bytes = if chance.percent(3) { damage(&form, chance) } else { rows::encode(&form) };
+        Asked { case: Case::new(bytes, chance), moved, apart }
+    }
+
+    /// By the second reading, on what the crate makes of the form.
+    fn wanted(&self, comparison: &Comparison) -> Wanted {
+        let Asked { case, moved, apart } = self;
+        let count = rows::FIRST.count(&case.form);
+        let short = *moved < 16 * count || *apart < 12 * count;
+        let answer = comparison.expected(&Case { out_len: if short { 0 } else { case.out_len }, ..case.clone() });
+        let out = after(&answer, &case.form, vec![FILLED; case.out_len]);
+        let unchanged = [vec![FILLED; *moved], vec![FILLED; *apart]];
+        let Answer::Accepted(resolved) = &answer else {
+            let [moved, apart] = unchanged;
+            return Wanted { answer: answer.packed(), buffers: [out, moved, apart], lists: None };
+        };
+        let lists = Lists::of(&rows::decode(&case.form), resolved);
+        let first = content(&lists.moved, 16 * count, *moved);
+        let second = content(&lists.apart, 12 * count, *apart);
+        let answer = (lists.apart.len() as u64) * 65536 + lists.moved.len() as u64;
+        Wanted { answer, buffers: [out, first, second], lists: Some(lists) }
+    }
+}
+
 /// How often something came up.
 #[derive(Default)]
 struct Counts {
@@ -137,57 +206,85 @@ struct Counts {
     apart: u64,
 }
 
+impl Counts {
+    fn count(&mut self, wanted: &Wanted) {
+        self.short += u64::from(wanted.answer == 3 << 32);
+        if let Some(lists) = &wanted.lists {
+            self.accepted += 1;
+            self.moved += lists.moved.len() as u64;
+            self.apart += lists.apart.len() as u64;
+        }
+    }
+}
+
 /// One form: what the library answers and writes, held to the second reading. What differs, in words.
-fn one(shapes: &Shapes, chance: &mut Chance, counts: &mut Counts) -> Result<(), String> {
-    let form = numbered(&generate::form(shapes, chance.next()), chance);
-    let bytes = rows::encode(&form);
-    let mut out = vec![FILLED; rows::output_size(form.len()) + chance.below(40)];
-    let mut resolved = out.clone();
-    let answer = library::resolve(&bytes, &mut resolved);
-    let longer =
-        |chance: &mut Chance, share: usize| share + chance.below(20) - usize::from(chance.percent(3) && share > 0);
-    let (mut moved, mut apart) =
-        (vec![FILLED; longer(chance, 16 * form.len())], vec![FILLED; longer(chance, 12 * form.len())]);
-    let got = library::moved(&bytes, &mut out, &mut moved, &mut apart);
-    let short = moved.len() < 16 * form.len() || apart.len() < 12 * form.len();
-    let asked = answer >> 32 != 1 && answer >> 32 != 2;
-    let (wanted, wanted_out, lists) = if short && asked {
-        counts.short += 1;
-        (3 << 32, vec![FILLED; out.len()], None)
-    } else if answer >> 32 == 0 {
-        counts.accepted += 1;
-        let lists = lists(&form, &rows::decode(&resolved[..rows::HEADER + rows::ROW * answer as usize]));
-        counts.moved += lists.0.len() as u64;
-        counts.apart += lists.1.len() as u64;
-        ((lists.1.len() as u64) * 65536 + lists.0.len() as u64, resolved, Some(lists))
-    } else {
-        (answer, resolved, None)
-    };
-    let (first, second) = match lists {
-        Some((m, a)) => (content(&m, 16 * form.len(), moved.len()), content(&a, 12 * form.len(), apart.len())),
-        None => (vec![FILLED; moved.len()], vec![FILLED; apart.len()]),
-    };
-    if (got, &out, &moved, &apart) == (wanted, &wanted_out, &first, &second) {
+fn one(comparison: &Comparison, chance: &mut Chance, counts: &mut Counts) -> Result<(), String> {
+    let asked = Asked::draw(comparison, chance);
+    let wanted = asked.wanted(comparison);
+    counts.count(&wanted);
+    let form = &asked.case.form;
+    let mut buffers = wanted.buffers.each_ref().map(|buffer| vec![FILLED; buffer.len()]);
+    let [out, moved, apart] = &mut buffers;
+    let got = library::moved(form, out, moved, apart);
+    if (got, &buffers) == (wanted.answer, &wanted.buffers) {
         return Ok(());
     }
-    let rows: Vec<String> = form.iter().map(|row| format!("  {row}")).collect();
-    Err(format!("answer {got:#x}, wanted {wanted:#x}\n{}", rows.join("\n")))
+    let rows: Vec<String> = rows::decode(form).iter().map(|row| format!("  {row}")).collect();
+    Err(format!("answer {got:#x}, wanted {:#x}\n{}", wanted.answer, rows.join("\n")))
 }
 
 /// Compares on so many forms; the first that differs is printed and ends the run.
-pub fn run(seed: u64, forms: u64) -> bool {
-    let shapes = Shapes::new();
+pub fn run(comparison: &Comparison, seed: u64, forms: u64) -> bool {
     let mut counts = Counts::default();
     for number in 0..forms {
         let mut chance = Chance::new(seed.rotate_left(32) ^ number);
-        if let Err(words) = one(&shapes, &mut chance, &mut counts) {
+        if let Err(words) = one(comparison, &mut chance, &mut counts) {
             println!("form {number} of seed {seed} differs: {words}");
             return false;
         }
     }
     let Counts { accepted, short, moved, apart } = counts;
     println!(
-        "{forms} forms, {accepted} accepted, {short} with too short a list; {moved} numbers moved, {apart} without an item: 0 differences"
+        "{forms} forms, {accepted} accepted, {short} without room; {moved} numbers moved, {apart} without an item: 0 differences"
     );
     true
+}
+
+/// How many forms are looked through for vectors, how many rows one has at most and at the limits, and how many there are
+/// of each kind.
+const LOOKED: u64 = 60_000;
+const FEW_ROWS: usize = 24;
+const DEEP_ROWS: usize = 140;
+const EACH: usize = 5;
+
+/// Vectors of stated forms and of limits, of each refusal, and of each kind of number that is listed or is not.
+pub fn vectors(comparison: &Comparison, seed: u64, sample: &mut Sample) {
+    let stated = cases::stated().into_iter().map(|stated| stated.rows);
+    let deep = cases::limits(rows::FIRST).into_iter().map(|case| rows::decode(&case.form));
+    for form in stated.chain(deep).filter(|form| form.len() <= DEEP_ROWS) {
+        let case = Case::exact(rows::encode(&form), &mut Chance::new(seed));
+        Asked { case, moved: 16 * form.len(), apart: 12 * form.len() }.offer(comparison, sample);
+    }
+    for number in 0..LOOKED {
+        let asked = Asked::draw(comparison, &mut Chance::new(seed.rotate_left(32) ^ number));
+        let form = &asked.case.form;
+        if form.len() <= rows::FIRST.form_size(FEW_ROWS) && rows::Version::of(form) == rows::FIRST {
+            asked.offer(comparison, sample);
+        }
+    }
+}
+
+impl Asked {
+    fn offer(self, comparison: &Comparison, sample: &mut Sample) {
+        let Wanted { answer, buffers, lists } = self.wanted(comparison);
+        let vector = Vector {
+            function: Function::Moved,
+            number: 0,
+            answer,
+            inputs: vec![self.case.form],
+            lent: buffers.iter().map(|buffer| Lent::holding(buffer)).collect(),
+        };
+        let kinds = lists.map_or_else(|| [said(answer)].into(), |lists| lists.kinds);
+        sample.offer(kinds, EACH, &vector);
+    }
 }

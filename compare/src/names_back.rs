@@ -4,8 +4,10 @@ use crate::chance::Chance;
 use crate::compare::Comparison;
 use crate::damage::damage;
 use crate::library;
+use crate::moved::places;
 use crate::rows::{self, DECL, EXPORT, FIELD, FIRST_INSERTED, HEADER, OPEN, OUTER, PATH, REF, ROW, Row};
 use crate::source;
+use crate::vectors::{FILLED, Function, Lent, Sample, Vector, said};
 
 /// The sizes of the working areas, and how much more is lent.
 const RESTORED: usize = 16_376;
@@ -18,7 +20,10 @@ const NO_INPUT: u64 = 14 << 32;
 /// Inputs that are tried at most for one damaged output.
 const TRIED: usize = 4_000;
 
-/// The resolved form of an input, if it is accepted.
+/// What gives the resolved form of an input, if it is accepted.
+type Resolver<'r> = &'r dyn Fn(&[u8]) -> Option<Vec<u8>>;
+
+/// The resolved form by the library.
 fn resolved(form: &[u8]) -> Option<Vec<u8>> {
     let mut out = vec![0; rows::output_size(rows::MOST_ROWS)];
     let answer = library::resolve(form, &mut out);
@@ -151,7 +156,7 @@ fn versions(field: &[Row], waiting: &[Vec<Row>], names: &[u32]) -> Vec<Vec<Row>>
 
 /// Whether some input has these rows as its output; none if there are too many to try. Inserted fields are those with a fresh
 /// name. A written number can stand for every name that is found in its own scope, so that no more names are tried.
-fn has_input(claim: &[u8]) -> Option<bool> {
+fn has_input(claim: &[u8], resolved: Resolver) -> Option<bool> {
     let all = rows::decode(claim);
     let mut names: Vec<u32> = all.iter().filter(|row| row.code == DECL).map(|row| row.x).collect();
     names.retain(|name| (1..FIRST_INSERTED).contains(name));
@@ -219,7 +224,7 @@ fn try_damaged(claim: &[u8], counts: &mut Counts) -> bool {
     let Some((answer, out)) = unresolved(claim, RESTORED) else { return false };
     let refused = answer == NO_INPUT && out.iter().all(|byte| *byte == 0xa5);
     if answer == NO_INPUT && rows::decode(claim).len() <= 24 {
-        let Some(found) = has_input(claim) else { return refused };
+        let Some(found) = has_input(claim, &resolved) else { return refused };
         counts.searched += 1;
         return refused && !found;
     }
@@ -259,4 +264,130 @@ pub fn run(comparison: &Comparison, seed: u64, outputs: u64) -> bool {
          refused {searched} were searched for an input: 0 differences"
     );
     true
+}
+
+// ---- vectors
+
+/// How many random forms are looked through for vectors, the most rows of one, and how many there are of each kind.
+const LOOKED: u64 = 6_000;
+const FEW_ROWS: usize = 20;
+const EACH: usize = 10;
+
+/// The form with a place of its own for each row that has one, so that one input alone has its output.
+fn placed(input: &[Row]) -> Vec<Row> {
+    let mut all = input.to_vec();
+    for (at, row) in all.iter_mut().enumerate() {
+        if matches!(row.code, FIELD | DECL | REF | OUTER) {
+            row.z = at as u32;
+        }
+    }
+    all
+}
+
+/// The input that is given back for an output, by the input that it was made of, in which no two rows have one place: its own
+/// rows with the output's numbers, but for a reference that an inserted field with its place served. Where that is an outer
+/// alias the name stays, and a path begins at the number of the first alias's instance.
+fn given_back(input: &[Row], output: &[Row]) -> Vec<Row> {
+    let own = places(output);
+    let inserted: Vec<&Row> = (0..output.len()).filter(|at| !own.contains(at)).map(|at| &output[at]).collect();
+    let mut all = Vec::new();
+    for (before, now) in places(input).into_iter().zip(own) {
+        let row = input[before];
+        let served: Vec<&&Row> = inserted.iter().filter(|one| row.code == REF && one.z == row.z).collect();
+        if served.is_empty() {
+            all.push(output[now]);
+        } else if row.y == 0 {
+            all.push(row);
+        } else {
+            let base = served.iter().find(|one| one.code == REF).expect("a path has an alias");
+            all.push(Row { e: 0, x: base.x, ..row });
+            all.extend(&input[before + 1..before + 1 + row.y as usize]);
+        }
+    }
+    all
+}
+
+/// A claim with the lengths of the output and the areas, and the input that is given back where these have room.
+#[derive(Clone)]
+struct Asked {
+    claim: Vec<u8>,
+    room: usize,
+    areas: [usize; 2],
+    input: Option<Vec<u8>>,
+}
+
+impl Asked {
+    /// The answer, and the bytes that are written.
+    fn wanted(&self) -> (u64, &[u8]) {
+        let [restored, again] = self.areas;
+        match &self.input {
+            _ if restored < RESTORED || again < AGAIN => (3 << 32, &[]),
+            None => (NO_INPUT, &[]),
+            Some(input) if self.room < input.len() => (3 << 32, &[]),
+            Some(input) => (rows::decode(input).len() as u64, input),
+        }
+    }
+
+    fn offer(&self, shows: &[&str], sample: &mut Sample) {
+        let (answer, written) = self.wanted();
+        let mut out = vec![FILLED; self.room];
+        out[..written.len()].copy_from_slice(written);
+        let [restored, again] = self.areas;
+        let vector = Vector {
+            function: Function::Unresolve,
+            number: 0,
+            answer,
+            inputs: vec![self.claim.clone()],
+            lent: vec![Lent::holding(&out), Lent::cleared(restored, RESTORED), Lent::cleared(again, AGAIN)],
+        };
+        sample.offer(shows.iter().map(|shown| format!("{}, {shown}", said(answer))), EACH, &vector);
+    }
+}
+
+/// What the way back from an output of this input shows.
+fn shown(input: &[Row], back: &[Row]) -> Vec<&'static str> {
+    let has = |found: fn(&Row) -> bool| back.iter().any(found);
+    let mut all = Vec::new();
+    if has(|row| row.code == REF && row.e == 1) {
+        all.push("a name further out");
+    }
+    if has(|row| row.code == REF && row.y == 1) {
+        all.push("a path");
+    }
+    if has(|row| row.code == REF && row.y > 1) {
+        all.push("a longer path");
+    }
+    if input == back {
+        all.push("the same input");
+    }
+    all.push("an input");
+    all
+}
+
+/// Vectors of inputs that are given back, of damaged outputs that none has, and of too little room.
+pub fn vectors(comparison: &Comparison, seed: u64, sample: &mut Sample) {
+    let exact = [RESTORED, AGAIN];
+    for number in 0..LOOKED {
+        let mut chance = Chance::new(seed.rotate_left(17) ^ number);
+        let input = placed(&rows::decode(&source::random(&comparison.shapes, seed, number).1.form));
+        if input.len() > FEW_ROWS {
+            continue;
+        }
+        let Some(claim) = comparison.resolved(&rows::encode(&input)) else { continue };
+        let back = given_back(&input, &rows::decode(&claim));
+        let bytes = rows::encode(&back);
+        let spoilt = damage(&rows::decode(&claim), &mut chance);
+        let asked = Asked { claim, room: bytes.len() + chance.below(9), areas: exact, input: Some(bytes.clone()) };
+        asked.offer(&shown(&input, &back), sample);
+        let none = Asked { claim: spoilt, input: None, ..asked };
+        if has_input(&none.claim, &|form| comparison.resolved(form)) == Some(false) {
+            none.offer(&["no input"], sample);
+        }
+        let asked = Asked { claim: comparison.resolved(&bytes).expect("it goes round"), input: Some(bytes), ..none };
+        Asked { room: asked.room.saturating_sub(10), ..asked.clone() }.offer(&["a short output"], sample);
+        let less = 1 + chance.below(RESTORED);
+        Asked { areas: [RESTORED - less, AGAIN], ..asked.clone() }.offer(&["a short first area"], sample);
+        Asked { areas: [RESTORED + 3, AGAIN - less], ..asked.clone() }.offer(&["a short second area"], sample);
+        Asked { areas: [RESTORED + 3, AGAIN + 5], ..asked }.offer(&["longer areas"], sample);
+    }
 }

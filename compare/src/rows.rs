@@ -61,6 +61,11 @@ impl Version {
         count.iter().rev().fold(0, |sum, byte| 256 * sum + usize::from(*byte))
     }
 
+    /// The same version for a form that lies inside another: that one's root is open around it.
+    pub fn one_scope_less(self) -> Version {
+        Version { scopes: self.scopes - 1, ..self }
+    }
+
     /// The bytes of a form of this many rows.
     pub fn form_size(self, rows: usize) -> usize {
         self.header + ROW * rows

@@ -1,15 +1,12 @@
 //! Binding sheets: `wnt_sheet` beside a reading of the rows of the input and of the output.
 
 use crate::chance::Chance;
+use crate::compare::Comparison;
 use crate::generate;
 use crate::library;
 use crate::moved::{Scopes, numbered, places};
 use crate::rows::{self, DECL, FIELD, FIRST_INSERTED, OUTER, REF, Row};
-use crate::shapes::Shapes;
-use std::collections::{BTreeMap, BTreeSet};
-
-/// What the buffers are filled with, to see which bytes were changed.
-const FILLED: u8 = 0xa5;
+use crate::vectors::{FILLED, Function, Lent, Sample, Vector, said};
 
 /// The bytes of the working area.
 const AREA: usize = 65480;
@@ -122,7 +119,7 @@ fn claimed(form: &[u8], resolved: &[u8], chance: &mut Chance) -> Vec<u8> {
 /// A form with a sheet, and what is given for its resolved form.
 struct Case {
     form: Vec<Row>,
-    /// The bytes that the resolver writes for it, if it is accepted.
+    /// The bytes of what the crate makes of it, if it accepts it.
     resolved: Option<Vec<u8>>,
     claim: Vec<u8>,
     slots: Vec<[u32; 3]>,
@@ -134,15 +131,13 @@ struct Case {
 }
 
 impl Case {
-    fn draw(shapes: &Shapes, chance: &mut Chance) -> Case {
-        let mut form = placed(&generate::form(shapes, chance.next()), chance);
+    fn draw(comparison: &Comparison, chance: &mut Chance) -> Case {
+        let mut form = placed(&generate::form(&comparison.shapes, chance.next()), chance);
         if chance.percent(50) {
             form = numbered(&form, chance);
         }
         let bytes = rows::encode(&form);
-        let mut area = vec![FILLED; rows::output_size(form.len())];
-        let answer = library::resolve(&bytes, &mut area);
-        let resolved = (answer >> 32 == 0).then(|| area[..rows::HEADER + rows::ROW * answer as usize].to_vec());
+        let resolved = comparison.resolved(&bytes);
         let out = resolved.as_deref().map(rows::decode);
         let (count, more) = size(chance);
         let nameless = chance.percent(5);
@@ -175,6 +170,32 @@ impl Case {
         let all: Vec<[u32; 2]> =
             self.slots.iter().map(|[_, place, name]| answer(&self.form, &out, *place, *name)).collect();
         (all.iter().filter(|[kind, _]| *kind != 0).count() as u64, all)
+    }
+}
+
+impl Case {
+    /// What a vector of it shows: of a refusal the first reason, else how the slots are answered.
+    fn shows(&self, answer: u64, written: &[[u32; 2]]) -> Vec<String> {
+        let reason = if self.sheet.len() % 12 != 0 {
+            "part of a slot"
+        } else if self.slots.len() > 200 {
+            "too many slots"
+        } else if self.slots.iter().any(|[_, _, name]| *name == 0) {
+            "a slot without a name"
+        } else if self.work < AREA {
+            "too small an area"
+        } else if self.resolved.is_none() {
+            "a form that is refused"
+        } else if self.resolved.as_ref() != Some(&self.claim) {
+            "another resolved form"
+        } else {
+            "no room for the answers"
+        };
+        match (answer >> 32, answer) {
+            (1.., _) => vec![format!("{}, {reason}", said(answer))],
+            (_, 0) => vec![format!("passes, {} slots", self.slots.len().min(2))],
+            _ => written.iter().map(|[kind, row]| format!("answer {kind}, row {}", row.min(&1))).collect(),
+        }
     }
 }
 
@@ -212,8 +233,8 @@ impl Counts {
 }
 
 /// One form with one sheet: what the library answers and writes, held to the second reading. What differs, in words.
-fn one(shapes: &Shapes, chance: &mut Chance, counts: &mut Counts) -> Result<(), String> {
-    let case = Case::draw(shapes, chance);
+fn one(comparison: &Comparison, chance: &mut Chance, counts: &mut Counts) -> Result<(), String> {
+    let case = Case::draw(comparison, chance);
     let (mut answers, mut work) = (vec![FILLED; case.room], vec![FILLED; case.work]);
     let got = library::sheet(&rows::encode(&case.form), &case.claim, &case.sheet, &mut answers, &mut work);
     let (wanted, written) = case.wanted();
@@ -229,12 +250,11 @@ fn one(shapes: &Shapes, chance: &mut Chance, counts: &mut Counts) -> Result<(), 
 }
 
 /// Compares on so many forms; the first that differs is printed and ends the run.
-pub fn run(seed: u64, forms: u64) -> bool {
-    let shapes = Shapes::new();
+pub fn run(comparison: &Comparison, seed: u64, forms: u64) -> bool {
     let mut counts = Counts::default();
     for number in 0..forms {
         let mut chance = Chance::new(seed.rotate_left(32) ^ number);
-        if let Err(words) = one(&shapes, &mut chance, &mut counts) {
+        if let Err(words) = one(comparison, &mut chance, &mut counts) {
             println!("form {number} of seed {seed} differs: {words}");
             return false;
         }
@@ -250,38 +270,27 @@ pub fn run(seed: u64, forms: u64) -> bool {
     true
 }
 
-/// The most rows of a form and of slots of a vector, so that the file stays small.
+/// How many forms are looked through for vectors, the most rows and slots of one, and how many there are of each kind.
+const LOOKED: u64 = 20_000;
 const FEW_ROWS: usize = 20;
 const FEW_SLOTS: usize = 12;
+const EACH: usize = 8;
 
-/// Fixed vectors: at most so many of each outcome, by the answer's number and the kinds of the slots' answers.
-///
-/// A vector begins with seven words, little endian: how long form, resolved form, sheet, answers and working area are, and
-/// the two halves of the answer. The first three follow, and what the answers then hold. Before the call every byte of
-/// the answers and of the working area is 165.
-pub fn vectors(seed: u64, most: usize) -> Vec<u8> {
-    let shapes = Shapes::new();
-    let mut like = BTreeMap::new();
-    let mut bytes = Vec::new();
-    for number in 0..20_000 {
-        let case = Case::draw(&shapes, &mut Chance::new(seed.rotate_left(32) ^ number));
-        if case.form.len() > FEW_ROWS || case.slots.len() > FEW_SLOTS && case.slots.len() != 200 {
+/// Vectors of each refusal, and of each combination of answers to slots.
+pub fn vectors(comparison: &Comparison, seed: u64, sample: &mut Sample) {
+    for number in 0..LOOKED {
+        let case = Case::draw(comparison, &mut Chance::new(seed.rotate_left(32) ^ number));
+        if case.form.len() > FEW_ROWS || case.slots.len() > FEW_SLOTS && case.slots.len() < 200 {
             continue;
         }
-        let (wanted, written) = case.wanted();
-        let kinds: BTreeSet<u32> = written.iter().map(|[kind, _]| *kind).collect();
-        let alike: &mut usize = like.entry((wanted >> 32, case.claim.len() % 16, case.work < AREA, kinds)).or_default();
-        *alike += 1;
-        if *alike > most {
-            continue;
-        }
-        let form = rows::encode(&case.form);
-        let lengths =
-            [form.len(), case.claim.len(), case.sheet.len(), case.room, case.work].map(|length| length as u32);
-        for word in lengths.into_iter().chain([(wanted >> 32) as u32, wanted as u32]) {
-            bytes.extend(word.to_le_bytes());
-        }
-        bytes.extend([form, case.claim, case.sheet, held(&written, case.room)].concat());
+        let (answer, written) = case.wanted();
+        let vector = Vector {
+            function: Function::Sheet,
+            number: 0,
+            answer,
+            inputs: vec![rows::encode(&case.form), case.claim.clone(), case.sheet.clone()],
+            lent: vec![Lent::holding(&held(&written, case.room)), Lent::cleared(case.work, AREA)],
+        };
+        sample.offer(case.shows(answer, &written), EACH, &vector);
     }
-    bytes
 }

@@ -7,7 +7,8 @@ use crate::library;
 use crate::mend::{Left, mend};
 use crate::rows::{CLOSE, FIELD, FIRST, OPEN, OUTER, ROW, Row, SECOND, Version};
 use crate::shapes::Shapes;
-use std::collections::BTreeMap;
+use crate::vectors::{FILLED, Function, Lent, Sample, Vector, said};
+use std::collections::{BTreeMap, BTreeSet};
 
 /// A buffer, the length of the form in it, and a list's buffer.
 struct Spoilt {
@@ -135,4 +136,58 @@ pub fn run(seed: u64, count: u64) -> bool {
     }
     println!("{count} spoilt forms mended, 0 differences");
     true
+}
+
+/// How many spoilt forms are looked through for vectors, how long one is at most, and how many there are of each kind.
+const LOOKED: u64 = 20_000;
+const SHORT: usize = 300;
+const EACH: usize = 3;
+
+/// What a mending shows: the kinds of its changes, of a part with the code of its row.
+fn shows(left: &Left) -> BTreeSet<String> {
+    let mut list = &left.list[..];
+    let mut kinds = BTreeSet::new();
+    for _ in 0..left.answer {
+        let number = |at: usize| u32::from_le_bytes(list[4 * at..4 * at + 4].try_into().expect("four bytes")) as usize;
+        let (at, before, now) = (number(0), number(1), number(2));
+        kinds.insert(match at {
+            5 => "the rule set".to_string(),
+            6 => "the row count".to_string(),
+            _ if before > now => "rows cut".to_string(),
+            _ if before < now => "rows added".to_string(),
+            _ => format!("part {} of a row {}", (at - HEADER) % ROW, left.buffer[at - (at - HEADER) % ROW]),
+        });
+        list = &list[12 + before.next_multiple_of(4)..];
+    }
+    if kinds.is_empty() {
+        kinds.insert("nothing".to_string());
+    }
+    kinds
+}
+
+/// Vectors of each refusal, and of each kind of change.
+pub fn vectors(seed: u64, sample: &mut Sample) {
+    let shapes = Shapes::new();
+    for number in 0..LOOKED {
+        let mut chance = Chance::new(seed.rotate_left(32) ^ number);
+        let Spoilt { mut buffer, long, list } = spoilt(&shapes, &mut chance);
+        if long > SHORT {
+            continue;
+        }
+        let form = buffer[..long.min(buffer.len())].to_vec();
+        buffer.truncate(form.len() + 40);
+        buffer[form.len()..].fill(FILLED);
+        let left = mend(&shapes, &buffer, long, &vec![FILLED; list.len().min(1000)]);
+        let vector = Vector {
+            function: Function::Mend,
+            number: long as u32,
+            answer: left.answer,
+            inputs: vec![form],
+            lent: vec![Lent::holding(&left.buffer), Lent::holding(&left.list)],
+        };
+        match left.answer >> 32 {
+            0 => sample.offer(shows(&left), EACH, &vector),
+            _ => sample.offer([said(left.answer)], 2 * EACH, &vector),
+        }
+    }
 }

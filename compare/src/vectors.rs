@@ -1,144 +1,145 @@
-//! Fixed vectors: forms with the expected answers, chosen so that few of them show much, in a flat file.
+//! Fixed vectors: calls of the library's functions, and what must come of them by the readings of this package, in a flat
+//! file that `crates/vectors` replays.
 //!
-//! A vector begins with eight words, little endian: how long the form is, how long the output that is lent, how much
-//! of the output is written and how much of it is written or cleared, the refusal's number, and its place; or 0 and
-//! the number of rows; then what the refusal tells, the space and the place of the first declaration. The form
-//! follows, then the bytes that are written. Before the call every byte of the output is 165.
+//! A vector begins with 25 words, little endian: the function; a number that it is given (a version, a choice, a length, a
+//! row); the upper and the lower half of its answer; the lengths of three inputs; and for each of six buffers that it is
+//! lent how long it is, how much of it is written, and how much written or cleared. What is not used is 0. The inputs follow,
+//! then what is written to each buffer. Before the call every byte that is lent is 165; the length of an area is counted in
+//! its elements.
 
-use crate::compare::{Case, Comparison};
-use crate::rows::{Answer, CLOSE, FIELD, HEADER, OPEN, REF, ROW, Row, decode, encode, output_size};
-use crate::shapes::EXPORT_FIELD;
-use crate::source::{self, Stage};
-use crate::tally::Tally;
-use crate::told;
-use std::collections::BTreeSet;
+pub mod resolved;
 
-/// The most rows of a form of each stage, so that the file stays small.
-fn largest(stage: Stage) -> usize {
-    match stage {
-        Stage::Limits => 140,
-        _ => 24,
+use std::collections::BTreeMap;
+
+/// What a buffer is filled with, to see which of its bytes were changed.
+pub const FILLED: u8 = 0xa5;
+
+const WORDS: usize = 25;
+const INPUTS: usize = 3;
+const LENT: usize = 6;
+
+/// The functions by their numbers in the file.
+#[derive(Clone, Copy, PartialEq, Eq, PartialOrd, Ord, Debug)]
+pub enum Function {
+    Resolve,
+    ResolveTold,
+    ResolveWith,
+    Convert,
+    Moved,
+    Sheet,
+    Check,
+    Compare,
+    Unresolve,
+    Mend,
+    Member,
+    Meant,
+}
+
+/// A buffer that is lent, after the call: its first bytes are these, those up to `cleared` zero, and later ones as they were.
+pub struct Lent {
+    length: usize,
+    written: Vec<u8>,
+    cleared: usize,
+}
+
+impl Lent {
+    /// A buffer that then holds this.
+    pub fn holding(content: &[u8]) -> Lent {
+        let changed = content.iter().rposition(|byte| *byte != FILLED).map_or(0, |last| last + 1);
+        let written = content[..changed].iter().rposition(|byte| *byte != 0).map_or(0, |last| last + 1);
+        Lent { length: content.len(), written: content[..written].to_vec(), cleared: changed }
+    }
+
+    /// One of so many elements, to whose front these bytes are written.
+    pub fn written(length: usize, bytes: Vec<u8>) -> Lent {
+        Lent { length, cleared: bytes.len(), written: bytes }
+    }
+
+    /// An area of so many elements, which is then zero up to this size.
+    pub fn cleared(length: usize, size: usize) -> Lent {
+        Lent { length, written: Vec::new(), cleared: length.min(size) }
     }
 }
 
-/// How many random forms are looked through.
-const RANDOM: u64 = 200_000;
+/// A call, and what must come of it.
+pub struct Vector {
+    pub function: Function,
+    pub number: u32,
+    pub answer: u64,
+    pub inputs: Vec<Vec<u8>>,
+    pub lent: Vec<Lent>,
+}
 
-/// The vectors `kept` and behind them new ones, with at most `most` of each refusal in all; and what the new ones show.
-pub fn file(comparison: &Comparison, kept: &[u8], most: usize, seed: u64) -> (Vec<u8>, Tally) {
-    let (mut shown, mut forms) = (BTreeSet::new(), BTreeSet::new());
-    let (mut bytes, mut tally) = (Vec::new(), Tally::default());
-    let mut like = [0; 13];
-    for case in cases(kept) {
-        let answer = comparison.expected(&case);
-        like[number(&answer)] += 1;
-        shown.extend(features(&decode(&case.form), &answer));
-        append(&mut bytes, &case, &answer);
-        forms.insert(case.form);
-    }
-    assert!(bytes == kept, "a vector that is kept has another answer now");
-    let fixed = source::fixed(&comparison.shapes).into_iter();
-    let random = (0..RANDOM).map(|number| source::random(&comparison.shapes, seed, number));
-    let small = |(stage, case): &(Stage, Case)| case.form.len() <= HEADER + ROW * largest(*stage);
-    for (stage, case) in fixed.chain(random).filter(small) {
-        let answer = comparison.expected(&case);
-        let features = features(&decode(&case.form), &answer);
-        let new = features.iter().any(|feature| !shown.contains(feature));
-        let room = matches!(answer, Answer::Accepted(_)) || like[number(&answer)] < most;
-        let fits = told::told(&case.form, &answer).is_some() && !forms.contains(&case.form);
-        if (stage == Stage::Stated || (new && room)) && fits {
-            like[number(&answer)] += 1;
-            shown.extend(features);
-            append(&mut bytes, &case, &answer);
-            tally.count(stage, &case, &answer);
+impl Vector {
+    fn append_to(&self, bytes: &mut Vec<u8>) {
+        let mut words = vec![self.function as u32, self.number, (self.answer >> 32) as u32, self.answer as u32];
+        words.extend(self.inputs.iter().map(|input| input.len() as u32));
+        words.resize(4 + INPUTS, 0);
+        for lent in &self.lent {
+            words.extend([lent.length, lent.written.len(), lent.cleared].map(|length| length as u32));
         }
+        words.resize(4 + INPUTS + 3 * LENT, 0);
+        bytes.extend(words.into_iter().flat_map(u32::to_le_bytes));
+        bytes.extend(self.inputs.iter().flatten());
+        bytes.extend(self.lent.iter().flat_map(|lent| &lent.written));
     }
-    (bytes, tally)
 }
 
-/// The refusal's number, or 0.
-fn number(answer: &Answer) -> usize {
-    (answer.packed() >> 32) as usize
-}
-
-/// The forms of a file, each with the output that is lent for it.
-fn cases(mut bytes: &[u8]) -> Vec<Case> {
-    let mut cases = Vec::new();
+/// The bytes of the vectors of a function in a file, one by one.
+fn of_function(mut bytes: &[u8], function: Function) -> Vec<&[u8]> {
+    let mut all = Vec::new();
     while !bytes.is_empty() {
-        let word = |at: usize| u32::from_le_bytes(bytes[4 * at..4 * at + 4].try_into().expect("four bytes")) as usize;
-        let (form, out_len, written) = (word(0), word(1), word(2));
-        let words = 32;
-        cases.push(Case { form: bytes[words..words + form].to_vec(), out_len, fill: 0, choice: 0 });
-        bytes = &bytes[words + form + written..];
-    }
-    cases
-}
-
-fn append(bytes: &mut Vec<u8>, case: &Case, answer: &Answer) {
-    let written = match answer {
-        Answer::Accepted(rows) => encode(rows),
-        _ => Vec::new(),
-    };
-    let cleared = match answer {
-        Answer::Refused { number: 1..=5, .. } => 0,
-        _ => output_size(decode(&case.form).len()),
-    };
-    let packed = answer.packed();
-    let told = told::told(&case.form, answer).expect("a vector's refusal tells one thing");
-    let lengths = [case.form.len(), case.out_len, written.len(), cleared].map(|length| length as u32);
-    for word in lengths.into_iter().chain([(packed >> 32) as u32, packed as u32]).chain(told) {
-        bytes.extend(word.to_le_bytes());
-    }
-    bytes.extend(&case.form);
-    bytes.extend(written);
-}
-
-/// What a vector shows: an accepted one each field with its kind of scope and its references, a refused one the
-/// field and the row that the place is about.
-fn features(rows: &[Row], answer: &Answer) -> BTreeSet<[u32; 4]> {
-    let (mut kinds, mut field) = (Vec::new(), 0);
-    let number = number(answer) as u32;
-    let length = if (1..=3).contains(&number) { rows.len() as u32 } else { 0 };
-    let mut features = BTreeSet::from([[100, number, length, 0]]);
-    for (at, row) in rows.iter().enumerate() {
-        match row.code {
-            OPEN => kinds.push(row.b),
-            CLOSE => drop(kinds.pop()),
-            FIELD => field = shown_field(&rows[at..]),
-            _ => {}
+        let word = |at: usize| word(bytes, at);
+        let inputs: usize = (4..4 + INPUTS).map(word).sum();
+        let written: usize = (0..LENT).map(|at| word(4 + INPUTS + 3 * at + 1)).sum();
+        let (vector, rest) = bytes.split_at(4 * WORDS + inputs + written);
+        if word(0) == function as usize {
+            all.push(vector);
         }
-        let kind = kinds.last().map_or(4, |kind| u32::from(*kind));
-        features.extend(feature(answer, at as u32, *row, kind, field));
-        if number == 0 && row.code == FIELD && row.b == EXPORT_FIELD {
-            features.insert(export_feature(&rows[at..]));
-        }
+        bytes = rest;
     }
-    features
+    all
 }
 
-/// The code of the field that begins here; exports with an ascribed type count by the space that they declare.
-fn shown_field(rows: &[Row]) -> u32 {
-    let declared = rows.get(1).map_or(0, |decl| 1 + u32::from(decl.b));
-    let ascribed = rows[0].b == EXPORT_FIELD && rows[0].e == 1;
-    u32::from(rows[0].b) + if ascribed { 100 * declared } else { 0 }
+/// A word of a vector.
+fn word(vector: &[u8], at: usize) -> usize {
+    u32::from_le_bytes(vector[4 * at..4 * at + 4].try_into().expect("four bytes")) as usize
 }
 
-/// What an export shows: its space, whether it has an ascribed type, how many references, and the PATHs of its own.
-fn export_feature(rows: &[Row]) -> [u32; 4] {
-    let operands = rows[1..].iter().take_while(|row| !matches!(row.code, FIELD | CLOSE));
-    let references: Vec<&Row> = operands.filter(|row| row.code == REF).collect();
-    let paths = references.last().map_or(0, |own| own.y.min(2));
-    [40 + paths, u32::from(rows[1].b), u32::from(rows[0].e), references.len() as u32]
+/// Vectors, and how many of them show each kind of thing.
+#[derive(Default)]
+pub struct Sample {
+    kinds: BTreeMap<(Function, String), usize>,
+    bytes: Vec<u8>,
 }
 
-/// What one row shows, which stands in this kind of scope and belongs to this field.
-fn feature(answer: &Answer, at: u32, row: Row, kind: u32, field: u32) -> Option<[u32; 4]> {
-    let code = u32::from(row.code);
-    match answer {
-        Answer::Accepted(_) if row.code == FIELD => Some([0, kind, field, u32::from(row.e)]),
-        Answer::Accepted(_) if row.code == REF => Some([20, field, u32::from(row.b), row.y.min(2)]),
-        Answer::Refused { number: number @ (4 | 5), place } if *place == at => Some([*number, field, code, 0]),
-        Answer::Refused { number: number @ 6.., place } if *place == row.z => Some([*number, kind, field, code]),
-        _ => None,
+impl Sample {
+    /// Takes a vector that shows these kinds of things, if one of them is shown by fewer than `most` so far.
+    pub fn offer<K: Into<String>>(&mut self, kinds: impl IntoIterator<Item = K>, most: usize, vector: &Vector) {
+        let kinds: Vec<_> = kinds.into_iter().map(|kind| (vector.function, kind.into())).collect();
+        if kinds.iter().all(|kind| self.kinds.get(kind).is_some_and(|shown| *shown >= most)) {
+            return;
+        }
+        for kind in kinds {
+            *self.kinds.entry(kind).or_default() += 1;
+        }
+        vector.append_to(&mut self.bytes);
+    }
+
+    /// How many there are of each function and kind.
+    pub fn summary(&self) -> String {
+        self.kinds.iter().map(|((function, kind), shown)| format!("{function:?}, {kind}: {shown}\n")).collect()
+    }
+
+    pub fn bytes(&self) -> &[u8] {
+        &self.bytes
+    }
+}
+
+/// What an answer is counted as.
+pub fn said(answer: u64) -> String {
+    match answer >> 32 {
+        0 => "accepted".to_string(),
+        number => format!("refused with {number}"),
     }
 }

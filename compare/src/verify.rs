@@ -7,7 +7,8 @@ use crate::damage::damage;
 use crate::generate;
 use crate::library;
 use crate::partner::Partner;
-use crate::rows::{Answer, HEADER, ROW, Row, decode, encode, output_size};
+use crate::rows::{Answer, FIRST, HEADER, ROW, Row, Version, decode, encode, output_size};
+use crate::vectors::{Function, Lent, Sample, Vector};
 use crate::wrong;
 use std::collections::BTreeMap;
 
@@ -178,28 +179,32 @@ pub fn run(comparison: &Comparison, seed: u64, pairs: u64) -> bool {
     true
 }
 
-/// Fixed vectors for `crates/claim_vectors`, at most so many of each kind of claim and verdict: forms of at most 24 rows,
-/// claims of at most 60.
-pub fn vectors(comparison: &Comparison, seed: u64, each: usize) -> Vec<u8> {
-    let mut counts: BTreeMap<(Kind, String), usize> = BTreeMap::new();
-    let mut bytes = Vec::new();
-    for number in 0..100_000 {
+/// How many pairs are looked through for vectors, the most rows of an input and of a claim, and how many there are of each
+/// kind.
+const LOOKED: u64 = 100_000;
+const FEW_ROWS: usize = 24;
+const FEW_CLAIMED: usize = 60;
+const EACH: usize = 12;
+
+/// Vectors of each kind of claim with each verdict, of version 1, and of areas that are too short or longer.
+pub fn vectors(comparison: &Comparison, seed: u64, sample: &mut Sample) {
+    for number in 0..LOOKED {
         let mut chance = Chance::new(seed.rotate_left(32) ^ number);
         let pair = pair(comparison, &mut chance);
-        if pair.input.form.len() > HEADER + 24 * ROW || pair.claim.len() > HEADER + 60 * ROW {
+        let form = &pair.input.form;
+        let small = form.len() <= HEADER + FEW_ROWS * ROW && pair.claim.len() <= HEADER + FEW_CLAIMED * ROW;
+        if !small || Version::of(form) != FIRST {
             continue;
         }
-        let verdict = expected(comparison, &pair, SLOTS, LINKS);
-        let count = counts.entry((pair.kind, counted(verdict))).or_default();
-        if *count < each {
-            *count += 1;
-            let packed = verdict.packed();
-            for word in [pair.input.form.len() as u32, pair.claim.len() as u32, (packed >> 32) as u32, packed as u32] {
-                bytes.extend(word.to_le_bytes());
-            }
-            bytes.extend(&pair.input.form);
-            bytes.extend(&pair.claim);
-        }
+        let (slots, links) = areas(&mut chance);
+        let verdict = expected(comparison, &pair, slots, links);
+        let vector = Vector {
+            function: Function::Check,
+            number: 0,
+            answer: verdict.packed(),
+            inputs: vec![pair.input.form, pair.claim],
+            lent: vec![Lent::cleared(slots, SLOTS), Lent::cleared(links, LINKS)],
+        };
+        sample.offer([format!("{:?} {}", pair.kind, counted(verdict))], EACH, &vector);
     }
-    bytes
 }
