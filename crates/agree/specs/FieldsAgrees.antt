@@ -18,7 +18,7 @@ use Rattle.rules.specs.Rules
 use Rattle.rules.specs.Rules.{Entry, declsIn, tableOf, Outside, onward, opened, Result, refused, ok, _>>=_, Env, fresh, Expanded, as-it-is, expandHead, expandFields, headsDecls, resolveInserted, resolveHead, resolveScope, resolveFields, resolveItem}
 use Rattle.rules.specs.Laws.Results.{ok-same, bind-inv, holds-of}
 use Rattle.rules.specs.Laws.Entries.{field-decls}
-use Rattle.rules.specs.Laws.Meaning.Names.{LowDecls, LowFields}
+use Rattle.rules.specs.Laws.Meaning.Names.{LowDecls, DeclFields}
 use Rattle.rules.specs.Laws.Meaning.Runs.{head-grown}
 use Rattle.rules.specs.Laws.Output.FourTimes.{inner, item-size, fields-size}
 use Rattle.rules.specs.Laws.Output.Counts.{deep}
@@ -160,7 +160,7 @@ module _ (sizes : Sizes) (rows ends : List ℕ) (short : Fits sizes rows) where
   fields-later : (i : Item) (fs : Fields) → FieldsGo sizes rows ends fs → (allowed kind b k : ℕ) (here₀ : List Declaration) (env : Env) (outside : Outside) (before : List Declaration) (e : Expanded Head) (r : List Entry × ℕ)
       (entered names : List Slot) (scopes : List (List ℕ)) (out : List ℕ) (s : State) (depth turns : ℕ) (y : List Head × (Item × ℕ)) (w : Wrote₃)
       (F : FieldGone sizes (begunT s depth) names out (s .at + length (itemRows i)) (s .next + length (e .inserted) + length (headOf i .decls)) (y .1 .1) (headsRows (y .0) ++ itemRows (y .1 .0)) w) → y .1 .1 ≤ k + inner i
-      → outside .early ≡ false → outside .before .row ≡ s .at → heights fs ≤ allowed → At rows (s .at + length (itemRows i)) (fieldsRows fs ++ (Close ∷ [])) → Ends fs ends (s .at + length (itemRows i)) → GoodFields today fs kind → LowDecls (headOf i .decls) → LowFields fs
+      → outside .early ≡ false → outside .before .row ≡ s .at → heights fs ≤ allowed → At rows (s .at + length (itemRows i)) (fieldsRows fs ++ (Close ∷ [])) → Ends fs ends (s .at + length (itemRows i)) → GoodFields today fs kind → LowDecls (headOf i .decls) → DeclFields fs
       → expandHead here₀ outside b (headOf i) ≡ ok e → expandFields here₀ (onward i outside) (e .k) fs ≡ ok r → tableOf env ≡ before ++ (headsDecls (e .inserted) ++ (headOf i .decls ++ declsIn (r .0))) → Under (fresh b) before
       → Left names (pastOf (innermostT scopes depth)) (s .next) (headSlots here₀ outside before b (s .at) (headOf i) ++ (declSlots (before ++ headsDecls (e .inserted)) (s .at + 1) (headOf i .decls) ++ fieldsSlots here₀ (onward i outside) ((before ++ headsDecls (e .inserted)) ++ headOf i .decls) (e .k) (s .at + length (itemRows i)) fs))
       → Ready sizes entered names scopes (begunT s depth) (opened env outside) (heights (i ▸ fs)) (deep (i ▸ fs)) k → length (fieldsRows fs) < turns
@@ -243,4 +243,4 @@ module _ (sizes : Sizes) (rows ends : List ℕ) (short : Fits sizes rows) where
       (item allowed kind b k here₀ env outside before (declsIn (c .1 .0)) e slots₁ entered names scopes out (begunT s depth) any-time at-row (omega arith) (at-left rows (s .at) (itemRows i) (fieldsRows fs ++ (Close ∷ [])) at′) (next-code fs (s .at + length (itemRows i)) behind)
       (en .0) (en .1) (good .0) (spaces .0) (low .1) (c .2) l′ (λ r g g′. fields-apart here₀ (onward i outside) r (ds₁ ++ h₀ .decls) (e .k) (s .at + length (itemRows i)) fs (omega arith)) ds′ u refl refl ready₁)
       (λ y q F. rw (F .0 .gone .is)
-      (fields-later i fs later allowed kind b k here₀ env outside before e (c .1) entered names scopes out s depth turns y _ (F .0) (F .1) any-time at-row (omega arith) behind (en .2) (good .1) (low .0 .decls) (low .2) (c .2) (c .3) ds′ u l′ ready (omega arith))))
+      (fields-later i fs later allowed kind b k here₀ env outside before e (c .1) entered names scopes out s depth turns y _ (F .0) (F .1) any-time at-row (omega arith) behind (en .2) (good .1) (low .0) (low .2) (c .2) (c .3) ds′ u l′ ready (omega arith))))

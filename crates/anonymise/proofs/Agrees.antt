@@ -29,10 +29,10 @@ use Rattle.form.specs.Header.{headerIn, headerFor, headerOf}
 use Rattle.form.specs.declared.header.Header.{Header as Heading}
 use Rattle.form.specs.declared.header.Header.the-variants.{Rows, Wrong, Count}
 use Rattle.reader.specs.Readings.{answerOf, readOf}
-use Rattle.rows.specs.Taken.{asIndex, taken, rowAt}
+use Rattle.rows.specs.Taken.{asIndex, taken}
 use Rattle.put.specs.Put.{ruleIndex, ruleRow, bytesOf, rowBytes, putRow}
 use Rattle.anonymise.specs.Meaning.{meaning}
-use Rattle.anonymise.specs.Renamed.{keyOf, renamedRowT, leftBy, rowWritten, rowsWritten}
+use Rattle.anonymise.specs.Renamed.{inputRow, keyOf, renamedRowT, leftBy, rowWritten, rowsWritten}
 use Rattle.anonymise.specs.Run.{Ran, allWritten, fillT, before, readThen, runT}
 use Rattle.anonymise.specs.declared.run.Answer.{Answer}
 use Rattle.anonymise.specs.declared.run.Answer.the-variants.{Header, RowCount, Room}
@@ -69,7 +69,7 @@ module _ (key rows : List ℕ) where
   -- one row, which can be taken apart
   one-written : (i : ℕ) (out : List ℕ) (row : rules.Row) → decodeRow topName (drop (16 * i) rows) ≡ some row → i < length rows / 16 → i < length out / 16
       → rowWritten key rows i out ≡ sets out (16 * i) (encodeRow (renamedRow g row))
-  unfolding rowWritten putRow rowAt leftBy pick
+  unfolding rowWritten putRow inputRow leftBy pick
   one-written i out row e h o =
       let a : ltb i (length rows / 16) ≡ true = omega tests in
       let b : ltb i (length out / 16) ≡ true = omega tests in

@@ -27,13 +27,13 @@ use Rattle.names.specs.declared.Found.the-variants.{At, Nothing}
 use Rattle.index.specs.Indexed.{Holds, Covers}
 use Rattle.index.proofs.Storey.{covers-all}
 use Rattle.rows.proofs.row.Row as row
-use Rattle.rows.specs.Taken.{rowAt}
+use Rattle.rows.specs.Taken.{rowTo}
 use Rattle.rows.specs.declared.row.Index.{Index}
 use Rattle.rows.specs.declared.row.Index.the-variants.{Number, Name}
 use Rattle.rows.specs.declared.row.Row.{Row}
 use Rattle.rows.specs.declared.row.Row.the-variants.{Field, Decl, Ref, Path, Outer, Case, Open, Close, Export, Broken}
 use Rattle.anonymise.specs.Seen.{slotOf, slotsFrom, seenIn, Knows, Enters}
-use Rattle.anonymise.specs.Renamed.{indexNamesT, rowNamesT, renamedIndexT, renamedRowT}
+use Rattle.anonymise.specs.Renamed.{inputRow, indexNamesT, rowNamesT, renamedIndexT, renamedRowT}
 
 -- ---- a search finds the place
 
@@ -201,28 +201,33 @@ enter-name table table′ index′ used used′ at n e h = rw e h
 
 -- ---- the names of a row
 
-module _ (rows : List ℕ) (i : ℕ) (r : Row) (got : r ≡ rowAt rows i) (table : List Slot) (used : ℕ) (table′ : List Slot) (index′ : List ℕ) (used′ : ℕ) where
+-- what `input_row` finds
+pub input-row : (rows : List ℕ) (i : ℕ) (r : Row) → r ≡ rowTo topName rows i → r ≡ inputRow rows i
+unfolding inputRow
+input-row rows i r e = e
+
+module _ (rows : List ℕ) (i : ℕ) (r : Row) (got : r ≡ inputRow rows i) (table : List Slot) (used : ℕ) (table′ : List Slot) (index′ : List ℕ) (used′ : ℕ) where
   abbrev Named : List ℕ → Type 0
   Named ns = Enters table used ns table′ index′ used′
 
-  entered : (ns : List ℕ) → rowNamesT r ≡ ns → Named ns → Named (rowNamesT (rowAt rows i))
+  entered : (ns : List ℕ) → rowNamesT r ≡ ns → Named ns → Named (rowNamesT (inputRow rows i))
   entered ns e h = rw (← got) (rw e h)
 
-  pub row-decl : (space name z : ℕ) → r ≡ Decl space name z → Named (nameIn name) → Named (rowNamesT (rowAt rows i))
+  pub row-decl : (space name z : ℕ) → r ≡ Decl space name z → Named (nameIn name) → Named (rowNamesT (inputRow rows i))
   row-decl space name z e h = entered (nameIn name) (unfold rowNamesT in rw e) h
 
-  pub row-ref : (space : ℕ) (at : Index) (paths z : ℕ) → r ≡ Ref space at paths z → Named (indexNamesT at) → Named (rowNamesT (rowAt rows i))
+  pub row-ref : (space : ℕ) (at : Index) (paths z : ℕ) → r ≡ Ref space at paths z → Named (indexNamesT at) → Named (rowNamesT (inputRow rows i))
   row-ref space at paths z e h = entered (indexNamesT at) (unfold rowNamesT in rw e) h
 
   pub row-outer : (space : ℕ) (up at : Index) (z : ℕ) → r ≡ Outer space up at z → (table″ : List Slot) (index″ : List ℕ) (used″ : ℕ) → Enters table used (indexNamesT up) table″ index″ used″
-      → Enters table″ used″ (indexNamesT at) table′ index′ used′ → Named (rowNamesT (rowAt rows i))
+      → Enters table″ used″ (indexNamesT at) table′ index′ used′ → Named (rowNamesT (inputRow rows i))
   row-outer space up at z e table″ index″ used″ h g =
       entered (indexNamesT up ++ indexNamesT at) (unfold rowNamesT in rw e) (enters-both table table″ table′ index″ index′ used used″ used′ _ _ h g)
 
-  pub row-case : (name z : ℕ) → r ≡ Case name z → Named (nameIn name) → Named (rowNamesT (rowAt rows i))
+  pub row-case : (name z : ℕ) → r ≡ Case name z → Named (nameIn name) → Named (rowNamesT (inputRow rows i))
   row-case name z e h = entered (nameIn name) (unfold rowNamesT in rw e) h
 
-  pub row-open : (kind name : ℕ) → r ≡ Open kind name → Named (nameIn name) → Named (rowNamesT (rowAt rows i))
+  pub row-open : (kind name : ℕ) → r ≡ Open kind name → Named (nameIn name) → Named (rowNamesT (inputRow rows i))
   row-open kind name e h = entered (nameIn name) (unfold rowNamesT in rw e) h
 
 no-names : (r : Row) → OneOf (0 ∷ 3 ∷ 7 ∷ 8 ∷ 9 ∷ []) (tagOf row.the-type r) → rowNamesT r ≡ []
@@ -238,8 +243,8 @@ no-names Close k = refl
 no-names (Export n) k = refl
 no-names Broken k = refl
 
-pub row-bare : (rows : List ℕ) (i : ℕ) (r : Row) → r ≡ rowAt rows i → (table : List Slot) (index : List ℕ) (used : ℕ) → Knows table index used → OneOf (0 ∷ 3 ∷ 7 ∷ 8 ∷ 9 ∷ []) (tagOf row.the-type r)
-    → Enters table used (rowNamesT (rowAt rows i)) table index used
+pub row-bare : (rows : List ℕ) (i : ℕ) (r : Row) → r ≡ inputRow rows i → (table : List Slot) (index : List ℕ) (used : ℕ) → Knows table index used → OneOf (0 ∷ 3 ∷ 7 ∷ 8 ∷ 9 ∷ []) (tagOf row.the-type r)
+    → Enters table used (rowNamesT (inputRow rows i)) table index used
 row-bare rows i r got table index used k t = rw (← got, no-names r t) (stays table index used k [] (unfold firsts in refl))
 
 -- the second name of an OUTER has room too

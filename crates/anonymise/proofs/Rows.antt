@@ -25,14 +25,14 @@ use Rattle.renaming.specs.Anonymous.{over}
 use Rattle.names.specs.Table.{Slot, emptySlot, nameOf}
 use Rattle.index.specs.Indexed.{Holds}
 use Rattle.index.proofs.Storey.{holds-none}
-use Rattle.rows.specs.Taken.{asIndex, taken, rowAt}
+use Rattle.rows.specs.Taken.{asIndex, taken}
 use Rattle.rows.specs.declared.row.Index.{Index}
 use Rattle.rows.specs.declared.row.Index.the-variants.{Number, Name}
 use Rattle.rows.specs.declared.row.Row.{Row}
 use Rattle.rows.specs.declared.row.Row.the-variants.{Field, Decl, Ref, Path, Outer, Case, Open, Close, Export, Broken}
 use Rattle.put.specs.Put.{putRow}
 use Rattle.anonymise.specs.Seen.{slotsFrom, seenIn, Knows, Enters}
-use Rattle.anonymise.specs.Renamed.{indexNamesT, rowNamesT, keyOf, renamedRowT, leftBy, rowWritten, rowsWritten}
+use Rattle.anonymise.specs.Renamed.{inputRow, indexNamesT, rowNamesT, keyOf, renamedRowT, leftBy, rowWritten, rowsWritten}
 use Rattle.anonymise.specs.Run.{allWritten}
 use Rattle.anonymise.proofs.Names.{firsts-append, seen-long}
 
@@ -82,11 +82,11 @@ row-few Broken = omega arith
 abbrev pub namesFrom : (rows : List ℕ) (i left : ℕ) → List ℕ
 namesFrom rows i left = namesOf (rowsOf topName left (drop (16 * i) rows))
 
-row-is : (rows : List ℕ) (i : ℕ) → i < length rows / 16 → rowAt rows i ≡ taken (decodeRow topName (drop (16 * i) rows))
-unfolding rowAt
+row-is : (rows : List ℕ) (i : ℕ) → i < length rows / 16 → inputRow rows i ≡ taken (decodeRow topName (drop (16 * i) rows))
+unfolding inputRow
 row-is rows i h = sym (yes! _ (omega tests) refl)
 
-names-next : (rows : List ℕ) (i left : ℕ) → i < length rows / 16 → namesFrom rows i (suc left) ≡ rowNamesT (rowAt rows i) ++ namesFrom rows (i + 1) left
+names-next : (rows : List ℕ) (i left : ℕ) → i < length rows / 16 → namesFrom rows i (suc left) ≡ rowNamesT (inputRow rows i) ++ namesFrom rows (i + 1) left
 unfolding rowsOf
 names-next rows i left h =
     let next : 16 * i + 16 ≡ 16 * (i + 1) = omega arith in
@@ -98,16 +98,16 @@ module _ (rows : List ℕ) where
   unfolding seenIn keyOf
   names-start table = rw sub-zero
 
-  module _ (table table′ : List Slot) (index′ : List ℕ) (used used′ i n : ℕ) (e : Enters table used (rowNamesT (rowAt rows i)) table′ index′ used′) where
+  module _ (table table′ : List Slot) (index′ : List ℕ) (used used′ i n : ℕ) (e : Enters table used (rowNamesT (inputRow rows i)) table′ index′ used′) where
     pub names-turn : i < n → n ≡ length rows / 16 → firsts (seenIn table used) (namesFrom rows i (n - i)) ≡ keyOf rows → firsts (seenIn table′ used′) (namesFrom rows (i + 1) (n - (i + 1))) ≡ keyOf rows
     names-turn h is inv =
         ap (λ (l : List ℕ). firsts l (namesFrom rows (i + 1) (n - (i + 1)))) (e .seen)
-        ∙ (sym (firsts-append (seenIn table used) (rowNamesT (rowAt rows i)) (namesFrom rows (i + 1) (n - (i + 1))))
+        ∙ (sym (firsts-append (seenIn table used) (rowNamesT (inputRow rows i)) (namesFrom rows (i + 1) (n - (i + 1))))
         ∙ (ap (firsts (seenIn table used)) (sym (names-next rows i (n - (i + 1)) (omega arith)))
         ∙ rw (left-suc i n h) at inv))
 
     pub used-turn : used ≤ 2 * i → used′ ≤ 2 * (i + 1)
-    used-turn h = omega (arith, e .few, row-few (rowAt rows i))
+    used-turn h = omega (arith, e .few, row-few (inputRow rows i))
 
   pub names-end : (table : List Slot) (used i n : ℕ) → n ≤ i → firsts (seenIn table used) (namesFrom rows i (n - i)) ≡ keyOf rows → seenIn table used ≡ keyOf rows
   unfolding rowsOf namesOf firsts
@@ -119,7 +119,7 @@ knows-after table table′ index′ used used′ ns e = e .knows
 -- ---- rows written
 
 module _ (key rows : List ℕ) where
-  pub row-written : (i : ℕ) (r new : Row) (out out′ : List ℕ) (to : ℕ) → r ≡ rowAt rows i → new ≡ renamedRowT (renamed (placeOf key)) r → (to & out′) ≡ putRow out i new → out′ ≡ rowWritten key rows i out
+  pub row-written : (i : ℕ) (r new : Row) (out out′ : List ℕ) (to : ℕ) → r ≡ inputRow rows i → new ≡ renamedRowT (renamed (placeOf key)) r → (to & out′) ≡ putRow out i new → out′ ≡ rowWritten key rows i out
   unfolding rowWritten leftBy
   row-written i r new out out′ to got is w = ap leftBy (rw (is, got) at w)
 

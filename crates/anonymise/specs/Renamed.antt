@@ -6,12 +6,17 @@ use Rattle.kit.specs.Out.{Out, _&_}
 use Rattle.rules.specs.Versions.{topName}
 use Rattle.rules.specs.Answer.{rowsOf}
 use Rattle.renaming.specs.Renaming.{renamed, nameIn, namesOf, firsts, placeOf}
-use Rattle.rows.specs.Taken.{rowAt}
+use Rattle.rows.specs.Taken.{rowTo}
 use Rattle.rows.specs.declared.row.Index.{Index}
 use Rattle.rows.specs.declared.row.Index.the-variants.{Number, Name}
 use Rattle.rows.specs.declared.row.Row.{Row}
 use Rattle.rows.specs.declared.row.Row.the-variants.{Field, Decl, Ref, Path, Outer, Case, Open, Close, Export, Broken}
 use Rattle.put.specs.Put.{putRow}
+
+-- the row of an input
+unfoldable pub inputRow : (bytes : List ℕ) (i : ℕ) → Row
+unfolding rowTo
+inputRow bytes i = rowTo topName bytes i
 
 -- ---- the names of a row
 
@@ -59,7 +64,7 @@ leftBy (to & out) = out
 
 -- the row at i to its own place: a name becomes its place in the key
 unfoldable pub rowWritten : (key rows : List ℕ) (i : ℕ) (out : List ℕ) → List ℕ
-rowWritten key rows i out = leftBy (putRow out i (renamedRowT (renamed (placeOf key)) (rowAt rows i)))
+rowWritten key rows i out = leftBy (putRow out i (renamedRowT (renamed (placeOf key)) (inputRow rows i)))
 
 -- the rows from i on, so many
 unfoldable pub rowsWritten : (key rows : List ℕ) (i left : ℕ) (out : List ℕ) → List ℕ

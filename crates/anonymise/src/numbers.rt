@@ -6,17 +6,26 @@ use names::Found;
 use names::Slot;
 use rows::row::Index;
 use rows::row::Row;
-use rows::row::row_at;
+use rows::row::row_to;
 ghost use mathlib.Core.Path.{_≡_};
 ghost use Prim.Native.Nat.{_+_, _<_, _≤_};
 ghost use lib.ListN.{length};
 ghost use Rattle.renaming.specs.Renaming.{nameIn};
-ghost use Rattle.rows.specs.Taken.{rowAt};
 ghost use Rattle.anonymise.specs.Seen.{Knows, Enters, newName};
-ghost use Rattle.anonymise.specs.Renamed.{indexNamesT, rowNamesT, renamedIndexT, renamedRowT};
+ghost use Rattle.anonymise.specs.Renamed.{inputRow, indexNamesT, rowNamesT, renamedIndexT, renamedRowT};
 
 // The space under which all names are entered.
 const NAMES: u32 = 0;
+
+// The highest name of an input.
+const TOP: u32 = 2147483647;
+
+// The row at i of an input, Broken where there is none.
+pub(crate) fn input_row(rows: &[u8], i: usize) -> Row
+    ensures { λ r. ⌜ r ≡ inputRow (now (rows .entry)) i ⌝ }
+{
+    row_to(rows, i, TOP)
+}
 
 // ---- names are entered
 
@@ -59,9 +68,9 @@ pub(crate) fn enter_row(
     used: usize,
 ) -> usize
     requires { ⌜ Knows (now table) (now index) used × (used + 2 ≤ length (now table)) ⌝ }
-    ensures { λ r. ⌜ Enters (now (table .entry)) used (rowNamesT (rowAt (now (rows .entry)) i)) (now (table .exit)) (now (index .exit)) r ⌝ }
+    ensures { λ r. ⌜ Enters (now (table .entry)) used (rowNamesT (inputRow (now (rows .entry)) i)) (now (table .exit)) (now (index .exit)) r ⌝ }
 {
-    match row_at(rows, i) {
+    match input_row(rows, i) {
         Row::Decl {
             space: _,
             name,

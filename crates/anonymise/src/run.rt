@@ -1,5 +1,6 @@
 // The whole run on a form: refusals 1 to 5, then its names are entered, and its rows written with numbers for names.
 use crate::numbers::enter_row;
+use crate::numbers::input_row;
 use crate::numbers::renamed_row;
 use form::header::HEADER;
 use form::header::Header;
@@ -9,7 +10,6 @@ use names::slot_at;
 use put::put_row;
 use reader::read::Reading;
 use reader::read::read;
-use rows::row::row_at;
 ghost use mathlib.Core.Path.{_≡_};
 ghost use Prim.Native.Nat.{_*_, _/_, _≤_, _<_};
 ghost use lib.ListN.{length, take};
@@ -54,7 +54,7 @@ fn write_row(rows: &[u8], i: usize, table: &[Slot], index: &[u16], used: usize, 
     requires { ⌜ Knows (now table) (now index) used ⌝ }
     ensures { λ _. ⌜ now (out .exit) ≡ rowWritten (seenIn (now (table .entry)) used) (now (rows .entry)) i (now (out .entry)) ⌝ }
 {
-    put_row(out, i, renamed_row(table, index, used, row_at(rows, i)));
+    put_row(out, i, renamed_row(table, index, used, input_row(rows, i)));
 }
 
 // Writes all rows so.

@@ -7,7 +7,7 @@ ghost use Rattle.names.specs.Table.{emptySlot};
 ghost use Rattle.checking.specs.CheckAnswer.{cleared};
 
 // The first slots become empty, as far as there are any.
-pub(crate) fn clear_table(table: &mut [Slot], size: usize)
+pub fn clear_table(table: &mut [Slot], size: usize)
     ensures { λ _. ⌜ now (table .exit) ≡ cleared size emptySlot (now (table .entry)) ⌝ }
 {
     if table.len() < size {
@@ -18,7 +18,7 @@ pub(crate) fn clear_table(table: &mut [Slot], size: usize)
 }
 
 // The first numbers of the index become 0, as far as there are any.
-pub(crate) fn clear_index(index: &mut [u16], size: usize)
+pub fn clear_index(index: &mut [u16], size: usize)
     ensures { λ _. ⌜ now (index .exit) ≡ cleared size 0 (now (index .entry)) ⌝ }
 {
     if index.len() < size {

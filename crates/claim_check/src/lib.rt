@@ -1,5 +1,5 @@
 // Checks another assembler's output: whether it is one of an input.
-mod area;
+pub mod area;
 mod conditions;
 pub mod run;
 

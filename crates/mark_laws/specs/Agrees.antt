@@ -396,7 +396,7 @@ bytes-are zero [] (r ∷ rs) p h e = absurd (cons≢nil e)
 bytes-are (suc count) bs [] p h e = absurd (cons≢nil (sym e))
 bytes-are (suc count) bs (r ∷ rs) p h e =
     let l = length-drop 16 bs in
-    let first : encodeRow r ≡ take 16 bs = encode-again bs r p (omega arith) (sym (head-eq-of-cons-eq e)) in
+    let first : encodeRow r ≡ take 16 bs = encode-again topName bs r p (omega arith) (sym (head-eq-of-cons-eq e)) in
     sym (take-append-drop 16 bs) ∙ ap₂ (λ (x y : List ℕ). x ++ y) (sym first) (bytes-are count (drop 16 bs) rs (bytes-drop 16 bs p) (omega arith) (tail-eq-of-cons-eq e))
 
 module _ (rows : List ℕ) where

@@ -19,6 +19,7 @@ use Rattle.rules.specs.Answer as rules
 use Rattle.rules.specs.Answer.{accepted, mapAnswer, rowCount, rowsOf, resolved, answerInside, outputAfter, outputInside}
 use Rattle.rules.specs.Laws.RowLaws.{Bytes, bytes-drop}
 use Rattle.rules.specs.Laws.Reading.ReadRight.{reads-form}
+use Rattle.rules.specs.Laws.Meaning.Names.{low-scope}
 use Rattle.rules.specs.Laws.Meaning.ReadNames.{read-low}
 use Rattle.read_form.specs.ReadForm.{_andThen_}
 use Rattle.batching.specs.Batch.{insideAnswer, insideOutput}
@@ -89,7 +90,7 @@ module _ (v : Version) (able : Able v) (some-scope : 1 ≤ v .scopes) (root : En
     begun : Begun sizes entered names scopes used 1 (root ∷ []) t
     unfolding sizes Envs Below
     begun =
-        let at = at-form rows all (flatten t) (sym (f .of-tree)) in
+        let at = at-form topName rows all (omega arith) (flatten t) (sym (f .of-tree)) in
         let count = at .1 in
         let open-room = long in
         let n = seated .name-is in
@@ -109,10 +110,10 @@ module _ (v : Version) (able : Able v) (some-scope : 1 ≤ v .scopes) (root : En
     pub inside-walks : (out : List ℕ) → 64 * (length rows / 16) ≤ length out → Walks (resolveInside today (root ∷ []) t) out (walkInside (under v) name used rows ends entered names out)
     unfolding walkInside
     inside-walks out room =
-        let at = at-form rows all (flatten t) (sym (f .of-tree)) in
+        let at = at-form topName rows all (omega arith) (flatten t) (sym (f .of-tree)) in
         let count = at .1 in
         seen (resolveInside today (root ∷ []) t) out _
-        (inside-agrees sizes rows (endsTo (v .scopes) rows ends) t fits (at .0) ends-in (f .good) (read-low today (v .scopes) topName (length rows / 16) rows t (omega arith) (reads-form today (v .scopes) (rowsOf topName (length rows / 16) rows) t f (omega arith)))
+        (inside-agrees sizes rows (endsTo (v .scopes) rows ends) t fits (at .0) ends-in (f .good) (low-scope t (read-low today (v .scopes) topName (length rows / 16) rows t (omega arith) (reads-form today (v .scopes) (rowsOf topName (length rows / 16) rows) t f (omega arith))))
         (root ∷ []) (v .scopes - 1) used 1 entered names scopes low begun out (omega arith))
 
 -- ---- the answer

@@ -265,7 +265,7 @@ raw-low (raw code b e x y z) =
     (all-append (bytes 1 b) _ (bytes-low 1 b)
     (all-append (bytes 2 e) _ (bytes-low 2 e) (all-append (bytes 4 x) _ (bytes-low 4 x) (all-append (bytes 4 y) _ (bytes-low 4 y) (bytes-low 4 z)))))
 
-rows-low : (rs : List Row) → Bytes (rowsBytes rs)
+pub rows-low : (rs : List Row) → Bytes (rowsBytes rs)
 unfolding rowsBytes encodeRow
 rows-low [] = done
 rows-low (r ∷ rs) = all-append (rawBytes (encode r)) (rowsBytes rs) (raw-low (encode r)) (rows-low rs)

@@ -8,7 +8,7 @@ pub enter-row-spec : {M : Type 1} → statement M
 enter-row-spec =
     tie.close
     (tie.spec
-    (λ c κs. search needs)  -- row-at-requires
+    (λ c κs. search needs)  -- input-row-requires
     (λ c. search needs)  -- enum-known-name
     (λ c κs. search needs)  -- enter-requires
     (λ c. search needs)  -- enum-known-at

@@ -1,0 +1,243 @@
+-- The ways through the code.
+use mathlib.Core.Path.{_≡_, refl, sym, ap, _∙_}
+use mathlib.Core.Bool.{Bool, true, false, _||_}
+use mathlib.Core.List.{List, [], _∷_, _++_}
+use native.Mathlib.Omega.{arith}
+use Prim.Native.Nat.{ℕ, _+_, _-_, _*_, _/_, _<_, _≤_}
+use lib.ListN.{length, getD, take, drop, replicate, length-drop}
+use lib.Dec.{ltb}
+use lib.Seq.{take-at, take-all, length-take-le}
+use borrow.Author.Tests.{ltb-false}
+use mir.Syntax.{w8}
+use mir.Val.{Fits}
+use Rattle.kit.specs.Out.{_&_}
+use Rattle.kit.proofs.Laws.{tests}
+use Rattle.rules.specs.Tools.{if_then_else_}
+use Rattle.rules.specs.Versions.{base}
+use Rattle.rules.specs.Rows.{Row}
+use Rattle.rules.specs.Answer as rules
+use Rattle.rules.specs.Answer.{refused, accepted, answer, output}
+use Rattle.rules.specs.Laws.Demand3.{base-usual}
+use Rattle.read_form.specs.Laws.OutputLength.{output-length}
+use Rattle.checking.specs.Check as judged
+use Rattle.checking.specs.CheckAnswer.{slotsOf, linksOf, checkAnswer, cleared, tableAfter, indexAfter}
+use Rattle.sharing.specs.Sharing.{shared, sharedOutput}
+use Rattle.sharing.specs.Laws.SharedAccepted.{shared-refuses}
+use Rattle.sharing.specs.Laws.SharedBuffer.{refused-buffer}
+use Rattle.refusal.specs.declared.Refusal.{Refusal}
+use Rattle.limits.specs.Held.{setting}
+use Rattle.form.specs.Marked.{endsT}
+use Rattle.names.specs.Table.{Slot, emptySlot}
+use Rattle.index.specs.Indexed.{Holds}
+use Rattle.mark.specs.Marked.{markedT}
+use Rattle.resolver.specs.Meaning.{Said, meaning, ruled}
+use Rattle.resolver.specs.Run.{Ran, noSlots, noEnds, walkT, fillT, before}
+use Rattle.resolver.specs.declared.run.Answer.{Answer}
+use Rattle.resolver.proofs.Bytes.{all-bytes}
+use Rattle.resolver.proofs.Starts.{served-start}
+use Rattle.moved.proofs.Agrees.{Counted, answer-counted}
+use Rattle.claim_check.specs.Meaning as checked
+use Rattle.claim_check.proofs.Agrees.{table-cleared, index-cleared}
+use Rattle.claim_check.specs.declared.Verdict.{Verdict}
+use Rattle.claim_check.specs.declared.Verdict.the-variants.{Yes, No, Refused as NotJudged}
+use Rattle.share.specs.Lent.{tooSmall, sharedWith, outputWith}
+use Rattle.share.specs.declared.Own.{Own}
+use Rattle.share.specs.Run as run
+use Rattle.share.specs.Run.{markT, walkedT, noRows, proposeT, Roomy, isYes, Large, Resolved}
+use Rattle.share.proofs.Agrees.{roomy, answers-shared, check-yes, front-shared, rows-shared, none-accepted}
+
+-- ---- mark_form
+
+pub empty-holds : Holds (replicate 1024 emptySlot) (replicate 2048 0) 0
+empty-holds = served-start 0 refl .free
+
+pub marked-form : (rows ends marked marked′ : List ℕ) (table′ : List Slot) → ends ≡ endsT rows noEnds → (table′ & marked′) ≡ markedT rows ends noSlots marked → marked′ ≡ markT rows marked
+unfolding markT run.rowsOf
+marked-form rows ends marked marked′ table′ p q = ap run.rowsOf (q ∙ ap (λ (x : List ℕ). markedT rows x noSlots marked) p)
+
+-- ---- walk_marked
+
+pub marked-walked : (rows marked part front front′ : List ℕ) (r : Answer) → length rows ≤ length marked → part ≡ markT rows (take (length rows) marked) → length part ≡ length (take (length rows) marked)
+    → (r & front′) ≡ fillT (setting 0) (walkT (take (length rows) (part ++ drop (length rows) marked))) front → (r & front′) ≡ walkedT rows marked front
+unfolding walkedT
+marked-walked rows marked part front front′ r h p l q =
+    q ∙ ap (λ (x : List ℕ). fillT (setting 0) (walkT x) front) (take-at part (drop (length rows) marked) (length rows) (l ∙ length-take-le (length rows) marked h) ∙ p)
+
+-- ---- propose
+
+pub proposed : (form out front : List ℕ) (r : Answer) (size : ℕ) → size ≡ 8 + 64 * ((length form - 8) / 16) → (r & front) ≡ walkedT (take (length form - 8) (drop 8 form)) noRows (take size out) → (r & front ++ drop size out) ≡ proposeT form out
+unfolding proposeT before
+proposed form out front r size e q =
+    let d : length (drop 8 form) ≡ length form - 8 = length-drop 8 form in
+    let all : take (length form - 8) (drop 8 form) ≡ drop 8 form = take-all (length form - 8) (drop 8 form) (omega arith) in
+    rw (d, ← e) (ap (λ (y : Ran). before y (drop size out)) (q ∙ ap (λ (b : List ℕ). walkedT b noRows (take size out)) all))
+
+-- ---- front_of
+
+module _ (out : List ℕ) (rows : ℕ) where
+  pub front-all : length out < 8 + 16 * rows → out ≡ take (8 + 16 * rows) out
+  front-all h = sym (take-all (8 + 16 * rows) out (omega arith))
+
+-- ---- is_output
+
+module _ (form claim : List ℕ) (slots links : ℕ) (v : Verdict) (e : checked.meaning v ≡ checked.ruled (checkAnswer base form claim slots links)) where
+  -- whether it says yes
+  abbrev says : checked.Said → Bool
+  says checked.yes = true
+  says (checked.no condition row) = false
+  says (checked.refused number place) = false
+
+  ruled-yes : (w : judged.Verdict) → says (checked.ruled w) ≡ isYes w
+  unfolding isYes
+  ruled-yes judged.yes = refl
+  ruled-yes (judged.no condition row) = refl
+  ruled-yes (judged.refused number place carried) = refl
+
+  told : says (checked.meaning v) ≡ isYes (checkAnswer base form claim slots links)
+  told = ap says e ∙ ruled-yes (checkAnswer base form claim slots links)
+
+  pub is-yes : v ≡ Yes → true ≡ isYes (checkAnswer base form claim slots links)
+  is-yes q = ap (λ (w : Verdict). says (checked.meaning w)) (sym q) ∙ told
+
+  pub is-no : (condition row : ℕ) → v ≡ No condition row → false ≡ isYes (checkAnswer base form claim slots links)
+  is-no condition row q = ap (λ (w : Verdict). says (checked.meaning w)) (sym q) ∙ told
+
+  pub is-refusal : (why : Refusal) → v ≡ NotJudged why → false ≡ isYes (checkAnswer base form claim slots links)
+  is-refusal why q = ap (λ (w : Verdict). says (checked.meaning w)) (sym q) ∙ told
+
+-- ---- is_small
+
+module _ (slots links : ℕ) where
+  pub small-slots : slots < 2046 → true ≡ tooSmall slots links
+  unfolding tooSmall
+  small-slots h = let t : ltb slots 2046 ≡ true = omega tests in rw t
+
+  pub small-links : 2046 ≤ slots → (b : Bool) → b ≡ ltb links 3070 → b ≡ tooSmall slots links
+  unfolding tooSmall
+  small-links h b e = let t : ltb slots 2046 ≡ false = omega tests in rw t e
+
+  large : tooSmall slots links ≡ false → (2046 ≤ slots) × (3070 ≤ links)
+  unfolding tooSmall
+  large e = go (ltb slots 2046) (ltb links 3070) refl refl e
+    where
+      go : (a b : Bool) → ltb slots 2046 ≡ a → ltb links 3070 ≡ b → (a || b) ≡ false → (2046 ≤ slots) × (3070 ≤ links)
+      go true b p q z = let y : _≡_ {A = ℕ} 0 1 = cc in absurd (omega arith)
+      go false true p q z = let y : _≡_ {A = ℕ} 0 1 = cc in absurd (omega arith)
+      go false false p q z = (ltb-false slots 2046 p, ltb-false links 3070 q)
+
+-- ---- the areas
+
+module _ (form : List ℕ) where
+  pub table-empty : (old new : List Slot) → new ≡ cleared 2046 emptySlot old → new ≡ tableAfter base form old
+  table-empty old new e = table-cleared form old old new (record { long = refl; rest = refl }) (unfold slotsOf in e)
+
+  pub index-empty : (old new : List ℕ) → new ≡ cleared 3070 0 old → new ≡ indexAfter base form old
+  index-empty old new e = index-cleared form old old new (record { long = refl; rest = refl }) (unfold linksOf slotsOf in e)
+
+-- ---- share, where an area is too small
+
+none-left : (l : List ℕ) → length l ≡ 0 → l ≡ []
+none-left [] e = refl
+none-left (x ∷ l) e = absurd (omega arith)
+
+module _ (input old : List ℕ) (slots links : ℕ) (b : Bool) (is : b ≡ tooSmall slots links) (t : b ≡ true) where
+  small : true ≡ tooSmall slots links
+  small = sym t ∙ is
+
+  refuses : ruled (answer base input 0) ≡ ruled (shared base input 0)
+  refuses = go (answer base input 0) refl
+    where
+      go : (a : rules.Answer) → answer base input 0 ≡ a → ruled (answer base input 0) ≡ ruled (shared base input 0)
+      go (refused n z c) q = ap ruled (q ∙ sym (shared-refuses base input 0 n z c q))
+      go (accepted rs) q = none-accepted input rs q
+
+  pub small-answers : (r : Answer) → meaning r ≡ ruled (answer base input (length (take 0 old))) → meaning r ≡ ruled (sharedWith input (length old) slots links)
+  unfolding sharedWith if_then_else_
+  small-answers r m = rw (← small) (m ∙ refuses)
+
+  pub small-leaves : (new : List ℕ) → new ≡ output base input (take 0 old) → new ++ drop 0 old ≡ outputWith input old slots links
+  unfolding outputWith if_then_else_
+  small-leaves new e =
+      let n : new ≡ [] = none-left new (ap length e ∙ (unfold output in output-length [] base base-usual input [])) in
+      rw (← small, n)
+
+-- ---- settle
+
+same : (input old : List ℕ) → length (output base input old) ≡ length old
+same input old = unfold output in output-length [] base base-usual input old
+
+module _ (input now : List ℕ) (R : Resolved input now) (all : (i : ℕ) → Fits w8 (getD input i 0)) where
+  pub left-roomy : Roomy input now
+  left-roomy = roomy input (R .old) (all-bytes input all) (R .own) (R .accepts) now (ap length (R .left) ∙ same input (R .old))
+
+  module _ (a : Answer) (l : List ℕ) (p : (a & l) ≡ proposeT input now) where
+    pub shares : (meaning a ≡ ruled (shared base input (length (R .old)))) × (l ≡ sharedOutput base input (R .old))
+    shares = answers-shared input (R .old) (all-bytes input all) (R .own) (R .accepts) a l (p ∙ ap (proposeT input) (R .left)) (same input (R .old))
+
+    -- it is never refused
+    pub never-refused : (slots links : ℕ) → Large slots links → (rows : ℕ) (claim : List ℕ) (y : Bool) → rows ≡ meaning a .plain .place → claim ≡ take (8 + 16 * rows) l → y ≡ isYes (checkAnswer base input claim slots links) → y ≡ false → ⊥
+    unfolding isYes
+    never-refused slots links z rows claim y r c f e =
+        let bs = all-bytes input all in
+        let n = r ∙ (ap (λ (x : Said). x .plain .place) (shares .0) ∙ rows-shared input (R .old) bs (R .own) (R .accepts)) in
+        let t = check-yes input (R .old) bs (R .own) (R .accepts) slots links (z .slots-large) (z .links-large) in
+        let g : isYes (checkAnswer base input claim slots links) ≡ true = rw (c ∙ front-shared input (R .old) bs (R .own) (R .accepts) l (shares .1) rows n, t) in
+        let d : false ≡ true = sym e ∙ (f ∙ g) in
+        let u : _≡_ {A = ℕ} 0 1 = cc in
+        omega arith
+
+-- ---- share_in
+
+module _ (input old now : List ℕ) (o : Own) (Q : run.Ran input old now o) where
+  -- the number is the rules'
+  number-is : (a : rules.Answer) → answer base input (length old) ≡ a → o .number ≡ ruled a .plain .number
+  number-is a q = Q .numbered ∙ ap (λ (x : Said). x .plain .number) (Q .answers ∙ ap ruled q)
+
+  -- a refusal is the input's
+  refused-own : (o .number ≡ 0 → ⊥) → (n : ℕ) × (z : ℕ) × (c : List ℕ) × (answer base input (length old) ≡ refused n z c)
+  refused-own h = go (answer base input (length old)) refl
+    where
+      go : (a : rules.Answer) → answer base input (length old) ≡ a → (n : ℕ) × (z : ℕ) × (c : List ℕ) × (answer base input (length old) ≡ refused n z c)
+      go (refused n z c) q = (n, z, c, q)
+      go (accepted rs) q = absurd (h (number-is (accepted rs) q))
+
+  pub own-answers : (o .number ≡ 0 → ⊥) → meaning (o .answer) ≡ ruled (shared base input (length old))
+  own-answers h = let q = refused-own h in Q .answers ∙ ap ruled (q .3 ∙ sym (shared-refuses base input (length old) (q .0) (q .1) (q .2) (q .3)))
+
+  pub own-leaves : (o .number ≡ 0 → ⊥) → now ≡ sharedOutput base input old
+  own-leaves h = let q = refused-own h in Q .leaves ∙ sym (refused-buffer base input old (q .0) (q .1) (q .2) (q .3))
+
+  -- and what is none has rows
+  accepted-own : o .number ≡ 0 → (rs : List Row) × (answer base input (length old) ≡ accepted rs)
+  accepted-own h = go (answer base input (length old)) refl (answer-counted base input (length old))
+    where
+      go : (a : rules.Answer) → answer base input (length old) ≡ a → Counted a → (rs : List Row) × (answer base input (length old) ≡ accepted rs)
+      go (refused n z c) q some = let x = number-is (refused n z c) q in absurd (omega (arith, x, h, some))
+      go (accepted rs) q some = (rs, q)
+
+  module _ (h : o .number ≡ 0) where
+    pub own-resolved : Resolved input now
+    own-resolved = let a = accepted-own h in record { old = old; own = a .0; accepts = a .1; left = Q .leaves }
+
+    module _ (all : (i : ℕ) → Fits w8 (getD input i 0)) (a : Answer) (l : List ℕ) (p : (a & l) ≡ proposeT input now) where
+      pub proposal-answers : meaning a ≡ ruled (shared base input (length old))
+      unfolding own-resolved
+      proposal-answers = shares input now own-resolved all a l p .0
+
+      pub proposal-leaves : l ≡ sharedOutput base input old
+      unfolding own-resolved
+      proposal-leaves = shares input now own-resolved all a l p .1
+
+-- ---- share, where they are not
+
+module _ (slots links : ℕ) (b : Bool) (is : b ≡ tooSmall slots links) (t : b ≡ false) where
+  pub large-areas : Large slots links
+  large-areas = let z = large slots links (sym is ∙ t) in record { slots-large = z .0; links-large = z .1 }
+
+  pub answers-with : (input : List ℕ) (room : ℕ) (r : Answer) → meaning r ≡ ruled (shared base input room) → meaning r ≡ ruled (sharedWith input room slots links)
+  unfolding sharedWith if_then_else_
+  answers-with input room r p = let f : tooSmall slots links ≡ false = sym is ∙ t in rw f p
+
+  pub leaves-with : (input old l : List ℕ) → l ≡ sharedOutput base input old → l ≡ outputWith input old slots links
+  unfolding outputWith if_then_else_
+  leaves-with input old l p = let f : tooSmall slots links ≡ false = sym is ∙ t in rw f p

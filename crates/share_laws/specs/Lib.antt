@@ -1,0 +1,2 @@
+-- The walk over marked rows.
+pub mod Walked

@@ -1,0 +1,91 @@
+-- The walk over the marked rows of a form writes what the rules' steps make of the marked tree: under any version that the walk is able
+-- to take, in tables of any size that is enough.
+use mathlib.Core.Path.{_≡_, refl, sym, ap₂, _∙_}
+use mathlib.Core.Option.{some}
+use mathlib.Core.List.{List, [], map, append-nil}
+use native.Mathlib.Omega.{arith}
+use Prim.Native.Nat.{ℕ, _*_, _/_, _≤_}
+use lib.ListN.{length, replicate, length-replicate}
+use Rattle.rules.specs.Versions.{Version, today}
+use Rattle.rules.specs.Tree.{Scope, scope, flatten}
+use Rattle.rules.specs.Good.{GoodScope, height}
+use Rattle.rules.specs.Readings.{fieldsOf}
+use Rattle.rules.specs.Rules.{resolve}
+use Rattle.rules.specs.Answer.{rowsBytes, rowsOf}
+use Rattle.rules.specs.Laws.ToolLaws.{All}
+use Rattle.rules.specs.Laws.RowLaws.{Written}
+use Rattle.rules.specs.Laws.Meaning.Names.{LowScope, low-scope}
+use Rattle.rules.specs.Laws.Output.OutFits.{outName}
+use Rattle.rules.specs.Laws.Reading.BeginsWritten.{rows-again}
+use Rattle.read_form.specs.Laws.OutputLength.{rows-length}
+use Rattle.unresolving.specs.Laws.Answered.{rows-low}
+use Rattle.sharing.specs.Sharing.{mark, propose}
+use Rattle.sharing.specs.Laws.Marks
+use Rattle.sharing.specs.Laws.Marks.{marked-like}
+use Rattle.form.specs.Marked.{endsTo}
+use Rattle.form.specs.Ends.{Ends, EndsIn}
+use Rattle.form.proofs.EndsStorey.{ends-to-right}
+use Rattle.names.specs.Table.{Slot, noScope}
+use Rattle.agree.specs.Sizes.{Sizes, Fits, Sized}
+use Rattle.agree.specs.At.{At}
+use Rattle.agree.specs.AtLaws.{at-form}
+use Rattle.agree.specs.RootAgrees.{inside-agrees, begun-alone}
+use Rattle.resolver.specs.Run.{walkIn}
+use Rattle.resolver.proofs.Root.{under, Able, Walks, Rooms, seen}
+
+module _ (v : Version) (able : Able v) (ends : List ℕ) (entered names : List Slot) (rooms : Rooms v ends entered names) where
+  sizes : Sizes
+  sizes = record { entered = length entered; names = length names; scopes = v .scopes }
+
+  sized : Sized sizes entered names (replicate (v .scopes) noScope)
+  unfolding sizes
+  sized = record { room = refl; size = refl; depths = length-replicate (v .scopes) noScope }
+
+  module _ (t : Scope) (few : length (flatten t) ≤ v .rows) (good : GoodScope today t) (low : LowScope t) (shallow : height t ≤ v .scopes) (fit : All (Written outName) (flatten t)) where
+    abbrev rows : List ℕ
+    rows = rowsBytes (flatten (mark t))
+
+    -- there are as many of them
+    many : length (flatten (mark t)) ≡ length (flatten t)
+    many = Marks.like-rows _ t (mark t) (marked-like t)
+
+    pub marked-count : length rows / 16 ≡ length (flatten t)
+    marked-count =
+        let e = rows-length (flatten (mark t)) in
+        let m = many in
+        omega arith
+
+    -- and they are read, where the names of inserted fields are
+    again : rowsOf outName (length rows / 16) rows ≡ map some (flatten (mark t))
+    again =
+        let fits = Marks.like-fits _ (omega (arith, able .few)) t (mark t) (marked-like t) fit in
+        ap₂ (λ (k : ℕ) (l : List ℕ). rowsOf outName k l) (marked-count ∙ sym many) (sym (append-nil rows)) ∙ rows-again outName (flatten (mark t)) [] fits
+
+    stands : At rows 0 (flatten (mark t))
+    stands = at-form outName rows (rows-low (flatten (mark t))) (omega arith) (flatten (mark t)) again .0
+
+    fits : Fits sizes rows
+    unfolding sizes
+    fits =
+        let a = able .shallow in
+        let n = marked-count in
+        record { short = omega (arith, rooms .entered); entered = rooms .entered-narrow; names = rooms .names-narrow; scopes = omega arith }
+
+    deep : height (mark t) ≤ v .scopes
+    deep = omega (arith, Marks.like-height _ t (mark t) (marked-like t))
+
+    ends-in : EndsIn (mark t) (endsTo (v .scopes) rows ends) 0
+    unfolding EndsIn
+    ends-in = go (mark t) (ends-to-right (v .scopes) outName rows ends (mark t) (sym again) deep (omega (arith, rooms .ends, marked-count)) (omega (arith, able .few, marked-count)))
+      where
+        go : (s : Scope) → Ends (fieldsOf s) (endsTo (v .scopes) rows ends) 1 → EndsIn s (endsTo (v .scopes) rows ends) 0
+        go (scope kind name fs) h = h
+
+    -- THE WALK OVER THE MARKED ROWS, with four times the room
+    pub marked-walks : (out : List ℕ) → 64 * length (flatten t) ≤ length out → Walks (propose today t) out (walkIn (under v) rows ends entered names out)
+    unfolding walkIn sizes propose resolve
+    marked-walks out room =
+        let L = marked-like t in
+        seen (propose today t) out _
+        (inside-agrees sizes rows (endsTo (v .scopes) rows ends) (mark t) fits stands ends-in (Marks.like-well _ today t (mark t) L good) (Marks.like-declared _ t (mark t) L (low-scope t low)) [] (v .scopes) 0 0 entered names (replicate (v .scopes) noScope) deep
+        (begun-alone sizes rows (endsTo (v .scopes) rows ends) (mark t) fits (omega (arith, rooms .names, marked-count)) deep entered names (replicate (v .scopes) noScope) sized stands) out (omega (arith, many)))
