@@ -428,6 +428,16 @@ uint64_t wnt_sheet(const uint8_t *form, size_t form_len, const uint8_t *resolved
                    const uint8_t *sheet, size_t sheet_len, uint8_t *answers, size_t answers_len, uint8_t *work,
                    size_t work_len);
 
+/* The same for forms of version 1 or 2, in the working areas of wnt_resolve_with besides `work`, which has to have the bytes
+ * of the longest output of the form's version: WNT_SHEET_AREA_SIZE, or WNT_MAX_OUT_SIZE_2. An area that is too small is
+ * refusal 3 at the place of a `work` that is too small, and after every return all of them are zero up to their sizes for
+ * that version; a header of neither version counts as version 1 there. */
+uint64_t wnt_sheet_with(const uint8_t *form, size_t form_len, const uint8_t *resolved, size_t resolved_len,
+                        const uint8_t *sheet, size_t sheet_len, uint8_t *answers, size_t answers_len, uint8_t *work,
+                        size_t work_len, wnt_slot *entered, size_t entered_len, wnt_slot *names, size_t names_len,
+                        uint16_t *known, size_t known_len, uint16_t *chains, size_t chains_len, uint32_t *ends,
+                        size_t ends_len);
+
 /* The bytes of an entry of the two lists of wnt_moved, and of the lists by the rows of the form. An entry of the first is
  * four little endian numbers of four bytes: the place, the space, the row of the form that declares what the number meant,
  * the row of the resolved form that declares what it gets. One of the second is three: the place, the space, the number.
@@ -451,6 +461,16 @@ uint64_t wnt_sheet(const uint8_t *form, size_t form_len, const uint8_t *resolved
  * beyond never change. No two of the four buffers may overlap, and for the rest what is said of wnt_resolve holds. */
 uint64_t wnt_moved(const uint8_t *form, size_t form_len, uint8_t *out, size_t out_len, uint8_t *moved, size_t moved_len,
                    uint8_t *apart, size_t apart_len);
+
+/* The same for a form of version 1 or 2, in the working areas of wnt_resolve_with: 64 bytes a row of `out` and its header are
+ * then those of the form's version. An area that is too small is refusal 3, and after every return, refusals too, the areas
+ * are zero up to their sizes for that version, as after wnt_resolve_with:
+ *
+ *     wnt_moved_with(form, form_len, out, out_len, moved, moved_len, apart, apart_len, WNT_LENT(&work)) */
+uint64_t wnt_moved_with(const uint8_t *form, size_t form_len, uint8_t *out, size_t out_len, uint8_t *moved,
+                        size_t moved_len, uint8_t *apart, size_t apart_len, wnt_slot *entered, size_t entered_len,
+                        wnt_slot *names, size_t names_len, uint16_t *known, size_t known_len, uint16_t *chains,
+                        size_t chains_len, uint32_t *ends, size_t ends_len);
 
 /* The bytes of the working area of wnt_member: the output of a prelude of as many rows as a form may have. */
 #define WNT_MEMBER_WORK 65480
