@@ -165,11 +165,9 @@ static inline const char *wnt_text(uint32_t number)
 
 /* The stack that is enough for any call on a form of version 1. Measured on x86-64 (compare/stack.c) at the driver of the
  * examples and at 32 open scopes: wnt_resolve 66,432 and 90,360 bytes, wnt_moved 66,656 and 90,584, wnt_check 71,472 and
- * 95,400, wnt_resolve_with 10,400 and 28,184, wnt_mend 24,160, wnt_compare 8,032, wnt_convert 7,888, wnt_meant 528; at the
+ * 95,400, wnt_resolve_with 10,400 and 28,184, wnt_mend 5,608, wnt_compare 8,032, wnt_convert 7,888, wnt_meant 528; at the
  * driver in itself and at 31 open scopes: wnt_member 97,056 and 120,816, wnt_batch 97,088 and 120,848. It does not depend
  * on the rows. */
- * 95,400, wnt_resolve_with 10,400 and 28,184, wnt_mend 5,608, wnt_compare 8,032, wnt_convert 7,888, wnt_meant 528. It does
- * not depend on the rows. */
 #define WNT_STACK_SIZE 131072
 
 /* The answer's upper half: one of the numbers above. */
