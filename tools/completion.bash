@@ -1,6 +1,6 @@
 # Completes the words of wnt in bash: the commands first, then files; behind help the commands again.
 _wnt() {
-    local commands='resolve check show explain moved diff verify convert sheet anonymise mend unresolve batch rows form help --help --version'
+    local commands='resolve check show draw explain moved diff verify convert sheet anonymise mend unresolve batch rows form help --help --version'
     local word=${COMP_WORDS[COMP_CWORD]}
     if [ "$COMP_CWORD" -eq 1 ]; then
         mapfile -t COMPREPLY < <(compgen -W "$commands" -- "$word")
@@ -11,7 +11,8 @@ _wnt() {
         local options=''
         case ${COMP_WORDS[1]} in
         check) options='--json' ;;
-        show | explain | moved | verify) options='--names --json' ;;
+        draw) options='--names' ;;
+        show | explain | moved | sheet | verify) options='--names --json' ;;
         diff) options='--places --fresh --names --json' ;;
         esac
         mapfile -t COMPREPLY < <(compgen -W "$options" -- "$word")

@@ -22,6 +22,10 @@ fn say_of_one(talk: i32) {
     );
     say(
         talk,
+        b"  wnt draw FORM           write a picture of a form, with an arc from each reference to what it means\n",
+    );
+    say(
+        talk,
         b"  wnt explain FORM PLACE  say which declaration the references with that place mean\n",
     );
     say(
@@ -108,7 +112,7 @@ fn help(talk: i32) {
     );
     say(
         talk,
-        b"Options stand behind the command: --names FILE and --json for show, explain, moved, diff and\nverify, --json for check, --places and --fresh for diff. wnt help COMMAND says more.\n",
+        b"Options stand behind the command: --names FILE and --json for show, explain, moved, sheet, diff\nand verify, --names FILE for draw, --json for check, --places and --fresh for diff. wnt help\nCOMMAND says more.\n",
     );
     say(
         talk,

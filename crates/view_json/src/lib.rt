@@ -41,7 +41,7 @@ fn say_parts(fd: i32, form: &[u8], row: u16) {
 }
 
 // The word that the file has for a name, or for an export name.
-fn say_word(fd: i32, names: &[u8], number: u32, is_export: bool) {
+pub fn say_word(fd: i32, names: &[u8], number: u32, is_export: bool) {
     let word = find(names, number, is_export);
     let from = word.from;
     let to = word.to;
@@ -85,7 +85,8 @@ fn say_declared(fd: i32, form: &[u8], row: u16) {
     }
 }
 
-fn say_meaning(fd: i32, key: &[u8], form: &[u8], meaning: Meaning) {
+// The declaration that is meant.
+pub fn say_meaning(fd: i32, key: &[u8], form: &[u8], meaning: Meaning) {
     match meaning {
         Meaning::At {
             row,

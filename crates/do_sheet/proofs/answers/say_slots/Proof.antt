@@ -5,10 +5,10 @@ use Rattle.do_sheet.proofs.answers.say_slots.Statement.{statement}
 use Rattle.do_sheet.proofs.answers.say_slots.Tie as tie
 
 abbrev Inv-loop : tie.InvT-loop
-Inv-loop fd form sheet answers count slot₀ slot = Unit {0}
+Inv-loop fd names form sheet answers count slot₀ slot = Unit {0}
 
 abbrev μ-loop : tie.MeasureT-loop
-μ-loop fd form sheet answers count slot₀ slot = count - slot
+μ-loop fd names form sheet answers count slot₀ slot = count - slot
 
 pub say-slots-spec : {M : Type 1} → statement M
 say-slots-spec =
