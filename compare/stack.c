@@ -25,6 +25,8 @@ static void check(void)
     answer = wnt_check(form, form_len, out, WNT_FORM_SIZE(out[6] + 256u * out[7]), table, SLOTS, index_of, LINKS);
 }
 
+static void share(void) { answer = wnt_share(form, form_len, out, sizeof out, table, SLOTS, index_of, LINKS); }
+
 static void list_moved(void)
 {
     answer = wnt_moved(form, form_len, out, sizeof out, moved, sizeof moved, apart, sizeof apart);
@@ -63,7 +65,7 @@ static const struct {
 } calls[] = {
     {"wnt_resolve", resolve}, {"wnt_check", check}, {"wnt_moved", list_moved}, {"wnt_resolve_with", resolve_with},
     {"wnt_mend", mend},       {"wnt_compare", compare}, {"wnt_convert", convert}, {"wnt_meant", meant},
-    {"wnt_member", member},   {"wnt_batch", batch},
+    {"wnt_member", member},   {"wnt_batch", batch}, {"wnt_share", share},
 };
 
 /* The bytes of the stack that were touched by one call. */

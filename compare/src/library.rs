@@ -60,6 +60,16 @@ unsafe extern "C" {
         index: *mut u16,
         links: usize,
     ) -> u64;
+    fn wnt_share(
+        form: *const u8,
+        form_len: usize,
+        out: *mut u8,
+        out_len: usize,
+        table: *mut [u32; 6],
+        slots: usize,
+        index: *mut u16,
+        links: usize,
+    ) -> u64;
     fn wnt_meant(prelude: *const u8, prelude_len: usize, member: *const u8, member_len: usize, row: u32) -> u64;
     fn wnt_batch(
         prelude: *const u8,
@@ -217,6 +227,23 @@ pub fn moved(form: &[u8], out: &mut [u8], moved: &mut [u8], apart: &mut [u8]) ->
 }
 
 /// The answer of `wnt_check`, which works in `table` and `index`.
+pub fn share(form: &[u8], out: &mut [u8], table: &mut [[u32; 6]], index: &mut [u16]) -> u64 {
+    let (slots, links) = (table.len(), index.len());
+    // SAFETY: the four parts are valid for their lengths and apart from each other for as long as the call lasts.
+    unsafe {
+        wnt_share(
+            form.as_ptr(),
+            form.len(),
+            out.as_mut_ptr(),
+            out.len(),
+            table.as_mut_ptr(),
+            slots,
+            index.as_mut_ptr(),
+            links,
+        )
+    }
+}
+
 pub fn check(form: &[u8], claim: &[u8], table: &mut [[u32; 6]], index: &mut [u16]) -> u64 {
     let (slots, links) = (table.len(), index.len());
     // SAFETY: the four parts are valid for their lengths, and the last two are apart from the others, for as long as the

@@ -29,6 +29,7 @@ mod samples;
 #[cfg(feature = "planted")]
 mod sensitivity;
 mod shapes;
+mod share;
 mod sheet;
 mod source;
 mod spoil;
@@ -74,6 +75,7 @@ compare --sheet N [--seed S]                   hold a binding sheet against N fo
 compare --check N [--seed S]                   check N claimed outputs, and compare with a checker written for it
 compare --check-bench N                        time checking beside resolving, the shortest of N calls each
 compare --moved-bench N                        time listing moved numbers beside resolving, the shortest of N calls each
+compare --share N [--seed S]                   resolve N forms with fewer aliases, and check and count them
 compare --told N [--seed S]                    compare on N forms what refusals tell besides
 compare --unresolve N [--seed S]               send N outputs of random forms back to names and round, and damaged ones
 compare --members N [--seed S]                 resolve N members inside preludes, and compare on trees that hold both
@@ -202,6 +204,8 @@ fn main() -> ExitCode {
         verify::run(&comparison(), number(&arguments, "--seed").unwrap_or(1), pairs)
     } else if let Some(outputs) = number(&arguments, "--unresolve") {
         names_back::run(&comparison(), number(&arguments, "--seed").unwrap_or(1), outputs)
+    } else if let Some(forms) = number(&arguments, "--share") {
+        share::run(&comparison(), number(&arguments, "--seed").unwrap_or(1), forms)
     } else if let Some(forms) = number(&arguments, "--told") {
         told::run(&comparison(), number(&arguments, "--seed").unwrap_or(1), forms)
     } else if let Some(pairs) = number(&arguments, "--members") {

@@ -17,8 +17,8 @@ pub const SLOTS: usize = 2046;
 pub const LINKS: usize = 3070;
 
 /// What the areas are filled with, to see what is left of it.
-const SLOT: [u32; 6] = [7, 6, 5, 4, 3, 2];
-const LINK: u16 = 0xa5a5;
+pub const SLOT: [u32; 6] = [7, 6, 5, 4, 3, 2];
+pub const LINK: u16 = 0xa5a5;
 
 #[derive(Clone, Copy, PartialEq, Eq, PartialOrd, Ord, Debug)]
 enum Kind {
@@ -105,7 +105,7 @@ fn claim(
 }
 
 /// Lengths of the two areas: mostly as they must be, else longer or too short.
-fn areas(chance: &mut Chance) -> (usize, usize) {
+pub fn areas(chance: &mut Chance) -> (usize, usize) {
     match chance.below(40) {
         0 => (SLOTS - 1, LINKS),
         1 => (SLOTS, LINKS - 1),
@@ -116,7 +116,7 @@ fn areas(chance: &mut Chance) -> (usize, usize) {
 }
 
 /// What an area holds after the call: zeros up to its size, and behind that what it held.
-fn left<T: Copy>(length: usize, size: usize, zero: T, held: T) -> Vec<T> {
+pub fn left<T: Copy>(length: usize, size: usize, zero: T, held: T) -> Vec<T> {
     (0..length).map(|at| if at < size { zero } else { held }).collect()
 }
 

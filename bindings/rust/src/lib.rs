@@ -25,6 +25,7 @@ mod back;
 mod bindings;
 mod builds;
 mod claims;
+mod fewer;
 mod members;
 mod mending;
 mod numbers;
@@ -38,6 +39,8 @@ pub use bindings::{sheet, sheet_bytes, sheet_into, Binding, Slot, ANSWER_SIZE, M
 pub use builds::{compare, Choice, Entry, Kind};
 pub use claims::{check, check_with, Condition, Verdict, CHECK_LINKS, CHECK_SLOTS};
 pub use members::{batch, batch_into, meant, member, Batch, Meant, Of, Refused, MAX_MEMBERS};
+pub use fewer::{share, share_into};
+pub use members::{meant, member, Meant, Of, Refused};
 pub use mending::{mend, Change};
 pub use numbers::{moved, Apart, Moved, Numbers};
 pub use refusal::Refusal;

@@ -22,13 +22,17 @@ use known::file::say_told;
 use libc::STDOUT_FILENO;
 use moved::run::Answer as Listing;
 use moved::run::moved as list_moved;
+use moved_list::list_numbers;
+use names::Slot;
 use options::given::Given;
 use options::given::JSON;
 use options::given::Options;
+use options::given::SHARED;
 use options::given::has;
 use options::given::read_options;
 use resolver::run::Answer;
 use resolver::run::resolve;
+use share::share;
 use view::accepted::say_accepted;
 use view_json::say_answer;
 use view_json::say_size;
@@ -58,6 +62,22 @@ fn save_form(form: &[u8], path: &[u8], moved: u32) -> u8 {
     }
 }
 
+// What sharing comes to: aliases that are not there, and written numbers that count to something else now.
+fn save_shared(form: &[u8], path: &[u8], moved: u32, spared: u32) -> u8 {
+    if save(path, form) {
+        let before = error_noted();
+        let talk = talk_beside(path);
+        say_accepted(talk, form);
+        say(talk, b"aliases spared: ");
+        say_number(talk, spared);
+        say(talk, b"\n");
+        say_moved(talk, moved);
+        said(DONE, before)
+    } else {
+        FAILED
+    }
+}
+
 // How many written numbers of an accepted form mean another declaration in its output. The two lists have room for every form.
 fn moved_in(form: &[u8]) -> u32 {
     let mut buffer = io::large_buffer();
@@ -77,33 +97,80 @@ fn resolve_form(form: &[u8], path: &[u8]) -> u8 {
     }
 }
 
+// How many written numbers of a form mean another declaration in this output of it.
+fn moved_to(form: &[u8], out: &[u8]) -> u32 {
+    let mut moved = [0u8; 16384];
+    let mut apart = [0u8; 12288];
+    list_numbers(form, out, &mut moved, &mut apart).moved
+}
+
+// How many aliases fewer so many rows have than the resolver's own output: an alias is three rows.
+fn spared_in(form: &[u8], rows: u32) -> u32 {
+    let mut buffer = io::large_buffer();
+    match resolve(form, &mut buffer) {
+        Answer::Accepted(own) => { if rows < own { (own - rows) / 3 } else { 0 } }
+        Answer::Refused(_, _) => 0,
+    }
+}
+
+fn share_form(form: &[u8], path: &[u8]) -> u8 {
+    let mut buffer = io::large_buffer();
+    let mut table: [Slot; 2046] = [[0u32; 6]; 2046];
+    let mut index = [0u16; 3070];
+    match share(form, &mut buffer, &mut table, &mut index) {
+        Answer::Accepted(rows) => {
+            let out = part(&buffer, bytes_of(rows));
+            save_shared(out, path, moved_to(form, out), spared_in(form, rows))
+        }
+        Answer::Refused(refusal, told) => refuse_told(form, path, refusal, told),
+    }
+}
+
 // Resolves the form in a file into another file.
-fn resolve_paths(from: &[u8], to: &[u8]) -> u8 {
+fn resolve_paths(from: &[u8], to: &[u8], is_shared: bool) -> u8 {
     let mut buffer = io::large_buffer();
     match load(from, &mut buffer) {
-        Loaded::Bytes(length) => resolve_form(part(&buffer, length), to),
+        Loaded::Bytes(length) => {
+            if is_shared {
+                share_form(part(&buffer, length), to)
+            } else {
+                resolve_form(part(&buffer, length), to)
+            }
+        }
         Loaded::Failed => FAILED,
     }
 }
 
-fn run_resolve(first: u8) -> u8 {
+fn resolve_with(options: Options) -> u8 {
+    let first = options.first;
     if !has_words(first, 3) {
-        wrong_count(b"wnt resolve IN OUT");
+        wrong_count(b"wnt resolve [--shared] IN OUT");
         return FAILED;
     }
     let mut from = io::buffer();
     let from_length = os::arg(behind(first, 1), &mut from);
     let mut to = io::buffer();
     let to_length = os::arg(behind(first, 2), &mut to);
-    resolve_paths(&from[..from_length], &to[..to_length])
+    resolve_paths(
+        &from[..from_length],
+        &to[..to_length],
+        has(options.set, SHARED),
+    )
+}
+
+fn run_resolve(first: u8) -> u8 {
+    match read_options(first, SHARED) {
+        Given::Options(given) => resolve_with(given),
+        Given::Wrong => FAILED,
+    }
 }
 
 pub fn resolve_command(task: Task, first: u8) -> u8 {
     match task {
         Task::Run => run_resolve(first),
         Task::Help => say_topic(
-            b"resolve IN OUT",
-            b"Resolves the form IN, writes the resolved form to OUT, and says how many rows and inserted\naliases it has, and how many written numbers mean another declaration now, if any do. A file\nOUT is written whole or not at all. A form that is refused is not written: the refusal is\nprinted, with its number, its place and what it means.\n",
+            b"resolve [--shared] IN OUT",
+            b"Resolves the form IN, writes the resolved form to OUT, and says how many rows and inserted\naliases it has, and how many written numbers mean another declaration now, if any do. A file\nOUT is written whole or not at all. A form that is refused is not written: the refusal is\nprinted, with its number, its place and what it means. With --shared references in one scope to\nthe same outer declaration share an alias, and how many aliases that spares is said.\n",
             b"accepted, and written",
             b"refused",
             b"resolve driver.wnt resolved.wnt",

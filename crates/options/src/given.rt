@@ -12,6 +12,8 @@ pub const NAMES: u8 = 4;
 
 pub const JSON: u8 = 8;
 
+pub const SHARED: u8 = 16;
+
 // The options that are given.
 pub struct Options {
     pub set: u8,
@@ -64,6 +66,8 @@ fn option_of(word: &[u8]) -> u8 {
         NAMES
     } else if same(word, b"--json") {
         JSON
+    } else if same(word, b"--shared") {
+        SHARED
     } else {
         0
     }
