@@ -10,6 +10,7 @@ _wnt() {
     elif [ "${word#--}" != "$word" ]; then
         local options=''
         case ${COMP_WORDS[1]} in
+        resolve) options='--shared' ;;
         check) options='--json' ;;
         draw) options='--names' ;;
         show | explain | moved | sheet | verify) options='--names --json' ;;

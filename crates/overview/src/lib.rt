@@ -112,7 +112,7 @@ fn help(talk: i32) {
     );
     say(
         talk,
-        b"Options stand behind the command: --names FILE and --json for show, explain, moved, sheet, diff\nand verify, --names FILE for draw, --json for check, --places and --fresh for diff. wnt help\nCOMMAND says more.\n",
+        b"Options stand behind the command: --names FILE and --json for show, explain, moved, sheet, diff\nand verify, --names FILE for draw, --json for check, --places and --fresh for diff, --shared for\nresolve. wnt help COMMAND says more.\n",
     );
     say(
         talk,
