@@ -386,6 +386,18 @@ enum wnt_condition {
  * `claim` may be the same, and for the rest what is said of wnt_resolve holds. */
 uint64_t wnt_check(const uint8_t *form, size_t form_len, const uint8_t *claim, size_t claim_len, wnt_slot *table,
                    size_t table_len, uint16_t *index, size_t index_len);
+
+/* Resolves a form of version 1 into `out` with fewer aliases: in each scope references to the same outer declaration share
+ * one inserted alias, which stands before the first field that needs it. References with PATHs share none, and written
+ * numbers keep their digits. It is what wnt_check says yes to, and has no more rows than what wnt_resolve writes.
+ *
+ * The answer's refusals, and what `out` holds afterwards, are as for wnt_resolve; the rows and the form are those with
+ * shared aliases. `table` and `index` are the areas of wnt_check: one that is smaller than said there is refusal 3 as an
+ * output that is too short, and after every return they hold what is said there. What stack it takes is not measured
+ * yet, and WNT_STACK_SIZE does not speak of it. */
+uint64_t wnt_share(const uint8_t *form, size_t form_len, uint8_t *out, size_t out_len, wnt_slot *table, size_t table_len,
+                   uint16_t *index, size_t index_len);
+
 /* A binding sheet: what each reference of a driver must mean, written down once. It has up to 200 slots, each three little
  * endian numbers of four bytes: the meter family (the caller's own), the place of a reference, the name of the declaration
  * that it must mean, not 0. An answer is two: one of the kinds below, and a row or 0. */

@@ -3,6 +3,7 @@ pub mod back;
 pub mod bindings;
 pub mod builds;
 pub mod claims;
+pub mod fewer;
 pub mod in_place;
 pub mod lent;
 pub mod members;
