@@ -396,8 +396,6 @@ uint64_t wnt_check(const uint8_t *form, size_t form_len, const uint8_t *claim, s
  * The answer's refusals, and what `out` holds afterwards, are as for wnt_resolve; the rows and the form are those with
  * shared aliases. `table` and `index` are the areas of wnt_check: one that is smaller than said there is refusal 3 as an
  * output that is too short, and after every return they hold what is said there. */
- * output that is too short, and after every return they hold what is said there. What stack it takes is not measured
- * yet, and WNT_STACK_SIZE does not speak of it. */
 uint64_t wnt_share(const uint8_t *form, size_t form_len, uint8_t *out, size_t out_len, wnt_slot *table, size_t table_len,
                    uint16_t *index, size_t index_len);
 
