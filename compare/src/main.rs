@@ -68,7 +68,9 @@ compare --convert N [--seed S]                 convert N forms, and compare with
 compare --mend N [--seed S]                    mend N spoilt forms, and compare with a mender written for it
 compare --meant N [--seed S]                   ask what the names of N members mean, and compare with a second reading
 compare --moved N [--seed S]                   list the moved numbers of N forms, and compare with a second reading
+compare --moved-with N [--seed S]              the same for forms of both versions, in working areas that are lent
 compare --sheet N [--seed S]                   hold a binding sheet against N forms, and compare with a second reading
+compare --sheet-with N [--seed S]              the same for forms of both versions, in working areas that are lent
 compare --sheet-vectors N [--seed S] > OTHER   write fixed vectors of binding sheets, at most N of each outcome
 compare --check N [--seed S]                   check N claimed outputs, and compare with a checker written for it
 compare --check-bench N                        time checking beside resolving, the shortest of N calls each
@@ -179,9 +181,13 @@ fn main() -> ExitCode {
         let seed = number(&arguments, "--seed").unwrap_or(1);
         std::io::stdout().write_all(&verify::vectors(&comparison(), seed, each as usize)).is_ok()
     } else if let Some(forms) = number(&arguments, "--moved") {
-        moved::run(number(&arguments, "--seed").unwrap_or(1), forms)
+        moved::run(number(&arguments, "--seed").unwrap_or(1), forms, false)
+    } else if let Some(forms) = number(&arguments, "--moved-with") {
+        moved::run(number(&arguments, "--seed").unwrap_or(1), forms, true)
     } else if let Some(forms) = number(&arguments, "--sheet") {
-        sheet::run(number(&arguments, "--seed").unwrap_or(1), forms)
+        sheet::run(number(&arguments, "--seed").unwrap_or(1), forms, false)
+    } else if let Some(forms) = number(&arguments, "--sheet-with") {
+        sheet::run(number(&arguments, "--seed").unwrap_or(1), forms, true)
     } else if let Some(most) = number(&arguments, "--sheet-vectors") {
         let vectors = sheet::vectors(number(&arguments, "--seed").unwrap_or(1), most as usize);
         std::io::stdout().write_all(&vectors).is_ok()

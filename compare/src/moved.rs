@@ -1,9 +1,11 @@
-//! Written numbers that insertions have moved: `wnt_moved` beside a reading of the rows of the input and of the output.
+//! Written numbers that insertions have moved: `wnt_moved` and `wnt_moved_with` beside a reading of the rows of the input and of the
+//! output.
 
 use crate::chance::Chance;
 use crate::generate;
+use crate::lent::{self, Lender};
 use crate::library;
-use crate::rows::{self, CLOSE, DECL, FIELD, FIRST_INSERTED, OPEN, OUTER, PATH, REF, Row};
+use crate::rows::{CLOSE, DECL, FIELD, FIRST, FIRST_INSERTED, OPEN, OUTER, PATH, REF, ROW, Row, SECOND, Version};
 use crate::shapes::Shapes;
 
 /// What the buffers are filled with, to see which bytes were changed.
@@ -137,57 +139,80 @@ struct Counts {
     apart: u64,
 }
 
+/// The output of the resolver and its answer; in areas that are lent, where there are any.
+pub fn resolved(form: &[u8], version: Version, out: &mut [u8], lender: Option<&mut Lender>) -> u64 {
+    match lender {
+        Some(lender) => library::resolve_with(form, out, &mut lender.areas_of(version)),
+        None => library::resolve(form, out),
+    }
+}
+
 /// One form: what the library answers and writes, held to the second reading. What differs, in words.
-fn one(shapes: &Shapes, chance: &mut Chance, counts: &mut Counts) -> Result<(), String> {
-    let form = numbered(&generate::form(shapes, chance.next()), chance);
-    let bytes = rows::encode(&form);
-    let mut out = vec![FILLED; rows::output_size(form.len()) + chance.below(40)];
-    let mut resolved = out.clone();
-    let answer = library::resolve(&bytes, &mut resolved);
+fn one(
+    shapes: &Shapes,
+    chance: &mut Chance,
+    counts: &mut Counts,
+    mut lender: Option<&mut Lender>,
+) -> Result<(), String> {
+    let version = if lender.is_some() && chance.percent(80) { SECOND } else { FIRST };
+    let form = numbered(&generate::form_of(version, shapes, chance.next()), chance);
+    let bytes = version.encode(&form);
+    let mut out = vec![FILLED; version.output_size(form.len()) + chance.below(40)];
+    let mut resolved_out = out.clone();
+    let answer = resolved(&bytes, version, &mut resolved_out, lender.as_deref_mut());
     let longer =
         |chance: &mut Chance, share: usize| share + chance.below(20) - usize::from(chance.percent(3) && share > 0);
     let (mut moved, mut apart) =
         (vec![FILLED; longer(chance, 16 * form.len())], vec![FILLED; longer(chance, 12 * form.len())]);
-    let got = library::moved(&bytes, &mut out, &mut moved, &mut apart);
-    let short = moved.len() < 16 * form.len() || apart.len() < 12 * form.len();
+    let lengths = lent::lengths(version, chance);
+    let enough = lender.is_none() || lent::are_enough(version, lengths);
+    let (got, cleared) = match lender {
+        Some(lender) => {
+            lender.call(&bytes, lengths, |areas| library::moved_with(&bytes, &mut out, &mut moved, &mut apart, areas))
+        }
+        None => (library::moved(&bytes, &mut out, &mut moved, &mut apart), true),
+    };
+    let short = moved.len() < 16 * form.len() || apart.len() < 12 * form.len() || !enough;
     let asked = answer >> 32 != 1 && answer >> 32 != 2;
     let (wanted, wanted_out, lists) = if short && asked {
         counts.short += 1;
         (3 << 32, vec![FILLED; out.len()], None)
     } else if answer >> 32 == 0 {
         counts.accepted += 1;
-        let lists = lists(&form, &rows::decode(&resolved[..rows::HEADER + rows::ROW * answer as usize]));
+        let lists = lists(&form, &version.decode(&resolved_out[..version.header + ROW * answer as usize]));
         counts.moved += lists.0.len() as u64;
         counts.apart += lists.1.len() as u64;
-        ((lists.1.len() as u64) * 65536 + lists.0.len() as u64, resolved, Some(lists))
+        ((lists.1.len() as u64) * 65536 + lists.0.len() as u64, resolved_out, Some(lists))
     } else {
-        (answer, resolved, None)
+        (answer, resolved_out, None)
     };
     let (first, second) = match lists {
         Some((m, a)) => (content(&m, 16 * form.len(), moved.len()), content(&a, 12 * form.len(), apart.len())),
         None => (vec![FILLED; moved.len()], vec![FILLED; apart.len()]),
     };
-    if (got, &out, &moved, &apart) == (wanted, &wanted_out, &first, &second) {
+    if (got, &out, &moved, &apart, cleared) == (wanted, &wanted_out, &first, &second, true) {
         return Ok(());
     }
     let rows: Vec<String> = form.iter().map(|row| format!("  {row}")).collect();
-    Err(format!("answer {got:#x}, wanted {wanted:#x}\n{}", rows.join("\n")))
+    Err(format!("answer {got:#x}, wanted {wanted:#x}, areas cleared: {cleared}\n{}", rows.join("\n")))
 }
 
-/// Compares on so many forms; the first that differs is printed and ends the run.
-pub fn run(seed: u64, forms: u64) -> bool {
+/// Compares on so many forms; the first that differs is printed and ends the run. With areas that are lent the forms are of
+/// both versions.
+pub fn run(seed: u64, forms: u64, with: bool) -> bool {
     let shapes = Shapes::new();
     let mut counts = Counts::default();
+    let mut lender = with.then(Lender::new);
     for number in 0..forms {
         let mut chance = Chance::new(seed.rotate_left(32) ^ number);
-        if let Err(words) = one(&shapes, &mut chance, &mut counts) {
+        if let Err(words) = one(&shapes, &mut chance, &mut counts, lender.as_mut()) {
             println!("form {number} of seed {seed} differs: {words}");
             return false;
         }
     }
     let Counts { accepted, short, moved, apart } = counts;
     println!(
-        "{forms} forms, {accepted} accepted, {short} with too short a list; {moved} numbers moved, {apart} without an item: 0 differences"
+        "{forms} forms, {accepted} accepted, {short} with too short a list or area; {moved} numbers moved, {apart} without an item: 0 differences"
     );
     true
 }

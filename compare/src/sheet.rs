@@ -1,10 +1,11 @@
-//! Binding sheets: `wnt_sheet` beside a reading of the rows of the input and of the output.
+//! Binding sheets: `wnt_sheet` and `wnt_sheet_with` beside a reading of the rows of the input and of the output.
 
 use crate::chance::Chance;
 use crate::generate;
+use crate::lent::{self, Lender};
 use crate::library;
-use crate::moved::{Scopes, numbered, places};
-use crate::rows::{self, DECL, FIELD, FIRST_INSERTED, OUTER, REF, Row};
+use crate::moved::{Scopes, numbered, places, resolved};
+use crate::rows::{DECL, FIELD, FIRST, FIRST_INSERTED, OUTER, REF, ROW, Row, SECOND, Version};
 use crate::shapes::Shapes;
 use std::collections::{BTreeMap, BTreeSet};
 
@@ -12,7 +13,9 @@ use std::collections::{BTreeMap, BTreeSet};
 const FILLED: u8 = 0xa5;
 
 /// The bytes of the working area.
-const AREA: usize = 65480;
+fn area(version: Version) -> usize {
+    version.output_size(version.rows)
+}
 
 /// The field code of an outer alias.
 const OUTER_ALIAS: u8 = 11;
@@ -121,6 +124,7 @@ fn claimed(form: &[u8], resolved: &[u8], chance: &mut Chance) -> Vec<u8> {
 
 /// A form with a sheet, and what is given for its resolved form.
 struct Case {
+    version: Version,
     form: Vec<Row>,
     /// The bytes that the resolver writes for it, if it is accepted.
     resolved: Option<Vec<u8>>,
@@ -134,16 +138,16 @@ struct Case {
 }
 
 impl Case {
-    fn draw(shapes: &Shapes, chance: &mut Chance) -> Case {
-        let mut form = placed(&generate::form(shapes, chance.next()), chance);
+    fn draw(version: Version, shapes: &Shapes, chance: &mut Chance, lender: Option<&mut Lender>) -> Case {
+        let mut form = placed(&generate::form_of(version, shapes, chance.next()), chance);
         if chance.percent(50) {
             form = numbered(&form, chance);
         }
-        let bytes = rows::encode(&form);
-        let mut area = vec![FILLED; rows::output_size(form.len())];
-        let answer = library::resolve(&bytes, &mut area);
-        let resolved = (answer >> 32 == 0).then(|| area[..rows::HEADER + rows::ROW * answer as usize].to_vec());
-        let out = resolved.as_deref().map(rows::decode);
+        let bytes = version.encode(&form);
+        let mut out = vec![FILLED; version.output_size(form.len())];
+        let answer = resolved(&bytes, version, &mut out, lender);
+        let resolved = (answer >> 32 == 0).then(|| out[..version.header + ROW * answer as usize].to_vec());
+        let out = resolved.as_deref().map(|form| version.decode(form));
         let (count, more) = size(chance);
         let nameless = chance.percent(5);
         let slots: Vec<[u32; 3]> = (0..count).map(|_| slot(&form, out.as_deref(), chance, nameless)).collect();
@@ -151,18 +155,19 @@ impl Case {
         sheet.extend(std::iter::repeat_n(1, more));
         let claim = claimed(&bytes, resolved.as_deref().unwrap_or(&[]), chance);
         let room = (8 * count + chance.below(20)).saturating_sub(if chance.percent(5) { 20 } else { 0 });
-        let work = if chance.percent(3) { chance.below(AREA) } else { AREA + chance.below(9) };
-        Case { form, resolved, claim, slots, sheet, room, work }
+        let area = area(version);
+        let work = if chance.percent(3) { chance.below(area) } else { area + chance.below(9) };
+        Case { version, form, resolved, claim, slots, sheet, room, work }
     }
 
-    /// The answer by document 02, and the answers that are written.
-    fn wanted(&self) -> (u64, Vec<[u32; 2]>) {
+    /// The answer by document 02, and the answers that are written; whether all else that is lent is large enough.
+    fn wanted(&self, enough: bool) -> (u64, Vec<[u32; 2]>) {
         let count = self.slots.len();
         let whole = self.sheet.len() == 12 * count && count <= 200;
         if !whole || self.slots.iter().any(|[_, _, name]| *name == 0) {
             return (15 << 32, vec![]);
         }
-        if self.work < AREA {
+        if self.work < area(self.version) || !enough {
             return (3 << 32, vec![]);
         }
         if self.resolved.as_ref() != Some(&self.claim) {
@@ -171,7 +176,7 @@ impl Case {
         if self.room < 8 * count {
             return (3 << 32, vec![]);
         }
-        let out = rows::decode(&self.claim);
+        let out = self.version.decode(&self.claim);
         let all: Vec<[u32; 2]> =
             self.slots.iter().map(|[_, place, name]| answer(&self.form, &out, *place, *name)).collect();
         (all.iter().filter(|[kind, _]| *kind != 0).count() as u64, all)
@@ -212,15 +217,30 @@ impl Counts {
 }
 
 /// One form with one sheet: what the library answers and writes, held to the second reading. What differs, in words.
-fn one(shapes: &Shapes, chance: &mut Chance, counts: &mut Counts) -> Result<(), String> {
-    let case = Case::draw(shapes, chance);
+fn one(
+    shapes: &Shapes,
+    chance: &mut Chance,
+    counts: &mut Counts,
+    mut lender: Option<&mut Lender>,
+) -> Result<(), String> {
+    let version = if lender.is_some() && chance.percent(80) { SECOND } else { FIRST };
+    let case = Case::draw(version, shapes, chance, lender.as_deref_mut());
     let (mut answers, mut work) = (vec![FILLED; case.room], vec![FILLED; case.work]);
-    let got = library::sheet(&rows::encode(&case.form), &case.claim, &case.sheet, &mut answers, &mut work);
-    let (wanted, written) = case.wanted();
+    let form = version.encode(&case.form);
+    let lengths = lent::lengths(version, chance);
+    let enough = lender.is_none() || lent::are_enough(version, lengths);
+    let (got, cleared) = match lender {
+        Some(lender) => {
+            let read = library::Sheet { form: &form, resolved: &case.claim, sheet: &case.sheet };
+            lender.call(&form, lengths, |areas| library::sheet_with(&read, &mut answers, &mut work, areas))
+        }
+        None => (library::sheet(&form, &case.claim, &case.sheet, &mut answers, &mut work), true),
+    };
+    let (wanted, written) = case.wanted(enough);
     counts.count(wanted, &written);
-    let zeroed = work.len().min(AREA);
+    let zeroed = work.len().min(area(version));
     let clean = work[..zeroed].iter().all(|byte| *byte == 0) && work[zeroed..].iter().all(|byte| *byte == FILLED);
-    if got == wanted && answers == held(&written, case.room) && clean {
+    if got == wanted && answers == held(&written, case.room) && clean && cleared {
         return Ok(());
     }
     let rows: Vec<String> = case.form.iter().map(|row| format!("  {row}")).collect();
@@ -228,13 +248,15 @@ fn one(shapes: &Shapes, chance: &mut Chance, counts: &mut Counts) -> Result<(), 
     Err(format!("{words}\n{}", rows.join("\n")))
 }
 
-/// Compares on so many forms; the first that differs is printed and ends the run.
-pub fn run(seed: u64, forms: u64) -> bool {
+/// Compares on so many forms; the first that differs is printed and ends the run. With areas that are lent the forms are of
+/// both versions.
+pub fn run(seed: u64, forms: u64, with: bool) -> bool {
     let shapes = Shapes::new();
     let mut counts = Counts::default();
+    let mut lender = with.then(Lender::new);
     for number in 0..forms {
         let mut chance = Chance::new(seed.rotate_left(32) ^ number);
-        if let Err(words) = one(&shapes, &mut chance, &mut counts) {
+        if let Err(words) = one(&shapes, &mut chance, &mut counts, lender.as_mut()) {
             println!("form {number} of seed {seed} differs: {words}");
             return false;
         }
@@ -264,18 +286,19 @@ pub fn vectors(seed: u64, most: usize) -> Vec<u8> {
     let mut like = BTreeMap::new();
     let mut bytes = Vec::new();
     for number in 0..20_000 {
-        let case = Case::draw(&shapes, &mut Chance::new(seed.rotate_left(32) ^ number));
+        let case = Case::draw(FIRST, &shapes, &mut Chance::new(seed.rotate_left(32) ^ number), None);
         if case.form.len() > FEW_ROWS || case.slots.len() > FEW_SLOTS && case.slots.len() != 200 {
             continue;
         }
-        let (wanted, written) = case.wanted();
+        let (wanted, written) = case.wanted(true);
         let kinds: BTreeSet<u32> = written.iter().map(|[kind, _]| *kind).collect();
-        let alike: &mut usize = like.entry((wanted >> 32, case.claim.len() % 16, case.work < AREA, kinds)).or_default();
+        let alike: &mut usize =
+            like.entry((wanted >> 32, case.claim.len() % 16, case.work < area(FIRST), kinds)).or_default();
         *alike += 1;
         if *alike > most {
             continue;
         }
-        let form = rows::encode(&case.form);
+        let form = FIRST.encode(&case.form);
         let lengths =
             [form.len(), case.claim.len(), case.sheet.len(), case.room, case.work].map(|length| length as u32);
         for word in lengths.into_iter().chain([(wanted >> 32) as u32, wanted as u32]) {
