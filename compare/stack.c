@@ -10,7 +10,7 @@ enum { STACK = 1 << 20, PAINT = 0xa5, SLOTS = 2046, LINKS = 3070 };
 
 static uint8_t stack[STACK];
 static uint8_t form[WNT_MAX_FORM_SIZE_2], mended[WNT_MAX_FORM_SIZE_2], out[WNT_MAX_OUT_SIZE_2], list[1 << 20];
-static uint8_t moved[WNT_MOVED_LIST_SIZE(WNT_MAX_ROWS)], apart[WNT_APART_LIST_SIZE(WNT_MAX_ROWS)];
+static uint8_t moved[WNT_MOVED_LIST_SIZE(WNT_MAX_ROWS_2)], apart[WNT_APART_LIST_SIZE(WNT_MAX_ROWS_2)];
 static wnt_slot table[SLOTS];
 static uint16_t index_of[LINKS];
 static struct wnt_work_2 work;
@@ -30,6 +30,11 @@ static void share(void) { answer = wnt_share(form, form_len, out, sizeof out, ta
 static void list_moved(void)
 {
     answer = wnt_moved(form, form_len, out, sizeof out, moved, sizeof moved, apart, sizeof apart);
+}
+
+static void list_moved_with(void)
+{
+    answer = wnt_moved_with(form, form_len, out, sizeof out, moved, sizeof moved, apart, sizeof apart, WNT_LENT(&work));
 }
 
 static void resolve_with(void) { answer = wnt_resolve_with(form, form_len, out, sizeof out, WNT_LENT(&work)); }
@@ -65,7 +70,7 @@ static const struct {
 } calls[] = {
     {"wnt_resolve", resolve}, {"wnt_check", check}, {"wnt_moved", list_moved}, {"wnt_resolve_with", resolve_with},
     {"wnt_mend", mend},       {"wnt_compare", compare}, {"wnt_convert", convert}, {"wnt_meant", meant},
-    {"wnt_member", member},   {"wnt_batch", batch}, {"wnt_share", share},
+    {"wnt_member", member},   {"wnt_batch", batch},     {"wnt_moved_with", list_moved_with}, {"wnt_share", share},
 };
 
 /* The bytes of the stack that were touched by one call. */

@@ -297,9 +297,10 @@ uint64_t wnt_unresolve(const uint8_t *form, size_t form_len, uint8_t *out, size_
                        size_t restored_len, uint8_t *again, size_t again_len);
 
 /* Mends the form in the first `length` bytes of `buffer`, of either version and rule set; the other bytes of `buffer` are
- * room for added rows, and no working area is needed. A part row is dropped, rows after the root's CLOSE are cut, missing CLOSE rows are added at the end, the row count is set to the rows
- * that there are, and what must be zero is zeroed. Nothing else changes. The answer has 0 in its upper half and the number
- * of changes in the lower, which is 0 for a sound form; or a refusal, and then nothing is written:
+ * room for added rows, and no working area is needed. A part row is dropped, rows after the root's CLOSE are cut, missing
+ * CLOSE rows are added at the end, the row count is set to the rows that there are, and what must be zero is zeroed.
+ * Nothing else changes. The answer has 0 in its upper half and the number of changes in the lower, which is 0 for a sound
+ * form; or a refusal, and then nothing is written:
  *
  *   1        bytes 0 to 4 are not those of a header, or `length` is below that header's (8, or 16 for version 2), or byte 5
  *            of version 2 is no rule set; byte 5 of version 1 is zeroed

@@ -2,8 +2,8 @@
 
 use crate::chance::Chance;
 use crate::oracle::Oracle;
-use crate::recognise::recognise;
-use crate::rows::{self, Answer, Version};
+use crate::recognise::recognise_as;
+use crate::rows::{Answer, FIRST, Version};
 use crate::shapes::Shapes;
 
 /// A resolver as a C program calls it: `wnt_resolve`, or a copy of its answers with a planted change.
@@ -83,7 +83,12 @@ impl Comparison {
 
     /// The answer by document 01 for refusals 1 to 5, by the crate for everything else.
     pub fn expected(&self, case: &Case) -> Answer {
-        match recognise(&self.shapes, &case.form, case.out_len) {
+        self.expected_as(FIRST, case)
+    }
+
+    /// The same for a form of this version.
+    pub fn expected_as(&self, version: Version, case: &Case) -> Answer {
+        match recognise_as(version, &self.shapes, &case.form, case.out_len) {
             Ok(rows) => self.oracle.answer(&rows, case.choice),
             Err((number, place)) => Answer::refused(number, place),
         }
@@ -91,8 +96,13 @@ impl Comparison {
 
     /// The bytes of what the crate makes of a form, if it accepts it.
     pub fn resolved(&self, form: &[u8]) -> Option<Vec<u8>> {
-        match self.expected(&Case { form: form.to_vec(), out_len: usize::MAX, fill: 0, choice: 0 }) {
-            Answer::Accepted(rows) => Some(rows::encode(&rows)),
+        self.resolved_as(FIRST, form)
+    }
+
+    /// The same for a form of this version.
+    pub fn resolved_as(&self, version: Version, form: &[u8]) -> Option<Vec<u8>> {
+        match self.expected_as(version, &Case { form: form.to_vec(), out_len: usize::MAX, fill: 0, choice: 0 }) {
+            Answer::Accepted(rows) => Some(version.encode(&rows)),
             _ => None,
         }
     }

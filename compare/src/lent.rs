@@ -3,7 +3,6 @@
 use crate::chance::Chance;
 use crate::compare::{Case, Comparison, after};
 use crate::library::{self, Areas, Slot};
-use crate::recognise::recognise_as;
 use crate::rows::{Answer, FIRST, SECOND, Version};
 use crate::run::{is_form, stated_cases_hold};
 use crate::source::{self, Stage};
@@ -15,12 +14,33 @@ use std::time::Instant;
 const MORE: usize = 9;
 
 /// How long the areas are, in elements: two tables, the index of each, and the ends of fields.
-type Lengths = [usize; 5];
+pub type Lengths = [usize; 5];
 
 /// The sizes of the areas for a version.
 fn sizes(version: Version) -> Lengths {
     let slots = version.rows + 1;
     [slots, slots, 2 * slots, 2 * slots, slots]
+}
+
+/// Lengths for a form of this version that are exact, longer, for the other version or, now and then, too short.
+pub fn lengths(version: Version, chance: &mut Chance) -> Lengths {
+    let mut lengths = sizes(version);
+    let one = chance.below(5);
+    match chance.below(40) {
+        0 => lengths[one] -= 1,
+        1 => lengths[one] = chance.below(lengths[one]),
+        2 => lengths = [0; 5],
+        3 => lengths = sizes(FIRST),
+        4..=5 => lengths = sizes(SECOND),
+        6..=10 => lengths[one] += 1 + chance.below(MORE),
+        _ => {}
+    }
+    lengths
+}
+
+/// Whether areas of these lengths are large enough for a form of this version.
+pub fn are_enough(version: Version, lengths: Lengths) -> bool {
+    sizes(version).iter().zip(lengths).all(|(size, length)| length >= *size)
 }
 
 /// A form with its output, and the lengths of its areas.
@@ -30,21 +50,8 @@ struct Lent {
 }
 
 impl Lent {
-    /// Areas for this form that are exact, longer, for the other version or, now and then, too short.
     fn new(case: Case, chance: &mut Chance) -> Lent {
-        let version = Version::of(&case.form);
-        let mut lengths = sizes(version);
-        let one = chance.below(5);
-        match chance.below(40) {
-            0 => lengths[one] -= 1,
-            1 => lengths[one] = chance.below(lengths[one]),
-            2 => lengths = [0; 5],
-            3 => lengths = sizes(FIRST),
-            4..=5 => lengths = sizes(SECOND),
-            6..=10 => lengths[one] += 1 + chance.below(MORE),
-            _ => {}
-        }
-        Lent { case, lengths }
+        Lent { lengths: lengths(Version::of(&case.form), chance), case }
     }
 
     fn exact(case: Case) -> Lent {
@@ -96,16 +103,16 @@ impl Lender {
         }
     }
 
-    /// Calls the library in areas of these lengths, which are filled before; answers whether they are cleared after.
-    fn call(&mut self, lent: &Lent, out: &mut [u8]) -> (u64, bool) {
-        let mut areas = self.areas(lent.lengths);
+    /// Calls the library on a form in areas of these lengths, which are filled before; answers whether they are cleared after.
+    pub fn call(&mut self, form: &[u8], lengths: Lengths, call: impl FnOnce(&mut Areas) -> u64) -> (u64, bool) {
+        let mut areas = self.areas(lengths);
         areas.entered.fill(SLOT);
         areas.names.fill(SLOT);
         areas.known.fill(LINK);
         areas.chains.fill(LINK);
         areas.ends.fill(END);
-        let answer = library::resolve_with(&lent.case.form, out, &mut areas);
-        let [entered, names, known, chains, ends] = sizes(asked_for(&lent.case.form));
+        let answer = call(&mut areas);
+        let [entered, names, known, chains, ends] = sizes(asked_for(form));
         let cleared = is_cleared(areas.entered, entered, [0; 6], SLOT)
             && is_cleared(areas.names, names, [0; 6], SLOT)
             && is_cleared(areas.known, known, 0, LINK)
@@ -116,19 +123,15 @@ impl Lender {
 }
 
 /// The version that a header asks for; the first where it is of none.
-fn asked_for(form: &[u8]) -> Version {
+pub fn asked_for(form: &[u8]) -> Version {
     if SECOND.begins(form, 0) { SECOND } else { FIRST }
 }
 
 /// The answer by documents 01 and 02 for refusals 1 to 5, by the crate for everything else.
 fn expected(comparison: &Comparison, lent: &Lent) -> Answer {
     let (version, case) = (asked_for(&lent.case.form), &lent.case);
-    let enough = sizes(version).iter().zip(lent.lengths).all(|(size, length)| length >= *size);
-    let room = if enough { case.out_len } else { 0 };
-    match recognise_as(version, &comparison.shapes, &case.form, room) {
-        Ok(rows) => comparison.oracle.answer(&rows, case.choice),
-        Err((number, place)) => Answer::refused(number, place),
-    }
+    let room = if are_enough(version, lent.lengths) { case.out_len } else { 0 };
+    comparison.expected_as(version, &Case { out_len: room, ..case.clone() })
 }
 
 /// The answer that is expected, and what differs, if something does.
@@ -136,7 +139,8 @@ fn check(comparison: &Comparison, lender: &mut Lender, lent: &Lent) -> (Answer, 
     let answer = expected(comparison, lent);
     let mut out = lent.case.pattern();
     let wanted = after(&answer, &lent.case.form, out.clone());
-    let (packed, cleared) = lender.call(lent, &mut out);
+    let form = &lent.case.form;
+    let (packed, cleared) = lender.call(form, lent.lengths, |areas| library::resolve_with(form, &mut out, areas));
     let differs = match (packed == answer.packed(), out == wanted, cleared) {
         (false, _, _) => Some("the answer"),
         (_, false, _) => Some("the output"),

@@ -105,6 +105,48 @@ unsafe extern "C" {
         apart: *mut u8,
         apart_len: usize,
     ) -> u64;
+    fn wnt_moved_with(
+        form: *const u8,
+        form_len: usize,
+        out: *mut u8,
+        out_len: usize,
+        moved: *mut u8,
+        moved_len: usize,
+        apart: *mut u8,
+        apart_len: usize,
+        entered: *mut Slot,
+        entered_len: usize,
+        names: *mut Slot,
+        names_len: usize,
+        known: *mut u16,
+        known_len: usize,
+        chains: *mut u16,
+        chains_len: usize,
+        ends: *mut u32,
+        ends_len: usize,
+    ) -> u64;
+    fn wnt_sheet_with(
+        form: *const u8,
+        form_len: usize,
+        resolved: *const u8,
+        resolved_len: usize,
+        sheet: *const u8,
+        sheet_len: usize,
+        answers: *mut u8,
+        answers_len: usize,
+        work: *mut u8,
+        work_len: usize,
+        entered: *mut Slot,
+        entered_len: usize,
+        names: *mut Slot,
+        names_len: usize,
+        known: *mut u16,
+        known_len: usize,
+        chains: *mut u16,
+        chains_len: usize,
+        ends: *mut u32,
+        ends_len: usize,
+    ) -> u64;
     fn wnt_sheet(
         form: *const u8,
         form_len: usize,
@@ -222,6 +264,73 @@ pub fn moved(form: &[u8], out: &mut [u8], moved: &mut [u8], apart: &mut [u8]) ->
             moved.len(),
             apart.as_mut_ptr(),
             apart.len(),
+        )
+    }
+}
+
+/// The answer of `wnt_moved_with`, which may write into all but the form.
+pub fn moved_with(form: &[u8], out: &mut [u8], moved: &mut [u8], apart: &mut [u8], areas: &mut Areas) -> u64 {
+    let Areas { entered, names, known, chains, ends } = areas;
+    // SAFETY: all parts are valid for their lengths, apart from each other, for as long as the call lasts.
+    unsafe {
+        wnt_moved_with(
+            form.as_ptr(),
+            form.len(),
+            out.as_mut_ptr(),
+            out.len(),
+            moved.as_mut_ptr(),
+            moved.len(),
+            apart.as_mut_ptr(),
+            apart.len(),
+            entered.as_mut_ptr(),
+            entered.len(),
+            names.as_mut_ptr(),
+            names.len(),
+            known.as_mut_ptr(),
+            known.len(),
+            chains.as_mut_ptr(),
+            chains.len(),
+            ends.as_mut_ptr(),
+            ends.len(),
+        )
+    }
+}
+
+/// What `wnt_sheet_with` is given to read.
+pub struct Sheet<'a> {
+    pub form: &'a [u8],
+    pub resolved: &'a [u8],
+    pub sheet: &'a [u8],
+}
+
+/// The answer of `wnt_sheet_with`, which may write into `answers`, `work` and the areas.
+pub fn sheet_with(read: &Sheet, answers: &mut [u8], work: &mut [u8], areas: &mut Areas) -> u64 {
+    let Sheet { form, resolved, sheet } = read;
+    let Areas { entered, names, known, chains, ends } = areas;
+    // SAFETY: all parts are valid for their lengths, and those that are written are apart from each other, for as long as
+    // the call lasts.
+    unsafe {
+        wnt_sheet_with(
+            form.as_ptr(),
+            form.len(),
+            resolved.as_ptr(),
+            resolved.len(),
+            sheet.as_ptr(),
+            sheet.len(),
+            answers.as_mut_ptr(),
+            answers.len(),
+            work.as_mut_ptr(),
+            work.len(),
+            entered.as_mut_ptr(),
+            entered.len(),
+            names.as_mut_ptr(),
+            names.len(),
+            known.as_mut_ptr(),
+            known.len(),
+            chains.as_mut_ptr(),
+            chains.len(),
+            ends.as_mut_ptr(),
+            ends.len(),
         )
     }
 }

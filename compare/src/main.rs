@@ -71,7 +71,9 @@ compare --convert N [--seed S]                 convert N forms, and compare with
 compare --mend N [--seed S]                    mend N spoilt forms, and compare with a mender written for it
 compare --meant N [--seed S]                   ask what the names of N members mean, and compare with a second reading
 compare --moved N [--seed S]                   list the moved numbers of N forms, and compare with a second reading
+compare --moved-with N [--seed S]              the same for forms of both versions, in working areas that are lent
 compare --sheet N [--seed S]                   hold a binding sheet against N forms, and compare with a second reading
+compare --sheet-with N [--seed S]              the same for forms of both versions, in working areas that are lent
 compare --check N [--seed S]                   check N claimed outputs, and compare with a checker written for it
 compare --check-bench N                        time checking beside resolving, the shortest of N calls each
 compare --moved-bench N                        time listing moved numbers beside resolving, the shortest of N calls each
@@ -191,9 +193,13 @@ fn main() -> ExitCode {
     } else if let Some(pairs) = number(&arguments, "--meant") {
         meant::run(number(&arguments, "--seed").unwrap_or(1), pairs)
     } else if let Some(forms) = number(&arguments, "--moved") {
-        moved::run(&comparison(), number(&arguments, "--seed").unwrap_or(1), forms)
+        moved::run(&comparison(), number(&arguments, "--seed").unwrap_or(1), forms, false)
+    } else if let Some(forms) = number(&arguments, "--moved-with") {
+        moved::run(&comparison(), number(&arguments, "--seed").unwrap_or(1), forms, true)
     } else if let Some(forms) = number(&arguments, "--sheet") {
-        sheet::run(&comparison(), number(&arguments, "--seed").unwrap_or(1), forms)
+        sheet::run(&comparison(), number(&arguments, "--seed").unwrap_or(1), forms, false)
+    } else if let Some(forms) = number(&arguments, "--sheet-with") {
+        sheet::run(&comparison(), number(&arguments, "--seed").unwrap_or(1), forms, true)
     } else if let Some(repetitions) = number(&arguments, "--check-bench") {
         bench::check(repetitions as usize);
         true

@@ -1,12 +1,14 @@
-//! Written numbers that insertions have moved: `wnt_moved` beside a reading of the rows of the input and of the output.
+//! Written numbers that insertions have moved: `wnt_moved` and `wnt_moved_with` beside a reading of the rows of the input and
+//! of the output.
 
 use crate::cases;
 use crate::chance::Chance;
 use crate::compare::{Case, Comparison, after};
-use crate::damage::damage;
+use crate::damage::damage_as;
 use crate::generate;
+use crate::lent::{self, Lender, Lengths};
 use crate::library;
-use crate::rows::{self, Answer, CLOSE, DECL, FIELD, FIRST_INSERTED, OPEN, OUTER, PATH, REF, Row};
+use crate::rows::{Answer, CLOSE, DECL, FIELD, FIRST, FIRST_INSERTED, OPEN, OUTER, PATH, REF, Row, SECOND, Version};
 use crate::vectors::{FILLED, Function, Lent, Sample, Vector, said};
 use std::collections::BTreeSet;
 
@@ -153,11 +155,12 @@ fn content<const N: usize>(entries: &[[u32; N]], share: usize, length: usize) ->
     bytes
 }
 
-/// A form and the lengths of the three buffers.
+/// A form and the lengths of the three buffers, and of the working areas where these are lent.
 struct Asked {
     case: Case,
     moved: usize,
     apart: usize,
+    areas: Option<Lengths>,
 }
 
 /// What must come of it: the answer, the three buffers, and the lists where it is accepted.
@@ -168,28 +171,38 @@ struct Wanted {
 }
 
 impl Asked {
-    fn draw(comparison: &Comparison, chance: &mut Chance) -> Asked {
-        let form = numbered(&generate::form(&comparison.shapes, chance.next()), chance);
+    /// One for the function that is lent areas, mostly of version 2, or for the other.
+    fn draw(comparison: &Comparison, chance: &mut Chance, lending: bool) -> Asked {
+        let version = if lending && chance.percent(80) { SECOND } else { FIRST };
+        let form = numbered(&generate::form_of(version, &comparison.shapes, chance.next()), chance);
         let longer =
             |chance: &mut Chance, share: usize| share + chance.below(20) - usize::from(chance.percent(3) && share > 0);
         let (moved, apart) = (longer(chance, 16 * form.len()), longer(chance, 12 * form.len()));
-        let bytes = if chance.percent(3) { damage(&form, chance) } else { rows::encode(&form) };
-        Asked { case: Case::new(bytes, chance), moved, apart }
+        let bytes = if chance.percent(3) { damage_as(version, &form, chance) } else { version.encode(&form) };
+        let case = Case::new(bytes, chance);
+        Asked { case, moved, apart, areas: lending.then(|| lent::lengths(version, chance)) }
+    }
+
+    /// The version that the form is read as.
+    fn version(&self) -> Version {
+        if self.areas.is_some() { lent::asked_for(&self.case.form) } else { FIRST }
     }
 
     /// By the second reading, on what the crate makes of the form.
     fn wanted(&self, comparison: &Comparison) -> Wanted {
-        let Asked { case, moved, apart } = self;
-        let count = rows::FIRST.count(&case.form);
-        let short = *moved < 16 * count || *apart < 12 * count;
-        let answer = comparison.expected(&Case { out_len: if short { 0 } else { case.out_len }, ..case.clone() });
+        let Asked { case, moved, apart, areas } = self;
+        let version = self.version();
+        let count = version.count(&case.form);
+        let enough = areas.is_none_or(|lengths| lent::are_enough(version, lengths));
+        let room = if enough && *moved >= 16 * count && *apart >= 12 * count { case.out_len } else { 0 };
+        let answer = comparison.expected_as(version, &Case { out_len: room, ..case.clone() });
         let out = after(&answer, &case.form, vec![FILLED; case.out_len]);
         let unchanged = [vec![FILLED; *moved], vec![FILLED; *apart]];
         let Answer::Accepted(resolved) = &answer else {
             let [moved, apart] = unchanged;
             return Wanted { answer: answer.packed(), buffers: [out, moved, apart], lists: None };
         };
-        let lists = Lists::of(&rows::decode(&case.form), resolved);
+        let lists = Lists::of(&version.decode(&case.form), resolved);
         let first = content(&lists.moved, 16 * count, *moved);
         let second = content(&lists.apart, 12 * count, *apart);
         let answer = (lists.apart.len() as u64) * 65536 + lists.moved.len() as u64;
@@ -218,27 +231,40 @@ impl Counts {
 }
 
 /// One form: what the library answers and writes, held to the second reading. What differs, in words.
-fn one(comparison: &Comparison, chance: &mut Chance, counts: &mut Counts) -> Result<(), String> {
-    let asked = Asked::draw(comparison, chance);
+fn one(
+    comparison: &Comparison,
+    chance: &mut Chance,
+    counts: &mut Counts,
+    lender: Option<&mut Lender>,
+) -> Result<(), String> {
+    let asked = Asked::draw(comparison, chance, lender.is_some());
     let wanted = asked.wanted(comparison);
     counts.count(&wanted);
     let form = &asked.case.form;
     let mut buffers = wanted.buffers.each_ref().map(|buffer| vec![FILLED; buffer.len()]);
     let [out, moved, apart] = &mut buffers;
-    let got = library::moved(form, out, moved, apart);
-    if (got, &buffers) == (wanted.answer, &wanted.buffers) {
+    let (got, cleared) = match lender.zip(asked.areas) {
+        Some((lender, lengths)) => {
+            lender.call(form, lengths, |areas| library::moved_with(form, out, moved, apart, areas))
+        }
+        None => (library::moved(form, out, moved, apart), true),
+    };
+    if (got, &buffers, cleared) == (wanted.answer, &wanted.buffers, true) {
         return Ok(());
     }
-    let rows: Vec<String> = rows::decode(form).iter().map(|row| format!("  {row}")).collect();
-    Err(format!("answer {got:#x}, wanted {:#x}\n{}", wanted.answer, rows.join("\n")))
+    let rows: Vec<String> = asked.version().decode(form).iter().map(|row| format!("  {row}")).collect();
+    let words = format!("answer {got:#x}, wanted {:#x}, areas cleared: {cleared}", wanted.answer);
+    Err(format!("{words}\n{}", rows.join("\n")))
 }
 
-/// Compares on so many forms; the first that differs is printed and ends the run.
-pub fn run(comparison: &Comparison, seed: u64, forms: u64) -> bool {
+/// Compares on so many forms; the first that differs is printed and ends the run. Where areas are lent the forms are of both
+/// versions.
+pub fn run(comparison: &Comparison, seed: u64, forms: u64, lending: bool) -> bool {
     let mut counts = Counts::default();
+    let mut lender = lending.then(Lender::new);
     for number in 0..forms {
         let mut chance = Chance::new(seed.rotate_left(32) ^ number);
-        if let Err(words) = one(comparison, &mut chance, &mut counts) {
+        if let Err(words) = one(comparison, &mut chance, &mut counts, lender.as_mut()) {
             println!("form {number} of seed {seed} differs: {words}");
             return false;
         }
@@ -260,15 +286,15 @@ const EACH: usize = 5;
 /// Vectors of stated forms and of limits, of each refusal, and of each kind of number that is listed or is not.
 pub fn vectors(comparison: &Comparison, seed: u64, sample: &mut Sample) {
     let stated = cases::stated().into_iter().map(|stated| stated.rows);
-    let deep = cases::limits(rows::FIRST).into_iter().map(|case| rows::decode(&case.form));
+    let deep = cases::limits(FIRST).into_iter().map(|case| FIRST.decode(&case.form));
     for form in stated.chain(deep).filter(|form| form.len() <= DEEP_ROWS) {
-        let case = Case::exact(rows::encode(&form), &mut Chance::new(seed));
-        Asked { case, moved: 16 * form.len(), apart: 12 * form.len() }.offer(comparison, sample);
+        let case = Case::exact(FIRST.encode(&form), &mut Chance::new(seed));
+        Asked { case, moved: 16 * form.len(), apart: 12 * form.len(), areas: None }.offer(comparison, sample);
     }
     for number in 0..LOOKED {
-        let asked = Asked::draw(comparison, &mut Chance::new(seed.rotate_left(32) ^ number));
+        let asked = Asked::draw(comparison, &mut Chance::new(seed.rotate_left(32) ^ number), false);
         let form = &asked.case.form;
-        if form.len() <= rows::FIRST.form_size(FEW_ROWS) && rows::Version::of(form) == rows::FIRST {
+        if form.len() <= FIRST.form_size(FEW_ROWS) && Version::of(form) == FIRST {
             asked.offer(comparison, sample);
         }
     }

@@ -1,15 +1,18 @@
-//! Binding sheets: `wnt_sheet` beside a reading of the rows of the input and of the output.
+//! Binding sheets: `wnt_sheet` and `wnt_sheet_with` beside a reading of the rows of the input and of the output.
 
 use crate::chance::Chance;
 use crate::compare::Comparison;
 use crate::generate;
+use crate::lent::{self, Lender, Lengths};
 use crate::library;
 use crate::moved::{Scopes, numbered, places};
-use crate::rows::{self, DECL, FIELD, FIRST_INSERTED, OUTER, REF, Row};
+use crate::rows::{DECL, FIELD, FIRST, FIRST_INSERTED, OUTER, REF, Row, SECOND, Version};
 use crate::vectors::{FILLED, Function, Lent, Sample, Vector, said};
 
 /// The bytes of the working area.
-const AREA: usize = 65480;
+fn area(version: Version) -> usize {
+    version.output_size(version.rows)
+}
 
 /// The field code of an outer alias.
 const OUTER_ALIAS: u8 = 11;
@@ -118,6 +121,7 @@ fn claimed(form: &[u8], resolved: &[u8], chance: &mut Chance) -> Vec<u8> {
 
 /// A form with a sheet, and what is given for its resolved form.
 struct Case {
+    version: Version,
     form: Vec<Row>,
     /// The bytes of what the crate makes of it, if it accepts it.
     resolved: Option<Vec<u8>>,
@@ -128,17 +132,21 @@ struct Case {
     /// The bytes that are lent for the answers and for working.
     room: usize,
     work: usize,
+    /// The lengths of the other working areas, where these are lent.
+    areas: Option<Lengths>,
 }
 
 impl Case {
-    fn draw(comparison: &Comparison, chance: &mut Chance) -> Case {
-        let mut form = placed(&generate::form(&comparison.shapes, chance.next()), chance);
+    /// One for the function that is lent more areas, mostly of version 2, or for the other.
+    fn draw(comparison: &Comparison, chance: &mut Chance, lending: bool) -> Case {
+        let version = if lending && chance.percent(80) { SECOND } else { FIRST };
+        let mut form = placed(&generate::form_of(version, &comparison.shapes, chance.next()), chance);
         if chance.percent(50) {
             form = numbered(&form, chance);
         }
-        let bytes = rows::encode(&form);
-        let resolved = comparison.resolved(&bytes);
-        let out = resolved.as_deref().map(rows::decode);
+        let bytes = version.encode(&form);
+        let resolved = comparison.resolved_as(version, &bytes);
+        let out = resolved.as_deref().map(|form| version.decode(form));
         let (count, more) = size(chance);
         let nameless = chance.percent(5);
         let slots: Vec<[u32; 3]> = (0..count).map(|_| slot(&form, out.as_deref(), chance, nameless)).collect();
@@ -146,8 +154,14 @@ impl Case {
         sheet.extend(std::iter::repeat_n(1, more));
         let claim = claimed(&bytes, resolved.as_deref().unwrap_or(&[]), chance);
         let room = (8 * count + chance.below(20)).saturating_sub(if chance.percent(5) { 20 } else { 0 });
-        let work = if chance.percent(3) { chance.below(AREA) } else { AREA + chance.below(9) };
-        Case { form, resolved, claim, slots, sheet, room, work }
+        let work = if chance.percent(3) { chance.below(area(version)) } else { area(version) + chance.below(9) };
+        let areas = lending.then(|| lent::lengths(version, chance));
+        Case { version, form, resolved, claim, slots, sheet, room, work, areas }
+    }
+
+    /// Whether all working areas are large enough.
+    fn can_work(&self) -> bool {
+        self.work >= area(self.version) && self.areas.is_none_or(|areas| lent::are_enough(self.version, areas))
     }
 
     /// The answer by document 02, and the answers that are written.
@@ -157,7 +171,7 @@ impl Case {
         if !whole || self.slots.iter().any(|[_, _, name]| *name == 0) {
             return (15 << 32, vec![]);
         }
-        if self.work < AREA {
+        if !self.can_work() {
             return (3 << 32, vec![]);
         }
         if self.resolved.as_ref() != Some(&self.claim) {
@@ -166,7 +180,7 @@ impl Case {
         if self.room < 8 * count {
             return (3 << 32, vec![]);
         }
-        let out = rows::decode(&self.claim);
+        let out = self.version.decode(&self.claim);
         let all: Vec<[u32; 2]> =
             self.slots.iter().map(|[_, place, name]| answer(&self.form, &out, *place, *name)).collect();
         (all.iter().filter(|[kind, _]| *kind != 0).count() as u64, all)
@@ -182,7 +196,7 @@ impl Case {
             "too many slots"
         } else if self.slots.iter().any(|[_, _, name]| *name == 0) {
             "a slot without a name"
-        } else if self.work < AREA {
+        } else if !self.can_work() {
             "too small an area"
         } else if self.resolved.is_none() {
             "a form that is refused"
@@ -233,15 +247,27 @@ impl Counts {
 }
 
 /// One form with one sheet: what the library answers and writes, held to the second reading. What differs, in words.
-fn one(comparison: &Comparison, chance: &mut Chance, counts: &mut Counts) -> Result<(), String> {
-    let case = Case::draw(comparison, chance);
+fn one(
+    comparison: &Comparison,
+    chance: &mut Chance,
+    counts: &mut Counts,
+    lender: Option<&mut Lender>,
+) -> Result<(), String> {
+    let case = Case::draw(comparison, chance, lender.is_some());
+    let form = case.version.encode(&case.form);
     let (mut answers, mut work) = (vec![FILLED; case.room], vec![FILLED; case.work]);
-    let got = library::sheet(&rows::encode(&case.form), &case.claim, &case.sheet, &mut answers, &mut work);
+    let (got, cleared) = match lender.zip(case.areas) {
+        Some((lender, lengths)) => {
+            let read = library::Sheet { form: &form, resolved: &case.claim, sheet: &case.sheet };
+            lender.call(&form, lengths, |areas| library::sheet_with(&read, &mut answers, &mut work, areas))
+        }
+        None => (library::sheet(&form, &case.claim, &case.sheet, &mut answers, &mut work), true),
+    };
     let (wanted, written) = case.wanted();
     counts.count(wanted, &written);
-    let zeroed = work.len().min(AREA);
+    let zeroed = work.len().min(area(case.version));
     let clean = work[..zeroed].iter().all(|byte| *byte == 0) && work[zeroed..].iter().all(|byte| *byte == FILLED);
-    if got == wanted && answers == held(&written, case.room) && clean {
+    if got == wanted && answers == held(&written, case.room) && clean && cleared {
         return Ok(());
     }
     let rows: Vec<String> = case.form.iter().map(|row| format!("  {row}")).collect();
@@ -249,12 +275,14 @@ fn one(comparison: &Comparison, chance: &mut Chance, counts: &mut Counts) -> Res
     Err(format!("{words}\n{}", rows.join("\n")))
 }
 
-/// Compares on so many forms; the first that differs is printed and ends the run.
-pub fn run(comparison: &Comparison, seed: u64, forms: u64) -> bool {
+/// Compares on so many forms; the first that differs is printed and ends the run. Where more areas are lent the forms are of
+/// both versions.
+pub fn run(comparison: &Comparison, seed: u64, forms: u64, lending: bool) -> bool {
     let mut counts = Counts::default();
+    let mut lender = lending.then(Lender::new);
     for number in 0..forms {
         let mut chance = Chance::new(seed.rotate_left(32) ^ number);
-        if let Err(words) = one(comparison, &mut chance, &mut counts) {
+        if let Err(words) = one(comparison, &mut chance, &mut counts, lender.as_mut()) {
             println!("form {number} of seed {seed} differs: {words}");
             return false;
         }
@@ -279,7 +307,7 @@ const EACH: usize = 8;
 /// Vectors of each refusal, and of each combination of answers to slots.
 pub fn vectors(comparison: &Comparison, seed: u64, sample: &mut Sample) {
     for number in 0..LOOKED {
-        let case = Case::draw(comparison, &mut Chance::new(seed.rotate_left(32) ^ number));
+        let case = Case::draw(comparison, &mut Chance::new(seed.rotate_left(32) ^ number), false);
         if case.form.len() > FEW_ROWS || case.slots.len() > FEW_SLOTS && case.slots.len() < 200 {
             continue;
         }
@@ -288,8 +316,8 @@ pub fn vectors(comparison: &Comparison, seed: u64, sample: &mut Sample) {
             function: Function::Sheet,
             number: 0,
             answer,
-            inputs: vec![rows::encode(&case.form), case.claim.clone(), case.sheet.clone()],
-            lent: vec![Lent::holding(&held(&written, case.room)), Lent::cleared(case.work, AREA)],
+            inputs: vec![FIRST.encode(&case.form), case.claim.clone(), case.sheet.clone()],
+            lent: vec![Lent::holding(&held(&written, case.room)), Lent::cleared(case.work, area(FIRST))],
         };
         sample.offer(case.shows(answer, &written), EACH, &vector);
     }

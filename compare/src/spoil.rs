@@ -145,6 +145,7 @@ const EACH: usize = 3;
 
 /// What a mending shows: the kinds of its changes, of a part with the code of its row.
 fn shows(left: &Left) -> BTreeSet<String> {
+    let header = Version::of(&left.buffer).header;
     let mut list = &left.list[..];
     let mut kinds = BTreeSet::new();
     for _ in 0..left.answer {
@@ -153,9 +154,10 @@ fn shows(left: &Left) -> BTreeSet<String> {
         kinds.insert(match at {
             5 => "the rule set".to_string(),
             6 => "the row count".to_string(),
+            _ if at < header => "the header's zeros".to_string(),
             _ if before > now => "rows cut".to_string(),
             _ if before < now => "rows added".to_string(),
-            _ => format!("part {} of a row {}", (at - HEADER) % ROW, left.buffer[at - (at - HEADER) % ROW]),
+            _ => format!("part {} of a row {}", (at - header) % ROW, left.buffer[at - (at - header) % ROW]),
         });
         list = &list[12 + before.next_multiple_of(4)..];
     }
@@ -167,7 +169,7 @@ fn shows(left: &Left) -> BTreeSet<String> {
 
 /// Vectors of each refusal, and of each kind of change.
 pub fn vectors(seed: u64, sample: &mut Sample) {
-    let shapes = Shapes::new();
+    let shapes = [Shapes::new(), Shapes::newer()];
     for number in 0..LOOKED {
         let mut chance = Chance::new(seed.rotate_left(32) ^ number);
         let Spoilt { mut buffer, long, list } = spoilt(&shapes, &mut chance);

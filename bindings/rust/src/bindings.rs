@@ -1,6 +1,6 @@
 //! A binding sheet held against a form and its resolved form.
 
-use crate::Refusal;
+use crate::{Refusal, Version, WorkingArea};
 
 /// The most slots that a sheet may have.
 pub const MAX_SLOTS: usize = 200;
@@ -26,6 +26,28 @@ extern "C" {
         answers_len: usize,
         work: *mut u8,
         work_len: usize,
+    ) -> u64;
+    fn wnt_sheet_with(
+        form: *const u8,
+        form_len: usize,
+        resolved: *const u8,
+        resolved_len: usize,
+        sheet: *const u8,
+        sheet_len: usize,
+        answers: *mut u8,
+        answers_len: usize,
+        work: *mut u8,
+        work_len: usize,
+        entered: *mut [u32; 6],
+        entered_len: usize,
+        names: *mut [u32; 6],
+        names_len: usize,
+        known: *mut u16,
+        known_len: usize,
+        chains: *mut u16,
+        chains_len: usize,
+        ends: *mut u32,
+        ends_len: usize,
     ) -> u64;
 }
 
@@ -103,6 +125,51 @@ pub fn sheet_into(
     };
     match (answer >> 32) as u32 {
         0 => Ok(answer as u32 as usize),
+        number => Err(Refusal::of(number, answer as u32)),
+    }
+}
+
+/// The same as [`sheet`] for forms of either version, in a working area that is lent. `resolved` must be what
+/// [`crate::resolve_with`] gives for `form`.
+///
+/// It is refused with [`Refusal::Room`] also: the form is of version 2 and the area for version 1.
+pub fn sheet_with(
+    form: &[u8],
+    resolved: &[u8],
+    slots: &[Slot],
+    area: &mut WorkingArea,
+) -> Result<Vec<Binding>, Refusal> {
+    let version = Version::of(form).unwrap_or(Version::One);
+    let (sheet, mut answers) = (sheet_bytes(slots), vec![0; ANSWER_SIZE * slots.len()]);
+    let mut work = vec![0; version.out_size(version.max_rows())];
+    // SAFETY: every buffer is valid for its length while the call lasts, and all that are written are borrowed alone, so
+    // that none overlaps another. The library keeps no pointer.
+    let answer = unsafe {
+        wnt_sheet_with(
+            form.as_ptr(),
+            form.len(),
+            resolved.as_ptr(),
+            resolved.len(),
+            sheet.as_ptr(),
+            sheet.len(),
+            answers.as_mut_ptr(),
+            answers.len(),
+            work.as_mut_ptr(),
+            work.len(),
+            area.entered.as_mut_ptr(),
+            area.entered.len(),
+            area.names.as_mut_ptr(),
+            area.names.len(),
+            area.known.as_mut_ptr(),
+            area.known.len(),
+            area.chains.as_mut_ptr(),
+            area.chains.len(),
+            area.ends.as_mut_ptr(),
+            area.ends.len(),
+        )
+    };
+    match (answer >> 32) as u32 {
+        0 => Ok(answers.chunks_exact(ANSWER_SIZE).map(binding).collect()),
         number => Err(Refusal::of(number, answer as u32)),
     }
 }

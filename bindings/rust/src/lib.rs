@@ -35,14 +35,16 @@ mod space;
 mod versions;
 
 pub use back::{unresolve, unresolve_into};
-pub use bindings::{sheet, sheet_bytes, sheet_into, Binding, Slot, ANSWER_SIZE, MAX_SLOTS, SHEET_AREA_SIZE, SLOT_SIZE};
+pub use bindings::{
+    sheet, sheet_bytes, sheet_into, sheet_with, Binding, Slot, ANSWER_SIZE, MAX_SLOTS, SHEET_AREA_SIZE, SLOT_SIZE,
+};
 pub use builds::{compare, Choice, Entry, Kind};
 pub use claims::{check, check_with, Condition, Verdict, CHECK_LINKS, CHECK_SLOTS};
 pub use members::{batch, batch_into, meant, member, Batch, Meant, Of, Refused, MAX_MEMBERS};
 pub use fewer::{share, share_into};
 pub use members::{meant, member, Meant, Of, Refused};
 pub use mending::{mend, Change};
-pub use numbers::{moved, Apart, Moved, Numbers};
+pub use numbers::{moved, moved_with, Apart, Moved, Numbers};
 pub use refusal::Refusal;
 pub use rows::{component, rows, Builder, Field, Name, Operand, Row, Scope, Space};
 pub use versions::{convert, resolve_into_with, resolve_with, Version, WorkingArea};

@@ -1,6 +1,6 @@
 //! Written numbers that inserted aliases have moved.
 
-use crate::{form_size, out_size, rows_in, Refusal};
+use crate::{form_size, out_size, rows_in, Refusal, Version, WorkingArea};
 
 extern "C" {
     fn wnt_moved(
@@ -12,6 +12,26 @@ extern "C" {
         moved_len: usize,
         apart: *mut u8,
         apart_len: usize,
+    ) -> u64;
+    fn wnt_moved_with(
+        form: *const u8,
+        form_len: usize,
+        out: *mut u8,
+        out_len: usize,
+        moved: *mut u8,
+        moved_len: usize,
+        apart: *mut u8,
+        apart_len: usize,
+        entered: *mut [u32; 6],
+        entered_len: usize,
+        names: *mut [u32; 6],
+        names_len: usize,
+        known: *mut u16,
+        known_len: usize,
+        chains: *mut u16,
+        chains_len: usize,
+        ends: *mut u32,
+        ends_len: usize,
     ) -> u64;
 }
 
@@ -70,20 +90,62 @@ pub fn moved(form: &[u8]) -> Result<Numbers, Refusal> {
             apart.len(),
         )
     };
+    let (moved, apart) = listed(answer, &moved, &apart)?;
+    out.truncate(form_size(usize::from(u16::from_le_bytes([out[6], out[7]]))));
+    Ok(Numbers { resolved: out, moved, apart })
+}
+
+/// The same for a form of either version, in a working area that is lent.
+///
+/// The buffers have the room that the form needs. So it is refused with [`Refusal::Room`] only if the form is of version 2
+/// and the area for version 1.
+pub fn moved_with(form: &[u8], area: &mut WorkingArea) -> Result<Numbers, Refusal> {
+    let version = Version::of(form).unwrap_or(Version::One);
+    let rows = version.rows_in(form);
+    let (mut out, mut moved, mut apart) = (vec![0; version.out_size(rows)], vec![0; 16 * rows], vec![0; 12 * rows]);
+    // SAFETY: every buffer is valid for its length while the call lasts, and all that are written are borrowed alone, so
+    // that none overlaps another. The library keeps no pointer.
+    let answer = unsafe {
+        wnt_moved_with(
+            form.as_ptr(),
+            form.len(),
+            out.as_mut_ptr(),
+            out.len(),
+            moved.as_mut_ptr(),
+            moved.len(),
+            apart.as_mut_ptr(),
+            apart.len(),
+            area.entered.as_mut_ptr(),
+            area.entered.len(),
+            area.names.as_mut_ptr(),
+            area.names.len(),
+            area.known.as_mut_ptr(),
+            area.known.len(),
+            area.chains.as_mut_ptr(),
+            area.chains.len(),
+            area.ends.as_mut_ptr(),
+            area.ends.len(),
+        )
+    };
+    let (moved, apart) = listed(answer, &moved, &apart)?;
+    out.truncate(version.form_size(version.stated_rows(&out)));
+    Ok(Numbers { resolved: out, moved, apart })
+}
+
+/// Both lists, or the refusal.
+fn listed(answer: u64, moved: &[u8], apart: &[u8]) -> Result<(Vec<Moved>, Vec<Apart>), Refusal> {
     let (number, rest) = ((answer >> 32) as u32, answer as u32);
     if number != 0 {
         return Err(Refusal::of(number, rest));
     }
-    out.truncate(form_size(usize::from(u16::from_le_bytes([out[6], out[7]]))));
-    Ok(Numbers {
-        resolved: out,
-        moved: entries(&moved, (rest % 65536) as usize)
-            .map(|[place, space, meant, gets]| Moved { place, space, meant: meant as usize, gets: gets as usize })
-            .collect(),
-        apart: entries(&apart, (rest / 65536) as usize)
-            .map(|[place, space, number]| Apart { place, space, number })
-            .collect(),
-    })
+    let moved = entries(moved, (rest % 65536) as usize).map(|[place, space, meant, gets]| Moved {
+        place,
+        space,
+        meant: meant as usize,
+        gets: gets as usize,
+    });
+    let apart = entries(apart, (rest / 65536) as usize).map(|[place, space, number]| Apart { place, space, number });
+    Ok((moved.collect(), apart.collect()))
 }
 
 /// The first entries of a list, so many of N numbers each.

@@ -78,21 +78,29 @@ impl Version {
         self.header_size() + 4 * ROW_SIZE * rows
     }
 
+    /// The rows that a header of this version states.
+    pub(crate) fn stated_rows(self, form: &[u8]) -> usize {
+        match self {
+            Version::One => usize::from(u16::from_le_bytes([form[6], form[7]])),
+            Version::Two => u32::from_le_bytes([form[6], form[7], form[8], form[9]]) as usize,
+        }
+    }
+
     /// How many rows a form of that length has, if its header says so too; no more than any may have.
-    fn rows_in(self, form: &[u8]) -> usize {
+    pub(crate) fn rows_in(self, form: &[u8]) -> usize {
         (form.len().saturating_sub(self.header_size()) / ROW_SIZE).min(self.max_rows())
     }
 }
 
-/// What [`resolve_with`] works in: two tables, the index of each, and the ends of fields. It can be used for any number of
+/// What [`resolve_with`] and the other functions for both versions work in: two tables, the index of each, and the ends of fields. It can be used for any number of
 /// calls, and is zero after each.
 #[derive(Clone, Debug)]
 pub struct WorkingArea {
-    entered: Vec<Slot>,
-    names: Vec<Slot>,
-    known: Vec<u16>,
-    chains: Vec<u16>,
-    ends: Vec<u32>,
+    pub(crate) entered: Vec<Slot>,
+    pub(crate) names: Vec<Slot>,
+    pub(crate) known: Vec<u16>,
+    pub(crate) chains: Vec<u16>,
+    pub(crate) ends: Vec<u32>,
 }
 
 impl WorkingArea {

@@ -1,6 +1,6 @@
 //! The numbers that have moved, as seen through the wrapper.
 
-use wnt::{moved, Apart, Moved, Refusal};
+use wnt::{convert, moved, moved_with, resolve_with, Apart, Moved, Refusal, Version, WorkingArea};
 
 /// A form of these rows, each its code, b, e, x, y, z.
 fn form(rows: &[[u32; 6]]) -> Vec<u8> {
@@ -68,4 +68,25 @@ fn refusals_are_those_of_resolve() {
     let mut unknown = inner(0);
     unknown[8 + 8 * 16 + 4] = 200;
     assert_eq!(moved(&unknown), Err(Refusal::UnknownName { place: 70, space: None }));
+}
+
+#[test]
+fn both_versions_list_the_same_numbers() {
+    let mut area = WorkingArea::new(Version::Two);
+    for number in 0..3 {
+        let first = inner(number);
+        let second = convert(&first, Version::Two).expect("every form goes to version 2");
+        let (one, two) = (moved_with(&first, &mut area), moved_with(&second, &mut area));
+        assert_eq!(one, moved(&first));
+        let (one, two) = (one.expect("the form is accepted"), two.expect("the form is accepted"));
+        assert_eq!((two.moved, two.apart), (one.moved, one.apart));
+        assert_eq!(Ok(two.resolved), resolve_with(&second, &mut area));
+    }
+}
+
+#[test]
+fn an_area_for_version_1_is_too_small_for_version_2() {
+    let form = convert(&inner(0), Version::Two).expect("every form goes to version 2");
+    assert_eq!(moved_with(&form, &mut WorkingArea::new(Version::One)), Err(Refusal::Room));
+    assert_eq!(moved(&form), Err(Refusal::Header));
 }

@@ -1,6 +1,9 @@
 //! Binding sheets, as seen through the wrapper.
 
-use wnt::{resolve, sheet, sheet_bytes, sheet_into, Binding, Refusal, Slot, MAX_SLOTS, SHEET_AREA_SIZE};
+use wnt::{
+    convert, resolve, resolve_with, sheet, sheet_bytes, sheet_into, sheet_with, Binding, Refusal, Slot, Version,
+    WorkingArea, MAX_SLOTS, SHEET_AREA_SIZE,
+};
 
 /// A form of these rows, each its code, b, e, x, y, z.
 fn form(rows: &[[u32; 6]]) -> Vec<u8> {
@@ -101,4 +104,21 @@ fn buffers_are_left_as_said() {
     assert_eq!(sheet_into(&form, &form, &bytes, &mut few, &mut work), Err(Refusal::NotItsSheet));
     assert_eq!(sheet_into(&form, &resolved, &bytes, &mut few, &mut work), Err(Refusal::Room));
     assert_eq!(few, [7; 15]);
+}
+
+#[test]
+fn both_versions_answer_the_same() {
+    let first = driver();
+    let second = convert(&first, Version::Two).expect("every form goes to version 2");
+    let mut area = WorkingArea::new(Version::Two);
+    let resolved = resolve_with(&second, &mut area).expect("the form is accepted");
+    let slots = [slot(70, 1), slot(71, 3), slot(72, 3), slot(73, 1)];
+    let answers = sheet(&first, &resolve(&first).expect("the form is accepted"), &slots);
+    assert!(answers.is_ok());
+    assert_eq!(sheet_with(&first, &resolve(&first).expect("the form is accepted"), &slots, &mut area), answers);
+    assert_eq!(sheet_with(&second, &resolved, &slots, &mut area), answers);
+    assert_eq!(sheet_with(&second, &second, &slots, &mut area), Err(Refusal::NotItsSheet));
+    assert_eq!(sheet_with(&second, &resolved, &[slot(70, 0)], &mut area), Err(Refusal::NotItsSheet));
+    assert_eq!(sheet_with(&second, &resolved, &slots, &mut WorkingArea::new(Version::One)), Err(Refusal::Room));
+    assert_eq!(sheet(&second, &resolved, &slots), Err(Refusal::NotItsSheet));
 }
