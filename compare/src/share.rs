@@ -153,7 +153,11 @@ pub fn run(comparison: &Comparison, seed: u64, forms: u64) -> bool {
             }
         }
     }
-    println!("{forms} forms, seed {seed}: {refused} refused as the resolver refuses them, {written} written and accepted by");
-    println!("both checkers with the aliases that they must have, {sharing} of them with fewer than ours, {spared} spared in all");
+    println!(
+        "{forms} forms, seed {seed}: {refused} refused as the resolver refuses them, {written} written and accepted by"
+    );
+    println!(
+        "both checkers with the aliases that they must have, {sharing} of them with fewer than ours, {spared} spared in all"
+    );
     true
 }

@@ -40,9 +40,8 @@ pub use bindings::{
 };
 pub use builds::{compare, Choice, Entry, Kind};
 pub use claims::{check, check_with, Condition, Verdict, CHECK_LINKS, CHECK_SLOTS};
-pub use members::{batch, batch_into, meant, member, Batch, Meant, Of, Refused, MAX_MEMBERS};
 pub use fewer::{share, share_into};
-pub use members::{meant, member, Meant, Of, Refused};
+pub use members::{batch, batch_into, meant, member, Batch, Meant, Of, Refused, MAX_MEMBERS};
 pub use mending::{mend, Change};
 pub use numbers::{moved, moved_with, Apart, Moved, Numbers};
 pub use refusal::Refusal;
