@@ -2,6 +2,8 @@
 use check::same;
 use libc::STDERR_FILENO;
 use words::say;
+ghost use mathlib.Core.Path.{_≡_};
+ghost use Rattle.options.specs.Given.{isIn};
 
 // An option, as a bit of those that a command takes.
 pub const PLACES: u8 = 1;
@@ -36,8 +38,14 @@ enum Turn {
     Wrong,
 }
 
-pub fn has(set: u8, option: u8) -> bool {
-    set & option != 0
+// Whether an option is in a set of them; 0 is none.
+pub fn has(set: u8, option: u8) -> bool
+    ensures { λ r. ⌜ r ≡ isIn set option ⌝ }
+{
+    if option == 0 {
+        return false;
+    }
+    set / option % 2 == 1
 }
 
 // The argument behind another.

@@ -29,6 +29,9 @@ use rows::row::OPEN;
 use scopes::number_of;
 use view::accepted::is_resolved;
 use words::say;
+ghost use mathlib.Core.Path.{_≡_};
+ghost use mathlib.Core.Bool.{_||_};
+ghost use Rattle.view.specs.Shown.{isThere, anyThere};
 
 fn say_parts(fd: i32, form: &[u8], row: u16) {
     say_count(fd, b"{\"row\":", row as u32);
@@ -164,24 +167,33 @@ pub fn say_size(fd: i32, form: &[u8]) {
     say_count(fd, b",\"inserted\":", inserted_in(form));
 }
 
-// Whether a row is a reference with that place; then it is written.
-fn told(fd: i32, names: &[u8], form: &[u8], row: u16, place: u32) -> bool {
-    if is_reference(form, row) {
-        if z_at(form, row) == place {
-            tell_row(fd, names, form, row);
-            return true;
-        }
+// Whether a row is a reference with that place.
+fn is_there(form: &[u8], row: u16, place: u32) -> bool
+    ensures { λ r. ⌜ r ≡ isThere (now (form .entry)) row place ⌝ }
+{
+    is_reference(form, row) & (z_at(form, row) == place)
+}
+
+// Writes a row that is a reference with that place, and answers whether this or an earlier row was one.
+fn told(fd: i32, names: &[u8], form: &[u8], row: u16, place: u32, earlier: bool) -> bool
+    ensures { λ r. ⌜ r ≡ (earlier || isThere (now (form .entry)) row place) ⌝ }
+{
+    let is_one = is_there(form, row, place);
+    if is_one {
+        tell_row(fd, names, form, row);
     }
-    false
+    earlier | is_one
 }
 
 // Writes the references with that place as objects, and answers whether there is one.
-pub fn tell_place(fd: i32, names: &[u8], form: &[u8], place: u32) -> bool {
+pub fn tell_place(fd: i32, names: &[u8], form: &[u8], place: u32) -> bool
+    ensures { λ r. ⌜ r ≡ anyThere (now (form .entry)) place ⌝ }
+{
     let rows = rows_in(form);
     let mut is_found = false;
     let mut row: u16 = 0;
     while row < rows {
-        is_found = told(fd, names, form, row, place) | is_found;
+        is_found = told(fd, names, form, row, place, is_found);
         row += 1;
     }
     is_found

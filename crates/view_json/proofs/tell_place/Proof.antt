@@ -1,11 +1,14 @@
--- `view_json::tell_place` is safe and ends. The measure is the rows that are left.
+-- `view_json::tell_place` meets its contract. The invariant: the search from here on answers what the whole search does.
+use mathlib.Core.Path.{_≡_}
 use Prim.Native.Nat.{_-_}
 use borrow.Author.Needs.{needs}
+use Rattle.view.specs.Shown.{thereFrom, anyThere}
+use Rattle.view.proofs.ShownLaws.{there-ways}
 use Rattle.view_json.proofs.tell_place.Statement.{statement}
 use Rattle.view_json.proofs.tell_place.Tie as tie
 
 abbrev Inv-loop : tie.InvT-loop
-Inv-loop fd names form place rows is-found₀ row₀ is-found row = Unit {0}
+Inv-loop fd names form place rows is-found₀ row₀ is-found row = thereFrom form place row (rows - row) is-found ≡ anyThere form place
 
 abbrev μ-loop : tie.MeasureT-loop
 μ-loop fd names form place rows is-found₀ row₀ is-found row = rows - row
@@ -17,9 +20,9 @@ tell-place-spec =
     Inv-loop
     μ-loop
     (λ c κs. search needs)  -- rows-in-requires
-    (λ c. search needs)  -- loop-holds
+    (λ c. search there-ways)  -- loop-holds
     (λ c κs. search needs)  -- told-requires
     (λ c. search needs)  -- add-row
     (λ c. search needs)  -- loop-less
-    (λ c. search needs)  -- loop-again
-    (λ c. search needs))  -- returns
+    (λ c. search there-ways)  -- loop-again
+    (λ c. search there-ways))  -- returns
