@@ -11,6 +11,8 @@ enum { STACK = 1 << 20, PAINT = 0xa5, SLOTS = 2046, LINKS = 3070 };
 static uint8_t stack[STACK];
 static uint8_t form[WNT_MAX_FORM_SIZE_2], mended[WNT_MAX_FORM_SIZE_2], out[WNT_MAX_OUT_SIZE_2], list[1 << 20];
 static uint8_t moved[WNT_MOVED_LIST_SIZE(WNT_MAX_ROWS_2)], apart[WNT_APART_LIST_SIZE(WNT_MAX_ROWS_2)];
+static uint8_t restored[WNT_RESTORED_SIZE], area[WNT_MAX_OUT_SIZE_2];
+static const uint8_t slot[WNT_SLOT_SIZE] = {3, 0, 0, 0, 1, 0, 0, 0, 1, 0, 0, 0};
 static wnt_slot table[SLOTS];
 static uint16_t index_of[LINKS];
 static struct wnt_work_2 work;
@@ -20,9 +22,33 @@ static ucontext_t here, there;
 
 static void resolve(void) { answer = wnt_resolve(form, form_len, out, sizeof out); }
 
-static void check(void)
+/* The length of the resolved form that stands in `out`. */
+static size_t out_len(void) { return WNT_FORM_SIZE(out[6] + 256u * out[7]); }
+
+static void check(void) { answer = wnt_check(form, form_len, out, out_len(), table, SLOTS, index_of, LINKS); }
+
+static void told(void)
 {
-    answer = wnt_check(form, form_len, out, WNT_FORM_SIZE(out[6] + 256u * out[7]), table, SLOTS, index_of, LINKS);
+    uint32_t numbers[WNT_TOLD];
+    answer = wnt_resolve_told(form, form_len, out, sizeof out, numbers, WNT_TOLD);
+}
+
+static void sheet(void)
+{
+    uint8_t answers[WNT_ANSWER_SIZE];
+    answer = wnt_sheet(form, form_len, out, out_len(), slot, sizeof slot, answers, sizeof answers, area, sizeof area);
+}
+
+static void sheet_with(void)
+{
+    uint8_t answers[WNT_ANSWER_SIZE];
+    answer = wnt_sheet_with(form, form_len, out, out_len(), slot, sizeof slot, answers, sizeof answers, area, sizeof area,
+                            WNT_LENT(&work));
+}
+
+static void unresolve(void)
+{
+    answer = wnt_unresolve(out, out_len(), list, sizeof list, restored, sizeof restored, area, sizeof area);
 }
 
 static void share(void) { answer = wnt_share(form, form_len, out, sizeof out, table, SLOTS, index_of, LINKS); }
@@ -68,9 +94,22 @@ static const struct {
     const char *name;
     void (*call)(void);
 } calls[] = {
-    {"wnt_resolve", resolve}, {"wnt_check", check}, {"wnt_moved", list_moved}, {"wnt_resolve_with", resolve_with},
-    {"wnt_mend", mend},       {"wnt_compare", compare}, {"wnt_convert", convert}, {"wnt_meant", meant},
-    {"wnt_member", member},   {"wnt_batch", batch},     {"wnt_moved_with", list_moved_with}, {"wnt_share", share},
+    {"wnt_resolve", resolve},
+    {"wnt_resolve_told", told},
+    {"wnt_check", check},
+    {"wnt_sheet", sheet},
+    {"wnt_sheet_with", sheet_with},
+    {"wnt_unresolve", unresolve},
+    {"wnt_moved", list_moved},
+    {"wnt_moved_with", list_moved_with},
+    {"wnt_resolve_with", resolve_with},
+    {"wnt_mend", mend},
+    {"wnt_compare", compare},
+    {"wnt_convert", convert},
+    {"wnt_meant", meant},
+    {"wnt_member", member},
+    {"wnt_batch", batch},
+    {"wnt_share", share},
 };
 
 /* The bytes of the stack that were touched by one call. */
