@@ -7,7 +7,10 @@ use lib.Dec.{ltb}
 use lib.ListN.{length, drop}
 use Rattle.kit.specs.Pick.{pick}
 use Rattle.kit.specs.Out.{Out, _&_}
-use Rattle.rules.specs.Versions.{Version, asClaimed}
+use Rattle.rules.specs.Versions.{Version, RuleSet, asClaimed}
+use Rattle.rules.specs.Tree.{Scope}
+use Rattle.rules.specs.Rules.{resolve}
+use Rattle.rules.specs.Answer.{AnswerOf, refused, accepted}
 use Rattle.read_form.specs.ReadForm.{readForm}
 use Rattle.limits.specs.Held.{limitsOf, setting}
 use Rattle.form.specs.Header.{headerTo}
@@ -16,7 +19,8 @@ use Rattle.form.specs.declared.header.Header.the-variants.{Rows, Wrong, Count}
 use Rattle.whole_form.specs.Whole.{formOf}
 use Rattle.whole_form.specs.declared.read.Form.{Form}
 use Rattle.whole_form.specs.declared.read.Form.the-variants as read
-use Rattle.resolver.specs.Steps.{stepsT}
+use Rattle.refusal.specs.Refusals.{refusalAt}
+use Rattle.resolver.specs.Steps.{stepsT, stepsOf}
 use Rattle.resolver.specs.declared.steps.Steps.{Steps}
 use Rattle.resolver.specs.declared.steps.Steps.the-variants as steps
 use Rattle.checking.specs.CheckAnswer.{slotsOf, linksOf}
@@ -86,6 +90,11 @@ inputBy i form claim room (read.Whole rows) = stepsBy i form claim room (stepsT 
 
 unfoldable pub judgeT : (i : ℕ) (form claim : List ℕ) (room : ℕ) → Verdict
 judgeT i form claim room = inputBy i form claim room (formOf (readForm (setting i) form))
+
+-- what is refused of an input that was read, whatever tables the steps have: by its reading, or else by the steps
+unfoldable pub inputOf : RuleSet → AnswerOf Scope → Steps
+inputOf rules (refused number place carried) = steps.Refused (refusalAt number place)
+inputOf rules (accepted s) = stepsOf (resolve rules s)
 
 -- an area is too small
 unfoldable pub smallBy : Header → Verdict

@@ -50,14 +50,14 @@ fn most_rows(i: usize) -> usize
 }
 
 // How many slots the table has to have.
-fn slots(i: usize) -> usize
+pub fn slots(i: usize) -> usize
     ensures { λ r. ⌜ (r ≡ slotsOf (versionOf i)) × (r ≤ 32766) ⌝ }
 {
     2 * most_rows(i)
 }
 
 // How many numbers the index has to have.
-fn links(i: usize) -> usize
+pub fn links(i: usize) -> usize
     ensures { λ r. ⌜ r ≡ linksOf (versionOf i) ⌝ }
 {
     1024 + slots(i)
@@ -75,7 +75,7 @@ fn judge_rows(form: &[u8], claim: &[u8], i: usize, table: &mut [Slot], index: &m
 }
 
 // The conditions on a claim, where the input is accepted.
-fn judge_claim(
+pub fn judge_claim(
     form: &[u8],
     claim: &[u8],
     i: usize,
@@ -133,7 +133,7 @@ fn refused(number: u32) -> Verdict
 }
 
 // An area is too small: that comes after a wrong header and a wrong row count of the input.
-fn refuse_small(form: &[u8], i: usize) -> Verdict
+pub fn refuse_small(form: &[u8], i: usize) -> Verdict
     ensures { λ r. ⌜ r ≡ smallT i (now (form .entry)) ⌝ }
 {
     match header_to(form, of_input(i)) {
@@ -159,7 +159,7 @@ fn decide(form: &[u8], claim: &[u8], i: usize, table: &mut [Slot], index: &mut [
 }
 
 // The areas are handed back empty.
-fn clear(table: &mut [Slot], index: &mut [u16], i: usize)
+pub fn clear(table: &mut [Slot], index: &mut [u16], i: usize)
     ensures { λ _. ⌜ (now (table .exit) ≡ cleared (slotsOf (versionOf i)) emptySlot (now (table .entry))) × (now (index .exit) ≡ cleared (linksOf (versionOf i)) 0 (now (index .entry))) ⌝ }
 {
     clear_table(table, slots(i));

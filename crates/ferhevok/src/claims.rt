@@ -1,4 +1,5 @@
-// The C function that checks another assembler's output.
+// The C functions that check another assembler's output.
+use check_with::check_with as judge_with;
 use claim_check::Verdict;
 use claim_check::run::check;
 use names::Slot;
@@ -6,7 +7,10 @@ ghost use mathlib.Core.Path.{_≡_};
 ghost use lib.ListN.{length};
 ghost use Rattle.rules.specs.Versions.{base};
 ghost use Rattle.checking.specs.CheckAnswer.{checkAnswer, tableAfter, indexAfter};
+ghost use Rattle.resolver_with.specs.Served.{served, asked};
+ghost use Rattle.resolver_with.specs.Areas.{lentOf, Cleared};
 ghost use Rattle.claim_check.specs.Meaning.{meaning, ruled};
+ghost use Rattle.check_with.specs.With.{checkWith};
 ghost use Rattle.ferhevok.specs.Packed.{packedVerdict};
 
 // 0 for yes; for no 100 and the condition, for a refusal its number, times 2^32, plus the row or the place.
@@ -26,4 +30,34 @@ pub extern "C" fn wnt_check(form: &[u8], claim: &[u8], table: &mut [Slot], index
     ensures { λ r. ⌜ (r ≡ packedVerdict (ruled (checkAnswer base (now (form .entry)) (now (claim .entry)) (length (now (table .entry))) (length (now (index .entry)))))) × (now (table .exit) ≡ tableAfter base (now (form .entry)) (now (table .entry))) × (now (index .exit) ≡ indexAfter base (now (form .entry)) (now (index .entry))) ⌝ }
 {
     packed_verdict(check(form, claim, table, index))
+}
+
+// The same for every setting in force, in the areas of `wnt_resolve_with` besides.
+#[no_mangle]
+pub extern "C" fn wnt_check_with(
+    form: &[u8],
+    claim: &[u8],
+    table: &mut [Slot],
+    index: &mut [u16],
+    entered: &mut [Slot],
+    names: &mut [Slot],
+    known: &mut [u16],
+    chains: &mut [u16],
+    ends: &mut [u32],
+) -> u64
+    ensures { λ r. ⌜ r ≡ packedVerdict (ruled (checkWith (now (form .entry)) (now (claim .entry)) (length (now (table .entry))) (length (now (index .entry))) (lentOf (now (entered .entry)) (now (names .entry)) (now (known .entry)) (now (chains .entry)) (now (ends .entry))))) ⌝ }
+    ensures { λ r. ⌜ (now (table .exit) ≡ tableAfter served (now (form .entry)) (now (table .entry))) × (now (index .exit) ≡ indexAfter served (now (form .entry)) (now (index .entry))) ⌝ }
+    ensures { λ r. ⌜ Cleared (asked (now (form .entry)) .version) (now (entered .entry)) (now (entered .exit)) (now (names .entry)) (now (names .exit)) (now (known .entry)) (now (known .exit)) (now (chains .entry)) (now (chains .exit)) (now (ends .entry)) (now (ends .exit)) ⌝ }
+{
+    packed_verdict(judge_with(
+        form,
+        claim,
+        table,
+        index,
+        entered,
+        names,
+        known,
+        chains,
+        ends,
+    ))
 }

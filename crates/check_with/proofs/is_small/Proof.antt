@@ -1,0 +1,13 @@
+-- `check_with::is_small` meets its contract.
+use Rattle.check_with.proofs.Whole.{small-tests}
+use borrow.Author.Needs.{needs}
+use Rattle.check_with.proofs.is_small.Statement.{statement}
+use Rattle.check_with.proofs.is_small.Tie as tie
+
+pub is-small-spec : {M : Type 1} → statement M
+is-small-spec =
+    tie.close
+    (tie.spec
+    (λ c κs. search needs)  -- slots-requires
+    (λ c κs. search needs)  -- links-requires
+    (λ c. search (small-tests, needs)))  -- returns
