@@ -163,12 +163,13 @@ static inline const char *wnt_text(uint32_t number)
     }
 }
 
-/* The stack that is enough for any call on a form of version 1. Measured on x86-64 (compare/stack.c) at the driver of the
- * examples and at 32 open scopes: wnt_resolve 66,432 and 90,360 bytes, wnt_moved 66,656 and 90,584, wnt_check 71,472 and
- * 95,400, wnt_resolve_with 10,400 and 28,184, wnt_mend 5,608, wnt_compare 8,032, wnt_convert 7,888, wnt_meant 528; at the
- * driver in itself and at 31 open scopes: wnt_member 97,056 and 120,816, wnt_batch 97,088 and 120,848. It does not depend
- * on the rows. */
-#define WNT_STACK_SIZE 131072
+/* The stack that is enough for any call. Measured on x86-64 (compare/stack.c) at the driver of the examples and at 32 open
+ * scopes: wnt_resolve 66,552 and 92,416 bytes, wnt_resolve_told 66,584 and 92,448, wnt_moved 66,632 and 92,496, wnt_sheet
+ * 66,664 and 92,528, wnt_check 71,672 and 97,536, wnt_share 120,984 and 146,848, wnt_unresolve 128,232 and 154,096,
+ * wnt_mend 5,607, wnt_compare 5,744, wnt_convert 5,600, wnt_meant 576; at the driver in itself and at 31 open scopes
+ * wnt_member 94,768 and 116,272, wnt_batch 94,800 and 116,304. The functions whose tables are lent take 8,240 to 8,416
+ * bytes at the driver, and at the 64 scopes of version 2 at most 58,192. It does not depend on the rows. */
+#define WNT_STACK_SIZE 196608
 
 /* The answer's upper half: one of the numbers above. */
 #define WNT_NUMBER(answer) ((uint32_t)((answer) >> 32))
