@@ -358,9 +358,11 @@ uint64_t wnt_compare(const uint8_t *left, size_t left_len, const uint8_t *right,
                      uint8_t *list, size_t list_len);
 
 /* The sizes of the two working areas of wnt_check, for an input of version 1: slots of six numbers of four bytes each, and
- * numbers of two bytes. Together they are 55,244 bytes. */
+ * numbers of two bytes. Together they are 55,244 bytes. Those for version 2 are of wnt_check_with alone, and are 853,964. */
 #define WNT_CHECK_SLOTS 2046
 #define WNT_CHECK_LINKS 3070
+#define WNT_CHECK_SLOTS_2 32766
+#define WNT_CHECK_LINKS_2 33790
 
 /* The upper half of the answer of wnt_check where the claim is no resolved form of the input. */
 enum wnt_condition {
@@ -390,6 +392,18 @@ enum wnt_condition {
  * `claim` may be the same, and for the rest what is said of wnt_resolve holds. */
 uint64_t wnt_check(const uint8_t *form, size_t form_len, const uint8_t *claim, size_t claim_len, wnt_slot *table,
                    size_t table_len, uint16_t *index, size_t index_len);
+
+/* The same for an input of version 1 or 2, to whose header but for the count the claim's must be equal (else WNT_NO_FORM,
+ * row 0). `table` and `index` have the sizes of the input's version; the areas of wnt_resolve_with come besides, for the
+ * steps on the input. An area that is too small is refusal 3 as above, and after every return all seven are zero up to
+ * their sizes for that version; a header of neither version counts as version 1 there:
+ *
+ *     wnt_check_with(form, form_len, claim, claim_len, table, WNT_CHECK_SLOTS_2, index, WNT_CHECK_LINKS_2,
+ *                    WNT_LENT(&work)) */
+uint64_t wnt_check_with(const uint8_t *form, size_t form_len, const uint8_t *claim, size_t claim_len, wnt_slot *table,
+                        size_t table_len, uint16_t *index, size_t index_len, wnt_slot *entered, size_t entered_len,
+                        wnt_slot *names, size_t names_len, uint16_t *known, size_t known_len, uint16_t *chains,
+                        size_t chains_len, uint32_t *ends, size_t ends_len);
 
 /* Resolves a form of version 1 into `out` with fewer aliases: in each scope references to the same outer declaration share
  * one inserted alias, which stands before the first field that needs it. References with PATHs share none, and written

@@ -1,12 +1,19 @@
 //! Another assembler's output, checked.
 
 use crate::refusal::Refusal;
+use crate::{Version, WorkingArea};
 
 /// The slots that the table must have, six numbers each.
 pub const CHECK_SLOTS: usize = 2046;
 
 /// The numbers that the index must have.
 pub const CHECK_LINKS: usize = 3070;
+
+/// The slots for an input of version 2.
+pub const CHECK_SLOTS_2: usize = 32_766;
+
+/// The numbers for an input of version 2.
+pub const CHECK_LINKS_2: usize = 33_790;
 
 extern "C" {
     fn wnt_check(
@@ -18,6 +25,26 @@ extern "C" {
         slots: usize,
         index: *mut u16,
         links: usize,
+    ) -> u64;
+    fn wnt_check_with(
+        form: *const u8,
+        form_len: usize,
+        claim: *const u8,
+        claim_len: usize,
+        table: *mut [u32; 6],
+        slots: usize,
+        index: *mut u16,
+        links: usize,
+        entered: *mut [u32; 6],
+        entered_len: usize,
+        names: *mut [u32; 6],
+        names_len: usize,
+        known: *mut u16,
+        known_len: usize,
+        chains: *mut u16,
+        chains_len: usize,
+        ends: *mut u32,
+        ends_len: usize,
     ) -> u64;
 }
 
@@ -75,6 +102,61 @@ pub fn check_with(form: &[u8], claim: &[u8], table: &mut [[u32; 6]], index: &mut
             links,
         )
     };
+    verdict(answer)
+}
+
+/// The same for an input of either version; the claim must have its header but for the count.
+///
+/// Its table and index have the sizes that the check needs. So it is refused with [`Refusal::Room`] only if the input is of
+/// version 2 and the working area for version 1.
+pub fn check_either(form: &[u8], claim: &[u8], area: &mut WorkingArea) -> Result<Verdict, Refusal> {
+    let (slots, links) = match Version::of(form) {
+        Some(Version::Two) => (CHECK_SLOTS_2, CHECK_LINKS_2),
+        _ => (CHECK_SLOTS, CHECK_LINKS),
+    };
+    check_either_with(form, claim, &mut vec![[0; 6]; slots], &mut vec![0; links], area)
+}
+
+/// The same in lent areas: for an input of version 1 of [`CHECK_SLOTS`] and [`CHECK_LINKS`], or more, for one of version 2
+/// of [`CHECK_SLOTS_2`] and [`CHECK_LINKS_2`].
+///
+/// Whatever they held, all are zero afterwards up to the sizes of the input's version, and as they were beyond.
+pub fn check_either_with(
+    form: &[u8],
+    claim: &[u8],
+    table: &mut [[u32; 6]],
+    index: &mut [u16],
+    area: &mut WorkingArea,
+) -> Result<Verdict, Refusal> {
+    // SAFETY: every buffer is valid for its length while the call lasts, and all that are written are borrowed alone, so
+    // that none overlaps another. The library keeps no pointer.
+    let answer = unsafe {
+        wnt_check_with(
+            form.as_ptr(),
+            form.len(),
+            claim.as_ptr(),
+            claim.len(),
+            table.as_mut_ptr(),
+            table.len(),
+            index.as_mut_ptr(),
+            index.len(),
+            area.entered.as_mut_ptr(),
+            area.entered.len(),
+            area.names.as_mut_ptr(),
+            area.names.len(),
+            area.known.as_mut_ptr(),
+            area.known.len(),
+            area.chains.as_mut_ptr(),
+            area.chains.len(),
+            area.ends.as_mut_ptr(),
+            area.ends.len(),
+        )
+    };
+    verdict(answer)
+}
+
+/// What the library answered.
+fn verdict(answer: u64) -> Result<Verdict, Refusal> {
     let (number, row) = ((answer >> 32) as u32, answer as u32);
     match number {
         0 => Ok(Verdict::Yes),

@@ -39,7 +39,10 @@ pub use bindings::{
     sheet, sheet_bytes, sheet_into, sheet_with, Binding, Slot, ANSWER_SIZE, MAX_SLOTS, SHEET_AREA_SIZE, SLOT_SIZE,
 };
 pub use builds::{compare, Choice, Entry, Kind};
-pub use claims::{check, check_with, Condition, Verdict, CHECK_LINKS, CHECK_SLOTS};
+pub use claims::{
+    check, check_either, check_either_with, check_with, Condition, Verdict, CHECK_LINKS, CHECK_LINKS_2, CHECK_SLOTS,
+    CHECK_SLOTS_2,
+};
 pub use fewer::{share, share_into};
 pub use members::{batch, batch_into, meant, member, Batch, Meant, Of, Refused, MAX_MEMBERS};
 pub use mending::{mend, Change};

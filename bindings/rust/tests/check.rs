@@ -1,6 +1,9 @@
 //! Another assembler's output checked, as seen through the wrapper.
 
-use wnt::{check, check_with, resolve, Condition, Refusal, Verdict, CHECK_LINKS, CHECK_SLOTS};
+use wnt::{
+    check, check_either, check_either_with, check_with, resolve, resolve_with, Condition, Refusal, Verdict, Version,
+    WorkingArea, CHECK_LINKS, CHECK_LINKS_2, CHECK_SLOTS, CHECK_SLOTS_2,
+};
 
 /// A row's parts: code, b, e, x, y, z.
 type Row = [u32; 6];
@@ -93,4 +96,53 @@ fn areas_are_zero_up_to_their_sizes() {
     assert!(index[..CHECK_LINKS].iter().all(|link| *link == 0) && index[CHECK_LINKS] == 9);
     let short = check_with(&input(), &shared(1, 1, 1), &mut table[..CHECK_SLOTS - 1], &mut index);
     assert_eq!(short, Err(Refusal::Room));
+}
+
+/// The same rows behind a header of version 2.
+fn second(form: &[u8]) -> Vec<u8> {
+    [b"WNT\x02\x00\x00".as_slice(), &form[6..8], &[0; 8], &form[8..]].concat()
+}
+
+#[test]
+fn both_versions_get_the_same_verdict() {
+    let mut area = WorkingArea::new(Version::Two);
+    let own = resolve(&input()).expect("it is accepted");
+    assert_eq!(resolve_with(&second(&input()), &mut area), Ok(second(&own)));
+    for claim in [own, shared(1, 1, 1), shared(1, 1, 0), shared(0, 1, 1), input()] {
+        let said = check(&input(), &claim);
+        assert_eq!(check_either(&input(), &claim, &mut area), said);
+        assert_eq!(check_either(&second(&input()), &second(&claim), &mut area), said);
+    }
+}
+
+#[test]
+fn a_claim_of_the_other_version_is_no_form_of_the_input() {
+    let mut area = WorkingArea::new(Version::Two);
+    let own = resolve(&input()).expect("it is accepted");
+    let no = Ok(Verdict::No { condition: Condition::Form, row: 0 });
+    assert_eq!(check_either(&second(&input()), &own, &mut area), no);
+    assert_eq!(check_either(&input(), &second(&own), &mut area), no);
+    assert_eq!(check(&second(&input()), &second(&own)), Err(Refusal::Header));
+}
+
+#[test]
+fn areas_of_version_1_are_too_small_for_version_2() {
+    let (form, mut area) = (second(&input()), WorkingArea::new(Version::Two));
+    let claim = resolve_with(&form, &mut area).expect("it is accepted");
+    assert_eq!(check_either(&form, &claim, &mut WorkingArea::new(Version::One)), Err(Refusal::Room));
+    for (slots, links) in [(CHECK_SLOTS_2 - 1, CHECK_LINKS_2), (CHECK_SLOTS_2, CHECK_LINKS_2 - 1)] {
+        let (mut table, mut index) = (vec![[1; 6]; slots], vec![1; links]);
+        assert_eq!(check_either_with(&form, &claim, &mut table, &mut index, &mut area), Err(Refusal::Room));
+        assert!(table.iter().all(|slot| *slot == [0; 6]) && index.iter().all(|number| *number == 0));
+    }
+}
+
+#[test]
+fn areas_are_empty_up_to_the_size_of_version_2() {
+    let (form, mut area) = (second(&input()), WorkingArea::new(Version::Two));
+    let claim = resolve_with(&form, &mut area).expect("it is accepted");
+    let (mut table, mut index) = (vec![[7; 6]; CHECK_SLOTS_2 + 1], vec![7; CHECK_LINKS_2 + 1]);
+    assert_eq!(check_either_with(&form, &claim, &mut table, &mut index, &mut area), Ok(Verdict::Yes));
+    assert!(table[..CHECK_SLOTS_2].iter().all(|slot| *slot == [0; 6]) && table[CHECK_SLOTS_2] == [7; 6]);
+    assert!(index[..CHECK_LINKS_2].iter().all(|number| *number == 0) && index[CHECK_LINKS_2] == 7);
 }
