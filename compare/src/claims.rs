@@ -4,8 +4,7 @@
 use crate::compare::{Case, Comparison};
 use crate::recognise;
 use crate::rows::{
-    Answer, CASE, CLOSE, DECL, EXPORT, FIELD, FIRST_INSERTED, HEADER, MOST_ROWS, OPEN, OUTER, PATH, REF, ROW, Row,
-    decode,
+    Answer, CASE, CLOSE, DECL, EXPORT, FIELD, FIRST, FIRST_INSERTED, OPEN, OUTER, PATH, REF, Row, Version,
 };
 use crate::shapes::Shapes;
 use std::collections::{BTreeMap, BTreeSet};
@@ -128,17 +127,16 @@ impl<'r> Reading<'r> {
 
 // ---- the conditions
 
-/// Condition 1: the rows of the claim.
-fn rows_of(shapes: &Shapes, claim: &[u8]) -> Result<Vec<Row>, usize> {
-    if claim.len() < HEADER || claim[..6] != *b"WNT\x01\x00\x00" {
+/// Condition 1: the rows of the claim, held to the input's version with four times the rows.
+fn rows_of(version: Version, shapes: &Shapes, claim: &[u8]) -> Result<Vec<Row>, usize> {
+    let claimed = Version { rows: 4 * version.rows, ..version };
+    if !claimed.begins(claim, 0) {
         return Err(0);
     }
-    let count = usize::from(u16::from_le_bytes([claim[6], claim[7]]));
-    if count == 0 || count > 4 * MOST_ROWS || claim.len() != HEADER + ROW * count {
-        return Err(0);
-    }
-    let rows = decode(claim);
-    recognise::read(shapes, &with_low_names(&rows)).map(|()| rows).map_err(|(_, row)| row as usize)
+    recognise::sized(claimed, claim).map_err(|(_, place)| place as usize)?;
+    let rows = claimed.decode(claim);
+    let read = recognise::read_within(shapes, &with_low_names(&rows), claimed.scopes);
+    read.map(|()| rows).map_err(|(_, row)| row as usize)
 }
 
 /// The rows with other names, all below 2147483648 and as different as they were.
@@ -299,8 +297,8 @@ impl<'r> Operands<'r> {
 }
 
 /// The four conditions in their order, of an input that is accepted.
-fn conditions(shapes: &Shapes, input: &[Row], claim: &[u8]) -> Verdict {
-    let rows = match rows_of(shapes, claim) {
+fn conditions(version: Version, shapes: &Shapes, input: &[Row], claim: &[u8]) -> Verdict {
+    let rows = match rows_of(version, shapes, claim) {
         Ok(rows) => rows,
         Err(row) => return Verdict::No { condition: 1, row },
     };
@@ -316,8 +314,13 @@ fn conditions(shapes: &Shapes, input: &[Row], claim: &[u8]) -> Verdict {
 
 /// The verdict on a claim, and the input's answer.
 pub fn verdict(comparison: &Comparison, case: &Case, claim: &[u8]) -> Verdict {
-    match comparison.expected(case) {
-        Answer::Accepted(_) => conditions(&comparison.shapes, &decode(&case.form), claim),
+    verdict_as(FIRST, comparison, case, claim)
+}
+
+/// The same where the input is read as one of this version.
+pub fn verdict_as(version: Version, comparison: &Comparison, case: &Case, claim: &[u8]) -> Verdict {
+    match comparison.expected_as(version, case) {
+        Answer::Accepted(_) => conditions(version, &comparison.shapes, &version.decode(&case.form), claim),
         Answer::Refused { number, place } => Verdict::Refused { number, place },
         Answer::Panicked => panic!("the crate panicked"),
     }

@@ -105,6 +105,26 @@ unsafe extern "C" {
         apart: *mut u8,
         apart_len: usize,
     ) -> u64;
+    fn wnt_check_with(
+        form: *const u8,
+        form_len: usize,
+        claim: *const u8,
+        claim_len: usize,
+        table: *mut Slot,
+        table_len: usize,
+        index: *mut u16,
+        index_len: usize,
+        entered: *mut Slot,
+        entered_len: usize,
+        names: *mut Slot,
+        names_len: usize,
+        known: *mut u16,
+        known_len: usize,
+        chains: *mut u16,
+        chains_len: usize,
+        ends: *mut u32,
+        ends_len: usize,
+    ) -> u64;
     fn wnt_moved_with(
         form: *const u8,
         form_len: usize,
@@ -367,6 +387,35 @@ pub fn check(form: &[u8], claim: &[u8], table: &mut [[u32; 6]], index: &mut [u16
             slots,
             index.as_mut_ptr(),
             links,
+        )
+    }
+}
+
+/// The answer of `wnt_check_with`, which works in all but the form and the claim.
+pub fn check_with(form: &[u8], claim: &[u8], table: &mut [Slot], index: &mut [u16], areas: &mut Areas) -> u64 {
+    let Areas { entered, names, known, chains, ends } = areas;
+    // SAFETY: all parts are valid for their lengths, and those that are written are apart from each other, for as long as
+    // the call lasts.
+    unsafe {
+        wnt_check_with(
+            form.as_ptr(),
+            form.len(),
+            claim.as_ptr(),
+            claim.len(),
+            table.as_mut_ptr(),
+            table.len(),
+            index.as_mut_ptr(),
+            index.len(),
+            entered.as_mut_ptr(),
+            entered.len(),
+            names.as_mut_ptr(),
+            names.len(),
+            known.as_mut_ptr(),
+            known.len(),
+            chains.as_mut_ptr(),
+            chains.len(),
+            ends.as_mut_ptr(),
+            ends.len(),
         )
     }
 }

@@ -75,6 +75,7 @@ compare --moved-with N [--seed S]              the same for forms of both versio
 compare --sheet N [--seed S]                   hold a binding sheet against N forms, and compare with a second reading
 compare --sheet-with N [--seed S]              the same for forms of both versions, in working areas that are lent
 compare --check N [--seed S]                   check N claimed outputs, and compare with a checker written for it
+compare --check-with N [--seed S]              the same for inputs of both versions, in working areas that are lent
 compare --check-bench N                        time checking beside resolving, the shortest of N calls each
 compare --moved-bench N                        time listing moved numbers beside resolving, the shortest of N calls each
 compare --share N [--seed S]                   resolve N forms with fewer aliases, and check and count them
@@ -207,7 +208,9 @@ fn main() -> ExitCode {
         bench::moved(repetitions as usize);
         true
     } else if let Some(pairs) = number(&arguments, "--check") {
-        verify::run(&comparison(), number(&arguments, "--seed").unwrap_or(1), pairs)
+        verify::run(&comparison(), number(&arguments, "--seed").unwrap_or(1), pairs, false)
+    } else if let Some(pairs) = number(&arguments, "--check-with") {
+        verify::run(&comparison(), number(&arguments, "--seed").unwrap_or(1), pairs, true)
     } else if let Some(outputs) = number(&arguments, "--unresolve") {
         names_back::run(&comparison(), number(&arguments, "--seed").unwrap_or(1), outputs)
     } else if let Some(forms) = number(&arguments, "--share") {

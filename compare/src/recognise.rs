@@ -54,12 +54,7 @@ pub fn sized(version: Version, form: &[u8]) -> Result<usize, Refusal> {
     if sound { Ok(count) } else { Err((2, 0)) }
 }
 
-/// Refusals 4 and 5 of version 1.
-pub fn read(shapes: &Shapes, rows: &[Row]) -> Result<(), Refusal> {
-    read_within(shapes, rows, FIRST.scopes)
-}
-
-/// The same with so many scopes open.
+/// Refusals 4 and 5, where at most so many scopes may be open.
 pub fn read_within(shapes: &Shapes, rows: &[Row], most: usize) -> Result<(), Refusal> {
     let mut reading = Reading { shapes, most, scopes: Vec::new(), paths: 0 };
     for (place, row) in rows.iter().enumerate() {

@@ -1,20 +1,26 @@
-//! `wnt_check` beside a checker by the text of request R-4, on inputs with claims that are right, wrong or neither.
+//! `wnt_check` and `wnt_check_with` beside a checker by the text of request R-4, on inputs with claims that are right, wrong or neither.
 
 use crate::chance::Chance;
-use crate::claims::{Reading, Verdict, verdict};
+use crate::claims::{Reading, Verdict, verdict_as};
 use crate::compare::{Case, Comparison};
-use crate::damage::damage;
+use crate::damage::damage_as;
 use crate::generate;
+use crate::lent::{self, Lender};
 use crate::library;
 use crate::partner::Partner;
-use crate::rows::{Answer, FIRST, HEADER, ROW, Row, Version, decode, encode, output_size};
+use crate::rows::{Answer, FIRST, HEADER, ROW, Row, SECOND, Version};
 use crate::vectors::{Function, Lent, Sample, Vector};
 use crate::wrong;
 use std::collections::BTreeMap;
 
-/// The sizes of the two areas.
+/// The sizes of the two areas for version 1.
 pub const SLOTS: usize = 2046;
 pub const LINKS: usize = 3070;
+
+/// Their sizes for a version.
+fn sizes(version: Version) -> (usize, usize) {
+    (2 * version.rows, 1024 + 2 * version.rows)
+}
 
 /// What the areas are filled with, to see what is left of it.
 pub const SLOT: [u32; 6] = [7, 6, 5, 4, 3, 2];
@@ -53,65 +59,79 @@ const KINDS: [Kind; 12] = [
 
 struct Pair {
     kind: Kind,
+    /// What the input is read as: of version 1, or by its header where areas are lent for both.
+    version: Version,
     input: Case,
     claim: Vec<u8>,
 }
 
 /// What our resolver writes; of an input that it refuses, nothing.
-fn ours(form: &[u8]) -> Vec<u8> {
-    let mut out = vec![0; output_size(form.len() / ROW)];
-    let answer = library::resolve(form, &mut out);
+fn ours(version: Version, form: &[u8]) -> Vec<u8> {
+    let mut out = vec![0; version.output_size(form.len() / ROW)];
+    let answer = if version == FIRST {
+        library::resolve(form, &mut out)
+    } else {
+        library::resolve_with(form, &mut out, &mut Lender::new().areas_of(version))
+    };
     let rows = if answer >> 32 == 0 { answer as usize } else { 0 };
-    out.truncate(if rows == 0 { 0 } else { HEADER + ROW * rows });
+    out.truncate(if rows == 0 { 0 } else { version.form_size(rows) });
     out
 }
 
-/// An input with a claim. Of an input that is refused any bytes will do.
-fn pair(comparison: &Comparison, chance: &mut Chance) -> Pair {
-    let rows = generate::form(&comparison.shapes, chance.next());
-    let form = if chance.percent(3) { damage(&rows, chance) } else { encode(&rows) };
+/// An input with a claim, where areas are lent mostly of version 2. Of an input that is refused any bytes will do.
+fn pair(comparison: &Comparison, chance: &mut Chance, lending: bool) -> Pair {
+    let version = if lending && chance.percent(80) { SECOND } else { FIRST };
+    let rows = generate::form_of(version, &comparison.shapes, chance.next());
+    let form = if chance.percent(3) { damage_as(version, &rows, chance) } else { version.encode(&rows) };
+    let version = if lending { lent::asked_for(&form) } else { FIRST };
     let input = Case { out_len: usize::MAX, ..Case::exact(form, chance) };
     let kind = chance.pick(&KINDS);
-    let Answer::Accepted(resolved) = comparison.expected(&input) else {
+    let Answer::Accepted(resolved) = comparison.expected_as(version, &input) else {
         let claim = if chance.percent(50) { input.form.clone() } else { Vec::new() };
-        return Pair { kind: Kind::Others, input, claim };
+        return Pair { kind: Kind::Others, version, input, claim };
     };
-    let rows = decode(&input.form);
-    let claim = claim(comparison, kind, &input.form, &rows, &resolved, chance);
-    Pair { kind, input, claim }
+    let claim = claim(comparison, kind, version, &input.form, &resolved, chance);
+    Pair { kind, version, input, claim }
 }
 
 fn claim(
     comparison: &Comparison,
     kind: Kind,
+    version: Version,
     form: &[u8],
-    rows: &[Row],
     resolved: &[Row],
     chance: &mut Chance,
 ) -> Vec<u8> {
-    let input = Reading::of(rows);
+    let rows = version.decode(form);
+    let input = Reading::of(&rows);
     match kind {
-        Kind::Ours => ours(form),
-        Kind::Crates => encode(resolved),
-        Kind::Partners => encode(&Partner::claim(&input, chance, 0)),
-        Kind::Through => encode(&Partner::claim(&input, chance, 100)),
+        Kind::Ours => ours(version, form),
+        Kind::Crates => version.encode(resolved),
+        Kind::Partners => version.encode(&Partner::claim(&input, chance, 0)),
+        Kind::Through => version.encode(&Partner::claim(&input, chance, 100)),
         Kind::Spoilt => {
             let right = if chance.percent(50) { resolved.to_vec() } else { Partner::claim(&input, chance, 0) };
-            wrong::spoilt(&right, rows, chance)
+            wrong::spoilt(version, &right, &rows, chance)
         }
         Kind::Others if chance.percent(50) => form.to_vec(),
-        Kind::Others => ours(&encode(&generate::form(&comparison.shapes, chance.next()))),
+        Kind::Others => ours(version, &version.encode(&generate::form_of(version, &comparison.shapes, chance.next()))),
     }
 }
 
 /// Lengths of the two areas: mostly as they must be, else longer or too short.
 pub fn areas(chance: &mut Chance) -> (usize, usize) {
+    areas_of(FIRST, chance)
+}
+
+/// The same for an input of this version.
+fn areas_of(version: Version, chance: &mut Chance) -> (usize, usize) {
+    let (slots, links) = sizes(version);
     match chance.below(40) {
-        0 => (SLOTS - 1, LINKS),
-        1 => (SLOTS, LINKS - 1),
-        2 => (chance.below(SLOTS), chance.below(LINKS)),
-        3..=10 => (SLOTS + chance.below(9), LINKS + chance.below(9)),
-        _ => (SLOTS, LINKS),
+        0 => (slots - 1, links),
+        1 => (slots, links - 1),
+        2 => (chance.below(slots), chance.below(links)),
+        3..=10 => (slots + chance.below(9), links + chance.below(9)),
+        _ => (slots, links),
     }
 }
 
@@ -120,20 +140,42 @@ pub fn left<T: Copy>(length: usize, size: usize, zero: T, held: T) -> Vec<T> {
     (0..length).map(|at| if at < size { zero } else { held }).collect()
 }
 
-/// The verdict by the text where the areas are so long: refusal 3 comes behind 1 and 2.
-fn expected(comparison: &Comparison, pair: &Pair, slots: usize, links: usize) -> Verdict {
-    let verdict = verdict(comparison, &pair.input, &pair.claim);
+/// The verdict by the text where the areas are long enough or not: refusal 3 comes behind 1 and 2.
+fn expected(comparison: &Comparison, pair: &Pair, enough: bool) -> Verdict {
+    let verdict = verdict_as(pair.version, comparison, &pair.input, &pair.claim);
     let before = matches!(verdict, Verdict::Refused { number: 1 | 2, .. });
-    if !before && (slots < SLOTS || links < LINKS) { Verdict::Refused { number: 3, place: 0 } } else { verdict }
+    if before || enough { verdict } else { Verdict::Refused { number: 3, place: 0 } }
+}
+
+/// Whether areas of these lengths are long enough for the pair.
+fn are_enough(pair: &Pair, slots: usize, links: usize) -> bool {
+    let (least_slots, least_links) = sizes(pair.version);
+    slots >= least_slots && links >= least_links
 }
 
 /// One pair on both sides; what was expected, and whether it came out.
-fn is_same(comparison: &Comparison, pair: &Pair, chance: &mut Chance) -> (Verdict, u64, bool) {
-    let (slots, links) = areas(chance);
+fn is_same(
+    comparison: &Comparison,
+    pair: &Pair,
+    chance: &mut Chance,
+    lender: Option<&mut Lender>,
+) -> (Verdict, u64, bool) {
+    let (slots, links) = areas_of(pair.version, chance);
     let (mut table, mut index) = (vec![SLOT; slots], vec![LINK; links]);
-    let found = library::check(&pair.input.form, &pair.claim, &mut table, &mut index);
-    let wanted = expected(comparison, pair, slots, links);
-    let clean = table == left(slots, SLOTS, [0; 6], SLOT) && index == left(links, LINKS, 0, LINK);
+    let (form, enough) = (&pair.input.form, are_enough(pair, slots, links));
+    let (found, cleared, enough) = match lender {
+        Some(lender) => {
+            let lengths = lent::lengths(pair.version, chance);
+            let call =
+                |areas: &mut library::Areas| library::check_with(form, &pair.claim, &mut table, &mut index, areas);
+            let (found, cleared) = lender.call(form, lengths, call);
+            (found, cleared, enough && lent::are_enough(pair.version, lengths))
+        }
+        None => (library::check(form, &pair.claim, &mut table, &mut index), true, enough),
+    };
+    let wanted = expected(comparison, pair, enough);
+    let (most, all) = sizes(pair.version);
+    let clean = cleared && table == left(slots, most, [0; 6], SLOT) && index == left(links, all, 0, LINK);
     (wanted, found, clean && found == wanted.packed())
 }
 
@@ -145,9 +187,9 @@ fn is_kept(kind: Kind, verdict: Verdict) -> bool {
 
 fn report(number: u64, pair: &Pair, wanted: Verdict, found: u64) {
     println!("pair {number} ({:?}): {wanted:?}, and {found:#x} by the library", pair.kind);
-    decode(&pair.input.form).iter().for_each(|row| println!("  {row}"));
+    pair.version.decode(&pair.input.form).iter().for_each(|row| println!("  {row}"));
     println!("  and the claim");
-    decode(&pair.claim).iter().enumerate().for_each(|(at, row)| println!("  {at}: {row}"));
+    pair.version.decode(&pair.claim).iter().enumerate().for_each(|(at, row)| println!("  {at}: {row}"));
 }
 
 /// What a verdict is counted as.
@@ -159,13 +201,15 @@ fn counted(verdict: Verdict) -> String {
     }
 }
 
-/// Checks so many pairs, and prints a summary; answers whether there was no difference.
-pub fn run(comparison: &Comparison, seed: u64, pairs: u64) -> bool {
+/// Checks so many pairs, and prints a summary; answers whether there was no difference. Where areas are lent the inputs are of
+/// both versions.
+pub fn run(comparison: &Comparison, seed: u64, pairs: u64, lending: bool) -> bool {
+    let mut lender = lending.then(Lender::new);
     let mut tally: BTreeMap<(Kind, String), u64> = BTreeMap::new();
     for number in 0..pairs {
         let mut chance = Chance::new(seed.rotate_left(32) ^ number);
-        let pair = pair(comparison, &mut chance);
-        let (wanted, found, same) = is_same(comparison, &pair, &mut chance);
+        let pair = pair(comparison, &mut chance, lending);
+        let (wanted, found, same) = is_same(comparison, &pair, &mut chance, lender.as_mut());
         if !same || !is_kept(pair.kind, wanted) {
             report(number, &pair, wanted, found);
             return false;
@@ -190,14 +234,14 @@ const EACH: usize = 12;
 pub fn vectors(comparison: &Comparison, seed: u64, sample: &mut Sample) {
     for number in 0..LOOKED {
         let mut chance = Chance::new(seed.rotate_left(32) ^ number);
-        let pair = pair(comparison, &mut chance);
+        let pair = pair(comparison, &mut chance, false);
         let form = &pair.input.form;
         let small = form.len() <= HEADER + FEW_ROWS * ROW && pair.claim.len() <= HEADER + FEW_CLAIMED * ROW;
         if !small || Version::of(form) != FIRST {
             continue;
         }
         let (slots, links) = areas(&mut chance);
-        let verdict = expected(comparison, &pair, slots, links);
+        let verdict = expected(comparison, &pair, are_enough(&pair, slots, links));
         let vector = Vector {
             function: Function::Check,
             number: 0,

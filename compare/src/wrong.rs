@@ -1,11 +1,11 @@
 //! Wrong claims: the rows of a right one with something changed that a partner's tool might get wrong.
 
 use crate::chance::Chance;
-use crate::damage::damage;
-use crate::rows::{CLOSE, DECL, EXPORT, FIELD, FIRST_INSERTED, HEADER, OPEN, OUTER, PATH, REF, Row, encode};
+use crate::damage::damage_as;
+use crate::rows::{CLOSE, DECL, EXPORT, FIELD, FIRST_INSERTED, OPEN, OUTER, PATH, REF, Row, Version};
 
 /// The bytes of a claim after one change of a kind, now and then after two.
-pub fn spoilt(claim: &[Row], input: &[Row], chance: &mut Chance) -> Vec<u8> {
+pub fn spoilt(version: Version, claim: &[Row], input: &[Row], chance: &mut Chance) -> Vec<u8> {
     let mut rows = claim.to_vec();
     for _ in 0..1 + chance.below(6) / 5 {
         match chance.below(13) {
@@ -19,11 +19,11 @@ pub fn spoilt(claim: &[Row], input: &[Row], chance: &mut Chance) -> Vec<u8> {
             8 => swapped(&mut rows, chance),
             9 => one_alias_for_another(&mut rows, chance),
             10 => no_alias(&mut rows, chance),
-            11 => return header(&rows, chance),
-            _ => return damage(&rows, chance),
+            11 => return header(version, &rows, chance),
+            _ => return damage_as(version, &rows, chance),
         }
     }
-    encode(&rows)
+    version.encode(&rows)
 }
 
 /// One of the rows that are so, if there is one.
@@ -167,14 +167,16 @@ fn no_alias(rows: &mut Vec<Row>, chance: &mut Chance) {
     rows.splice(at..at, field);
 }
 
-fn header(rows: &[Row], chance: &mut Chance) -> Vec<u8> {
-    let mut bytes = encode(rows);
-    match chance.below(5) {
-        0 => bytes[3] = 2,
+fn header(version: Version, rows: &[Row], chance: &mut Chance) -> Vec<u8> {
+    let mut bytes = version.encode(rows);
+    let zeros = version.header - (6 + version.counting);
+    match chance.below(5 + usize::from(zeros > 0)) {
+        0 => bytes[3] = 3 - version.number,
         1 => bytes[5] = 1,
         2 => bytes[6] = bytes[6].wrapping_add(1),
         3 => bytes.truncate(bytes.len() - 16),
-        _ => bytes.truncate(chance.below(HEADER + 1)),
+        4 => bytes.truncate(chance.below(version.header + 1)),
+        _ => bytes[6 + version.counting + chance.below(zeros)] = 1,
     }
     bytes
 }
