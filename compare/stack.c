@@ -13,8 +13,8 @@ static uint8_t form[WNT_MAX_FORM_SIZE_2], mended[WNT_MAX_FORM_SIZE_2], out[WNT_M
 static uint8_t moved[WNT_MOVED_LIST_SIZE(WNT_MAX_ROWS_2)], apart[WNT_APART_LIST_SIZE(WNT_MAX_ROWS_2)];
 static uint8_t restored[WNT_RESTORED_SIZE], area[WNT_MAX_OUT_SIZE_2];
 static const uint8_t slot[WNT_SLOT_SIZE] = {3, 0, 0, 0, 1, 0, 0, 0, 1, 0, 0, 0};
-static wnt_slot table[SLOTS];
-static uint16_t index_of[LINKS];
+static wnt_slot table[WNT_CHECK_SLOTS_2];
+static uint16_t index_of[WNT_CHECK_LINKS_2];
 static struct wnt_work_2 work;
 static size_t form_len;
 static uint64_t answer;
@@ -65,6 +65,14 @@ static void list_moved_with(void)
 
 static void resolve_with(void) { answer = wnt_resolve_with(form, form_len, out, sizeof out, WNT_LENT(&work)); }
 
+/* `out` has the resolved form of the call before. */
+static void check_with(void)
+{
+    size_t rows = out[6] + 256u * out[7], len = out[3] == 2 ? WNT_FORM_SIZE_2(rows) : WNT_FORM_SIZE(rows);
+    answer = wnt_check_with(form, form_len, out, len, table, WNT_CHECK_SLOTS_2, index_of, WNT_CHECK_LINKS_2,
+                            WNT_LENT(&work));
+}
+
 static void mend(void)
 {
     memcpy(mended, form, sizeof mended);
@@ -103,6 +111,7 @@ static const struct {
     {"wnt_moved", list_moved},
     {"wnt_moved_with", list_moved_with},
     {"wnt_resolve_with", resolve_with},
+    {"wnt_check_with", check_with},
     {"wnt_mend", mend},
     {"wnt_compare", compare},
     {"wnt_convert", convert},
