@@ -31,7 +31,7 @@ extern "C" {
 #define WNT_MAX_OUT_SIZE 65480
 
 /* The version of the library that this header belongs to: that of `wnt --version`. */
-#define WNT_VERSION "0.2.0-dev"
+#define WNT_VERSION "0.2.0"
 
 /* ---- What rows are made of. A row is `[code b e x y z]`: bytes 0, 1, 2 to 3, 4 to 7, 8 to 11 and 12 to 15. */
 

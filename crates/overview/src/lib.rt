@@ -130,7 +130,7 @@ fn help(talk: i32) {
 
 pub fn say_version() -> u8 {
     let before = error_noted();
-    say(STDOUT_FILENO, b"wnt 0.2.0-dev\n");
+    say(STDOUT_FILENO, b"wnt 0.2.0\n");
     said(DONE, before)
 }
 
