@@ -108,7 +108,7 @@ enum wnt_field {
 /* ---- Answers. */
 
 /* The numbers of the answers, and the place of each refusal. A row is counted from 0; z is a row's last part, which the
- * caller chose. 1, 2 and 3 are looked for in this order, then 4 and 5 by row, then 6 to 12 as the steps of the rules
+ * caller chose. 1, 2 and 3 are looked for in this order, then 4 and 5 by row, then 6 to 13 as the steps of the rules
  * meet them. */
 enum wnt_number {
     /* Resolved. The lower half is how many rows were written. */
@@ -138,11 +138,13 @@ enum wnt_number {
     WNT_COUNT_TOO_LARGE = 11,
     /* An earlier case of the field has that name. Place: z of the second case. */
     WNT_DUPLICATE_CASE = 12,
+    /* Under rule set 1 alone: no earlier field declares the name. Place: z of the reference or outer alias. */
+    WNT_NOT_EARLIER = 13,
     /* Of wnt_unresolve alone: no input has these bytes as its output. Place: 0. */
     WNT_NO_INPUT = 14
 };
 
-/* What a refusal means, by its number; `wnt` says the same. */
+/* What a refusal means, by its number; `wnt` says the same of those that it gives. */
 static inline const char *wnt_text(uint32_t number)
 {
     switch (number) {
@@ -159,6 +161,7 @@ static inline const char *wnt_text(uint32_t number)
     case WNT_UNKNOWN_SCOPE: return "no open scope has the name of the outer scope";
     case WNT_COUNT_TOO_LARGE: return "the outer count is not below the number of open scopes";
     case WNT_DUPLICATE_CASE: return "an earlier case of this field has that name";
+    case WNT_NOT_EARLIER: return "no earlier field declares that name";
     default: return "no refusal has that number";
     }
 }
@@ -198,11 +201,14 @@ uint64_t wnt_resolve(const uint8_t *form, size_t form_len, uint8_t *out, size_t 
 
 /* ---- Larger forms.
  *
- * A form of version 2 is a header of 16 bytes (`WNT`, the version 2 as two bytes, the rule set 0, the row count as four
+ * A form of version 2 is a header of 16 bytes (`WNT`, the version 2 as two bytes, the rule set, the row count as four
  * bytes, six zeros) and 1 to 16383 rows as those of version 1; 64 scopes may be open in it. wnt_resolve takes version 1
  * alone and answers 1 to any other header; wnt_resolve_with takes both, and for version 2 the refusals above read: 1 fewer
  * than 16 bytes, or bytes 0 to 5 or 10 to 15 wrong; 2 a row count of 0 or above 16383, or another length than
- * WNT_FORM_SIZE_2 of it; 3 an output shorter than WNT_OUT_SIZE_2 of it; 5 a scope while 64 are open. */
+ * WNT_FORM_SIZE_2 of it; 3 an output shorter than WNT_OUT_SIZE_2 of it; 5 a scope while 64 are open.
+ *
+ * The rule set is 0, as in version 1, or for wnt_resolve_with 1, that of the newer tools: there a heap type is a core type,
+ * and a name may mean only what an earlier field declares, else it is refusal 13 (docs/RULES.md, Rule set 1). */
 #define WNT_HEADER_SIZE_2 16
 #define WNT_MAX_ROWS_2 16383
 #define WNT_FORM_SIZE_2(rows) (16u + 16u * (rows))
@@ -242,7 +248,8 @@ struct wnt_work_2 {
  *     static struct wnt_work_2 work;
  *     uint64_t answer = wnt_resolve_with(form, form_len, out, out_len, WNT_LENT(&work));
  *
- * The answer, and what `out` holds afterwards, are as for wnt_resolve, with the limits of the form's version. An area
+ * The answer, and what `out` holds afterwards, are as for wnt_resolve, with the limits of the form's version and under its
+ * rule set, which `out` repeats; refusal 13 leaves `out` as 6 to 12 do. An area
  * with fewer elements than its size for that version is refusal 3, as an output that is too short. What the areas hold
  * before does not matter. After every return, refusals too, each is zero up to its size for the form's version, or to its
  * end where it is shorter, and unchanged beyond; a header of neither version counts as version 1 there. No area may

@@ -25,12 +25,12 @@ def add(name, data, room, lent, to, number, place, buffer, left=0):
     lines.append((name.encode().ljust(16) + words + data, f"{name.ljust(16)} {number} {place} {total(buffer)} {left}\n"))
 
 
-def resolve(name, data, room, number, place, out=None, version=1, lent=None, of=None):
-    """`of` is the version by whose sizes the areas are zeroed, where that is not the form's"""
+def resolve(name, data, room, number, place, out=None, version=1, lent=None, of=None, rules=0):
+    """`of` is the version by whose sizes the areas are zeroed, where that is not the form's; an output repeats the rule set"""
     share = HEADER[version] + 64 * ((len(data) - HEADER[version]) // 16)
     buffer = bytes([FILL]) * room
     if number == 0:
-        new = form(out) if version == 1 else second(form(out))
+        new = form(out) if version == 1 else second(form(out), rules)
         buffer = new + bytes(share - len(new)) + buffer[share:]
     elif number > 5:
         buffer = bytes(share) + buffer[share:]
@@ -60,7 +60,7 @@ resolve("2: 65 scopes", second(form(root(nested(64)))), 17000, 5, 192, version=2
 resolve("2: 15 bytes", two[:15], 200, 1, 0, version=2, of=1)
 for at in range(10, 16):
     resolve(f"2: byte {at}", two[:at] + b"\1" + two[at + 1 :], 200, 1, 0, version=2, of=1)
-resolve("2: rule set 1", second(form(empty), rules=1), 200, 1, 0, version=2, of=1)
+resolve("2: rule set 1", second(form(empty), rules=1), 200, 0, 2, empty, version=2, rules=1)
 resolve("2: rule set 2", second(form(empty), rules=2), 200, 1, 0, version=2, of=1)
 resolve("version 3", b"WNT\x03" + form(empty)[4:], 200, 1, 0, lent=2, of=1)
 resolve("2: 16,384 rows", second(form(empty), count=16384), 200, 2, 0, version=2)

@@ -1,11 +1,14 @@
 //! Batches: each member is held to the crate as in `members`, and resolved once more among other neighbours.
 
+use crate::cases;
 use crate::chance::Chance;
-use crate::compare::Comparison;
+use crate::compare::{Case, Comparison};
+use crate::damage::damage;
 use crate::library::{self, Buffers};
 use crate::meant::pair;
-use crate::members::{are_small, askable, expected, filled, output};
-use crate::rows::{self, Answer, Row, output_size};
+use crate::members::{are_small, askable, expected, filled, inside, output};
+use crate::rows::{self, Answer, FIRST, Row, SECOND, output_size};
+use crate::vectors::{FILLED, Function, Lent, Sample, Vector, said};
 use std::collections::BTreeMap;
 
 /// The most members of a batch.
@@ -150,4 +153,119 @@ pub fn run(comparison: &Comparison, seed: u64, batches: u64) -> bool {
         "{batches} batches resolved, {members} members of accepted preludes, each again among others; 0 differences"
     );
     true
+}
+
+/// How many batches are looked through for vectors, the most rows of a form, and how many there are of each kind.
+const LOOKED: u64 = 40_000;
+const FEW_ROWS: usize = 12;
+const EACH: usize = 2;
+
+/// A call: the bytes of the members one behind another, their lengths as stated, and the lengths of the three buffers.
+struct Call {
+    prelude: Vec<u8>,
+    members: Vec<Vec<u8>>,
+    stated: Vec<u32>,
+    rooms: [usize; 3],
+}
+
+impl Call {
+    /// One of few rows, or none: forms and lengths are damaged now and then, and buffers too short.
+    fn draw(comparison: &Comparison, chance: &mut Chance) -> Option<Call> {
+        let Batch { prelude, members, share } = Batch::drawn(comparison, chance)?;
+        if members.iter().chain([&prelude]).any(|form| form.len() > FEW_ROWS) {
+            return None;
+        }
+        let sent = |form: &Vec<Row>, chance: &mut Chance| match chance.below(12) {
+            0 => damage(form, chance),
+            1 => SECOND.encode(form),
+            _ => rows::encode(form),
+        };
+        let length = output_size(prelude.len()) + chance.below(9);
+        let prelude = sent(&prelude, chance);
+        let mut members: Vec<Vec<u8>> = members.iter().map(|form| sent(form, chance)).collect();
+        match chance.below(20) {
+            0 => members.clear(),
+            1 => members.resize(MOST + 1, members[0].clone()),
+            _ => {}
+        }
+        let mut stated: Vec<u32> = members.iter().map(|form| form.len() as u32).collect();
+        if chance.percent(5) && !stated.is_empty() {
+            stated[0] = chance.pick(&[0, stated[0] + 1, u32::MAX]);
+        }
+        let count = members.len().max(1);
+        let shorter =
+            |length: usize, chance: &mut Chance| if chance.percent(5) { chance.below(length) } else { length };
+        let outs = share * count + chance.below(count);
+        let answers = 8 * count + chance.below(9);
+        let rooms = [length, outs, answers].map(|length| shorter(length, chance));
+        Some(Call { prelude, members, stated, rooms })
+    }
+
+    /// What refuses the whole batch ahead of the prelude.
+    fn refused(&self) -> Option<u32> {
+        let count = self.stated.len();
+        let sum: u64 = self.stated.iter().map(|length| u64::from(*length)).sum();
+        let all: usize = self.members.iter().map(Vec::len).sum();
+        if count == 0 || count > MOST || sum != all as u64 {
+            return Some(2);
+        }
+        (self.rooms[2] < 8 * count).then_some(3)
+    }
+
+    /// The answer, what the buffers then hold, and what a vector of it shows; none where the crate panics.
+    fn expected(&self, comparison: &Comparison) -> Option<(u64, [Vec<u8>; 3], Vec<String>)> {
+        let mut buffers = self.rooms.map(|length| vec![FILLED; length]);
+        if let Some(number) = self.refused() {
+            let shown = format!("refused with {number}, {} members", self.stated.len().min(MOST + 1));
+            return Some((u64::from(number) << 32, buffers, vec![shown]));
+        }
+        let case = Case { form: self.prelude.clone(), out_len: self.rooms[0], fill: 0, choice: 0 };
+        let prelude = comparison.expected(&case);
+        buffers[0] = output(&prelude, &rows::decode(&self.prelude), &buffers[0]);
+        let mut shown = vec![format!("{}, the prelude", said(prelude.packed()))];
+        if let Answer::Accepted(_) = prelude {
+            let share = self.rooms[1] / self.members.len();
+            let outer = rows::decode(&self.prelude);
+            for (i, member) in self.members.iter().enumerate() {
+                let answer = inside(comparison, &outer, member, share);
+                let out = &mut buffers[1][i * share..(i + 1) * share];
+                out.copy_from_slice(&output(&answer, &rows::decode(member), out));
+                buffers[2][8 * i..8 * i + 8].copy_from_slice(&answer.packed().to_le_bytes());
+                shown.push(format!("{}, member {i}", said(answer.packed())));
+                if answer == Answer::Panicked {
+                    return None;
+                }
+            }
+        }
+        (prelude != Answer::Panicked).then_some((prelude.packed(), buffers, shown))
+    }
+}
+
+/// Members with as many scopes as they may have and with one more, inside an empty prelude.
+fn deep() -> Call {
+    let scopes = FIRST.scopes - 1;
+    let members: Vec<Vec<u8>> =
+        [scopes, scopes + 1].into_iter().flat_map(cases::deep).map(|form| rows::encode(&form)).collect();
+    let stated: Vec<u32> = members.iter().map(|form| form.len() as u32).collect();
+    let prelude = rows::encode(&cases::deep(1)[0]);
+    let share = members.iter().map(|form| 4 * form.len()).max().expect("a member");
+    Call { rooms: [4 * prelude.len(), share * members.len(), 8 * members.len()], prelude, members, stated }
+}
+
+/// Vectors of each refusal of the batch and of its prelude, and of each answer of each member.
+pub fn vectors(comparison: &Comparison, seed: u64, sample: &mut Sample) {
+    let drawn =
+        (0..LOOKED).filter_map(|number| Call::draw(comparison, &mut Chance::new(seed.rotate_left(32) ^ number)));
+    for call in [deep()].into_iter().chain(drawn) {
+        let Some((answer, buffers, shown)) = call.expected(comparison) else { continue };
+        let stated = call.stated.into_iter().flat_map(u32::to_le_bytes).collect();
+        let vector = Vector {
+            function: Function::Batch,
+            number: 0,
+            answer,
+            inputs: vec![call.prelude, call.members.concat(), stated],
+            lent: buffers.iter().map(|buffer| Lent::holding(buffer)).collect(),
+        };
+        sample.offer(shown, EACH, &vector);
+    }
 }

@@ -184,8 +184,7 @@ pub fn limits(version: Version) -> Vec<Case> {
     let (most, deepest) = (version.rows, version.scopes);
     let mut forms: Vec<Vec<Row>> = [1, 2, most - 1, most, most + 1, 65_535].map(padded).to_vec();
     for depth in [1, 2, deepest - 1, deepest, deepest + 1, deepest + 2] {
-        forms.push(nested(depth, COMPONENT_FIELD));
-        forms.push(nested(depth, TYPE_FIELD));
+        forms.extend(deep(depth));
     }
     let mut spoilt = nested(deepest + 1, COMPONENT_FIELD);
     spoilt[3 * deepest].x = 9;
@@ -220,6 +219,11 @@ fn padded(count: usize) -> Vec<Row> {
 type Opener = (u8, u8, u8);
 const COMPONENT_FIELD: Opener = (6, 11, 0);
 const TYPE_FIELD: Opener = (14, 9, 1);
+
+/// Scopes of both kinds, so many one in another.
+pub fn deep(depth: usize) -> [Vec<Row>; 2] {
+    [COMPONENT_FIELD, TYPE_FIELD].map(|opener| nested(depth, opener))
+}
 
 fn nested(depth: usize, (field, space, kind): Opener) -> Vec<Row> {
     let mut rows = vec![Row::new(OPEN, 0, 0, 0, 0, 0)];

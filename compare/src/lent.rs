@@ -10,6 +10,11 @@ use crate::tally::Tally;
 use crate::vectors::{self, FILLED, Function, Sample, Vector, said};
 use std::time::Instant;
 
+/// Where a header states its rule set, that of the newer tools, and one that there is not.
+const RULES_AT: usize = 5;
+const NEWER: u8 = 1;
+const NONE: u8 = 2;
+
 /// The most elements that an area is longer than it must be.
 const MORE: usize = 9;
 
@@ -105,6 +110,11 @@ impl Lender {
 
     /// Calls the library on a form in areas of these lengths, which are filled before; answers whether they are cleared after.
     pub fn call(&mut self, form: &[u8], lengths: Lengths, call: impl FnOnce(&mut Areas) -> u64) -> (u64, bool) {
+        self.call_as(asked_for(form), lengths, call)
+    }
+
+    /// The same for a form of this version.
+    pub fn call_as(&mut self, version: Version, lengths: Lengths, call: impl FnOnce(&mut Areas) -> u64) -> (u64, bool) {
         let mut areas = self.areas(lengths);
         areas.entered.fill(SLOT);
         areas.names.fill(SLOT);
@@ -112,7 +122,7 @@ impl Lender {
         areas.chains.fill(LINK);
         areas.ends.fill(END);
         let answer = call(&mut areas);
-        let [entered, names, known, chains, ends] = sizes(asked_for(form));
+        let [entered, names, known, chains, ends] = sizes(version);
         let cleared = is_cleared(areas.entered, entered, [0; 6], SLOT)
             && is_cleared(areas.names, names, [0; 6], SLOT)
             && is_cleared(areas.known, known, 0, LINK)
@@ -176,7 +186,11 @@ fn fixed(comparison: &Comparison) -> Vec<(Stage, Lent)> {
 /// The random form of this number: three of four are of version 2.
 fn random(comparison: &Comparison, seed: u64, number: u64) -> (Stage, Lent) {
     let version = if number % 16 < 4 { FIRST } else { SECOND };
-    let (stage, case) = source::random_of(version, &comparison.shapes, seed, number);
+    let (stage, mut case) = source::random_of(version, &comparison.shapes, seed, number);
+    // Damage may ask for rule set 1, which has a comparison of its own (`newer`): here it asks for none.
+    if SECOND.begins(&case.form, NEWER) {
+        case.form[RULES_AT] = NONE;
+    }
     let mut chance = Chance::new(!seed ^ number.rotate_left(32));
     (stage, Lent::new(case, &mut chance))
 }

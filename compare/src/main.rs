@@ -18,6 +18,7 @@ mod members;
 mod mend;
 mod moved;
 mod names_back;
+mod newer;
 mod oracle;
 mod partner;
 mod recognise;
@@ -30,6 +31,7 @@ mod samples;
 mod sensitivity;
 mod shapes;
 mod share;
+mod shared;
 mod sheet;
 mod source;
 mod spoil;
@@ -67,6 +69,9 @@ compare --bench FILE [--repetitions N] [--larger] [--least]
 compare --shapes FOLDER                        write the benchmark's largest forms of both versions, for a profiler
 compare --samples FOLDER [--forms N]           write accepted random forms and their outputs, for readings.py
 compare --lent N [--seed S]                    resolve N forms of both versions in areas that are lent, and compare
+compare --newer N [--seed S]                   resolve N forms of version 2 under rule set 1, and the same under rule set 0
+compare --newer-reading N [--seed S]           read N forms under rule set 1 without the library: what is stated, and
+                                               deliberate errors in the reading, each of which a form must show
 compare --convert N [--seed S]                 convert N forms, and compare with a converter written for it
 compare --mend N [--seed S]                    mend N spoilt forms, and compare with a mender written for it
 compare --meant N [--seed S]                   ask what the names of N members mean, and compare with a second reading
@@ -139,6 +144,8 @@ fn write_vectors(arguments: &[String], count: u64) -> bool {
     spoil::vectors(seed, &mut sample);
     members::vectors(&comparison, seed, &mut sample);
     meant::vectors(seed, &mut sample);
+    share::vectors(&comparison, seed, &mut sample);
+    batches::vectors(&comparison, seed, &mut sample);
     eprintln!("{} new vectors of resolving\n{}\n{}", tally.forms, tally.summary(), sample.summary());
     std::io::stdout().write_all(sample.bytes()).is_ok()
 }
@@ -187,6 +194,10 @@ fn main() -> ExitCode {
         renaming::run(&comparison(), number(&arguments, "--seed").unwrap_or(1), forms)
     } else if let Some(forms) = number(&arguments, "--lent") {
         lent::run(&comparison(), number(&arguments, "--seed").unwrap_or(1), forms)
+    } else if let Some(forms) = number(&arguments, "--newer") {
+        newer::run(&comparison(), number(&arguments, "--seed").unwrap_or(1), forms)
+    } else if let Some(forms) = number(&arguments, "--newer-reading") {
+        newer::read(&comparison(), number(&arguments, "--seed").unwrap_or(1), forms)
     } else if let Some(forms) = number(&arguments, "--convert") {
         convert::run(number(&arguments, "--seed").unwrap_or(1), forms)
     } else if let Some(count) = number(&arguments, "--mend") {

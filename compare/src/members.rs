@@ -1,5 +1,6 @@
 //! Members inside a prelude, against the crate on trees where the member is put into the prelude's root as its last field.
 
+use crate::cases;
 use crate::chance::Chance;
 use crate::compare::Comparison;
 use crate::damage::damage;
@@ -216,22 +217,40 @@ impl Asked {
         if let Answer::Refused { number, place } = comparison.oracle.answer(&prelude, 0) {
             return Answer::refused(OF_PRELUDE + number, place);
         }
-        match recognise_as(FIRST.one_scope_less(), &comparison.shapes, &self.member, self.room) {
-            Ok(member) => expected(comparison, &prelude, &member, 0),
-            Err((number, place)) => Answer::refused(number, place),
-        }
+        inside(comparison, &prelude, &self.member, self.room)
     }
 }
 
-/// Vectors of each answer.
+/// What is expected of a member's bytes inside an accepted prelude.
+pub fn inside(comparison: &Comparison, prelude: &[Row], member: &[u8], room: usize) -> Answer {
+    match recognise_as(FIRST.one_scope_less(), &comparison.shapes, member, room) {
+        Ok(member) => expected(comparison, prelude, &member, 0),
+        Err((number, place)) => Answer::refused(number, place),
+    }
+}
+
+/// Vectors of each answer, and of preludes and members at the limit of scopes.
 pub fn vectors(comparison: &Comparison, seed: u64, sample: &mut Sample) {
     for number in 0..LOOKED {
-        let Some(asked) = Asked::draw(comparison, &mut Chance::new(seed.rotate_left(32) ^ number)) else { continue };
-        let answer = asked.expected(comparison);
-        if answer == Answer::Panicked {
-            continue;
+        if let Some(asked) = Asked::draw(comparison, &mut Chance::new(seed.rotate_left(32) ^ number)) {
+            asked.offer(comparison, sample);
         }
-        let Asked { prelude, member, room, work } = asked;
+    }
+    let root = rows::encode(&cases::deep(1)[0]);
+    for form in (FIRST.scopes - 1..FIRST.scopes + 2).flat_map(cases::deep) {
+        let (deep, room) = (rows::encode(&form), output_size(form.len()));
+        Asked { prelude: root.clone(), member: deep.clone(), room, work: WORK }.offer(comparison, sample);
+        Asked { prelude: deep, member: root.clone(), room, work: WORK }.offer(comparison, sample);
+    }
+}
+
+impl Asked {
+    fn offer(self, comparison: &Comparison, sample: &mut Sample) {
+        let answer = self.expected(comparison);
+        if answer == Answer::Panicked {
+            return;
+        }
+        let Asked { prelude, member, room, work } = self;
         let out = output(&answer, &rows::decode(&member), &vec![FILLED; room]);
         let aliases = match &answer {
             Answer::Accepted(rows) => rows.iter().filter(|row| row.code == DECL && row.x >= FRESH).count().min(2),

@@ -1,5 +1,6 @@
 //! Spoilt forms, and the comparison of the proved mender with that of `mend`.
 
+use crate::cases;
 use crate::chance::Chance;
 use crate::damage::damage_as;
 use crate::generate;
@@ -167,29 +168,39 @@ fn shows(left: &Left) -> BTreeSet<String> {
     kinds
 }
 
-/// Vectors of each refusal, and of each kind of change.
+/// Vectors of each refusal, and of each kind of change, of both versions; with one scope more than there may be at the end.
 pub fn vectors(seed: u64, sample: &mut Sample) {
     let shapes = [Shapes::new(), Shapes::newer()];
     for number in 0..LOOKED {
         let mut chance = Chance::new(seed.rotate_left(32) ^ number);
-        let Spoilt { mut buffer, long, list } = spoilt(&shapes, &mut chance);
-        if long > SHORT {
-            continue;
-        }
-        let form = buffer[..long.min(buffer.len())].to_vec();
-        buffer.truncate(form.len() + 40);
-        buffer[form.len()..].fill(FILLED);
-        let left = mend(&shapes, &buffer, long, &vec![FILLED; list.len().min(1000)]);
-        let vector = Vector {
-            function: Function::Mend,
-            number: long as u32,
-            answer: left.answer,
-            inputs: vec![form],
-            lent: vec![Lent::holding(&left.buffer), Lent::holding(&left.list)],
-        };
-        match left.answer >> 32 {
-            0 => sample.offer(shows(&left), EACH, &vector),
-            _ => sample.offer([said(left.answer)], 2 * EACH, &vector),
+        let Spoilt { buffer, long, list } = spoilt(&shapes, &mut chance);
+        if long <= SHORT {
+            let form = &buffer[..long.min(buffer.len())];
+            offer(&shapes, form, long, list.len().min(1000), sample);
         }
     }
+    for version in [FIRST, SECOND] {
+        for form in cases::deep(version.scopes + 1).map(|rows| version.encode(&rows)) {
+            offer(&shapes, &form, form.len(), 1000, sample);
+        }
+    }
+}
+
+/// Takes a form in a buffer with room for two rows, and a list of so many bytes.
+fn offer(shapes: &[Shapes; 2], form: &[u8], long: usize, space: usize, sample: &mut Sample) {
+    let buffer = [form, &[FILLED; 40]].concat();
+    let left = mend(shapes, &buffer, long, &vec![FILLED; space]);
+    let vector = Vector {
+        function: Function::Mend,
+        number: long as u32,
+        answer: left.answer,
+        inputs: vec![form.to_vec()],
+        lent: vec![Lent::holding(&left.buffer), Lent::holding(&left.list)],
+    };
+    let version = Version::of(form).number;
+    let (kinds, most) = match left.answer >> 32 {
+        0 => (shows(&left), EACH),
+        _ => ([said(left.answer)].into(), 2 * EACH),
+    };
+    sample.offer(kinds.into_iter().map(|kind| format!("version {version}, {kind}")), most, &vector);
 }

@@ -33,6 +33,8 @@ pub enum Function {
     Mend,
     Member,
     Meant,
+    Share,
+    Batch,
 }
 
 /// A buffer that is lent, after the call: its first bytes are these, those up to `cleared` zero, and later ones as they were.

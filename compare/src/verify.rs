@@ -1,5 +1,6 @@
 //! `wnt_check` and `wnt_check_with` beside a checker by the text of request R-4, on inputs with claims that are right, wrong or neither.
 
+use crate::cases;
 use crate::chance::Chance;
 use crate::claims::{Reading, Verdict, verdict_as};
 use crate::compare::{Case, Comparison};
@@ -78,8 +79,11 @@ fn ours(version: Version, form: &[u8]) -> Vec<u8> {
     out
 }
 
+/// What a resolver writes.
+type Writes<'a> = &'a dyn Fn(Version, &[u8]) -> Vec<u8>;
+
 /// An input with a claim, where areas are lent mostly of version 2. Of an input that is refused any bytes will do.
-fn pair(comparison: &Comparison, chance: &mut Chance, lending: bool) -> Pair {
+fn pair(comparison: &Comparison, writes: Writes, chance: &mut Chance, lending: bool) -> Pair {
     let version = if lending && chance.percent(80) { SECOND } else { FIRST };
     let rows = generate::form_of(version, &comparison.shapes, chance.next());
     let form = if chance.percent(3) { damage_as(version, &rows, chance) } else { version.encode(&rows) };
@@ -90,22 +94,21 @@ fn pair(comparison: &Comparison, chance: &mut Chance, lending: bool) -> Pair {
         let claim = if chance.percent(50) { input.form.clone() } else { Vec::new() };
         return Pair { kind: Kind::Others, version, input, claim };
     };
-    let claim = claim(comparison, kind, version, &input.form, &resolved, chance);
+    let claim = claim(comparison, writes, kind, (version, &input.form, &resolved), chance);
     Pair { kind, version, input, claim }
 }
 
 fn claim(
     comparison: &Comparison,
+    writes: Writes,
     kind: Kind,
-    version: Version,
-    form: &[u8],
-    resolved: &[Row],
+    (version, form, resolved): (Version, &[u8], &[Row]),
     chance: &mut Chance,
 ) -> Vec<u8> {
     let rows = version.decode(form);
     let input = Reading::of(&rows);
     match kind {
-        Kind::Ours => ours(version, form),
+        Kind::Ours => writes(version, form),
         Kind::Crates => version.encode(resolved),
         Kind::Partners => version.encode(&Partner::claim(&input, chance, 0)),
         Kind::Through => version.encode(&Partner::claim(&input, chance, 100)),
@@ -114,7 +117,10 @@ fn claim(
             wrong::spoilt(version, &right, &rows, chance)
         }
         Kind::Others if chance.percent(50) => form.to_vec(),
-        Kind::Others => ours(version, &version.encode(&generate::form_of(version, &comparison.shapes, chance.next()))),
+        Kind::Others => {
+            let other = generate::form_of(version, &comparison.shapes, chance.next());
+            writes(version, &version.encode(&other))
+        }
     }
 }
 
@@ -208,7 +214,7 @@ pub fn run(comparison: &Comparison, seed: u64, pairs: u64, lending: bool) -> boo
     let mut tally: BTreeMap<(Kind, String), u64> = BTreeMap::new();
     for number in 0..pairs {
         let mut chance = Chance::new(seed.rotate_left(32) ^ number);
-        let pair = pair(comparison, &mut chance, lending);
+        let pair = pair(comparison, &ours, &mut chance, lending);
         let (wanted, found, same) = is_same(comparison, &pair, &mut chance, lender.as_mut());
         if !same || !is_kept(pair.kind, wanted) {
             report(number, &pair, wanted, found);
@@ -230,25 +236,44 @@ const FEW_ROWS: usize = 24;
 const FEW_CLAIMED: usize = 60;
 const EACH: usize = 12;
 
-/// Vectors of each kind of claim with each verdict, of version 1, and of areas that are too short or longer.
+/// Vectors of each kind of claim with each verdict, of version 1, of inputs and claims that are too deep, and of areas that are
+/// too short or longer. What ours writes is here what the crate makes of the form: no library takes part in vectors.
 pub fn vectors(comparison: &Comparison, seed: u64, sample: &mut Sample) {
+    for pair in deep() {
+        offer(comparison, pair, (SLOTS, LINKS), sample);
+    }
+    let writes = |version: Version, form: &[u8]| comparison.resolved_as(version, form).unwrap_or_default();
     for number in 0..LOOKED {
         let mut chance = Chance::new(seed.rotate_left(32) ^ number);
-        let pair = pair(comparison, &mut chance, false);
+        let pair = pair(comparison, &writes, &mut chance, false);
         let form = &pair.input.form;
         let small = form.len() <= HEADER + FEW_ROWS * ROW && pair.claim.len() <= HEADER + FEW_CLAIMED * ROW;
-        if !small || Version::of(form) != FIRST {
-            continue;
+        if small && Version::of(form) == FIRST {
+            offer(comparison, pair, areas(&mut chance), sample);
         }
-        let (slots, links) = areas(&mut chance);
-        let verdict = expected(comparison, &pair, are_enough(&pair, slots, links));
-        let vector = Vector {
-            function: Function::Check,
-            number: 0,
-            answer: verdict.packed(),
-            inputs: vec![pair.input.form, pair.claim],
-            lent: vec![Lent::cleared(slots, SLOTS), Lent::cleared(links, LINKS)],
-        };
-        sample.offer([format!("{:?} {}", pair.kind, counted(verdict))], EACH, &vector);
     }
+}
+
+/// Inputs with one scope more than there may be, which are refused with 5, and claims with as many.
+fn deep() -> Vec<Pair> {
+    let root = FIRST.encode(&cases::deep(1)[0]);
+    let pair = |form: &[u8], claim: &[u8]| {
+        let input = Case { form: form.to_vec(), out_len: usize::MAX, fill: 0, choice: 0 };
+        Pair { kind: Kind::Others, version: FIRST, input, claim: claim.to_vec() }
+    };
+    let deep = cases::deep(FIRST.scopes + 1).map(|rows| FIRST.encode(&rows));
+    deep.iter().flat_map(|deep| [pair(deep, &root), pair(&root, deep)]).collect()
+}
+
+/// Takes a pair with areas of these lengths.
+fn offer(comparison: &Comparison, pair: Pair, (slots, links): (usize, usize), sample: &mut Sample) {
+    let verdict = expected(comparison, &pair, are_enough(&pair, slots, links));
+    let vector = Vector {
+        function: Function::Check,
+        number: 0,
+        answer: verdict.packed(),
+        inputs: vec![pair.input.form, pair.claim],
+        lent: vec![Lent::cleared(slots, SLOTS), Lent::cleared(links, LINKS)],
+    };
+    sample.offer([format!("{:?} {}", pair.kind, counted(verdict))], EACH, &vector);
 }

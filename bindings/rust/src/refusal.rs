@@ -70,6 +70,11 @@ pub enum Refusal {
         /// The second case's.
         place: u32,
     },
+    /// 13, under rule set 1 alone: no earlier field declares the name.
+    NotEarlier {
+        /// The reference's or the outer alias's.
+        place: u32,
+    },
     /// 14, on the way back alone: no input has these bytes as its output.
     NoInput,
     /// 15: these bytes are no binding sheet, or the form is refused, or the other form is not its resolved form.
@@ -94,6 +99,7 @@ impl Refusal {
             10 => Refusal::UnknownScope { place },
             11 => Refusal::CountTooLarge { place },
             12 => Refusal::DuplicateCase { place },
+            13 => Refusal::NotEarlier { place },
             14 => Refusal::NoInput,
             15 => Refusal::NotItsSheet,
             _ => unreachable!("the static library is of another version: it answered refusal {number}"),
@@ -111,7 +117,7 @@ impl Refusal {
         }
     }
 
-    /// Its number: 1 to 12, 14 on the way back, 15 of a binding sheet.
+    /// Its number: 1 to 12, 13 under rule set 1, 14 on the way back, 15 of a binding sheet.
     pub fn number(self) -> u32 {
         match self {
             Refusal::Header => 1,
@@ -126,12 +132,13 @@ impl Refusal {
             Refusal::UnknownScope { .. } => 10,
             Refusal::CountTooLarge { .. } => 11,
             Refusal::DuplicateCase { .. } => 12,
+            Refusal::NotEarlier { .. } => 13,
             Refusal::NoInput => 14,
             Refusal::NotItsSheet => 15,
         }
     }
 
-    /// Its place: 0 for refusals 1 to 3, 14 and 15, a row for 4 and 5, the place of a row for 6 to 12.
+    /// Its place: 0 for refusals 1 to 3, 14 and 15, a row for 4 and 5, the place of a row for 6 to 13.
     pub fn place(self) -> u32 {
         match self {
             Refusal::Header | Refusal::RowCount | Refusal::Room | Refusal::NoInput | Refusal::NotItsSheet => 0,
@@ -142,7 +149,8 @@ impl Refusal {
             | Refusal::UnknownName { place, .. }
             | Refusal::UnknownScope { place }
             | Refusal::CountTooLarge { place }
-            | Refusal::DuplicateCase { place } => place,
+            | Refusal::DuplicateCase { place }
+            | Refusal::NotEarlier { place } => place,
         }
     }
 
@@ -181,6 +189,7 @@ impl Refusal {
             Refusal::UnknownScope { .. } => "no open scope has the name of the outer scope",
             Refusal::CountTooLarge { .. } => "the outer count is not below the number of open scopes",
             Refusal::DuplicateCase { .. } => "an earlier case of this field has that name",
+            Refusal::NotEarlier { .. } => "no earlier field declares that name",
             Refusal::NoInput => "no input has these bytes as its output",
             Refusal::NotItsSheet => "no sheet, or not an accepted form and its resolved form",
         }

@@ -110,6 +110,34 @@ fn too_little_room_is_refusal_3_behind_1_and_2() {
     assert!(tail.iter().all(|byte| *byte == FILLED));
 }
 
+/// A type of this name, and what it refers to by name, at place 9.
+fn type_of(name: u8, other: Option<u8>) -> Vec<[u8; 16]> {
+    let mut rows = vec![[1, 12, 0, 0, 0, 0, 0, 0, 0, 0, 0, 0, 0, 0, 0, 0], [2, 9, 0, 0, name, 0, 0, 0, 0, 0, 0, 0, 0, 0, 0, 0]];
+    rows.extend(other.map(|other| [3, 9, 1, 0, other, 0, 0, 0, 0, 0, 0, 0, 9, 0, 0, 0]));
+    rows
+}
+
+/// A root of version 2 with these fields, under the rule set of this number.
+fn under(rules: u8, fields: &[Vec<[u8; 16]>]) -> Vec<u8> {
+    let rows: Vec<[u8; 16]> = [vec![OPEN], fields.concat(), vec![CLOSE]].concat();
+    let mut form = [header(rows.len()), rows.concat()].concat();
+    form[5] = rules;
+    form
+}
+
+#[test]
+fn under_rule_set_1_a_name_means_what_an_earlier_field_declares() {
+    let forward = [type_of(1, Some(2)), type_of(2, None)];
+    let backward = [type_of(2, None), type_of(1, Some(2))];
+    assert!(resolve_with(&under(0, &forward), &mut second()).is_ok());
+    assert_eq!(resolve_with(&under(1, &forward), &mut second()), Err(Refusal::NotEarlier { place: 9 }));
+    let out = resolve_with(&under(1, &backward), &mut second()).expect("the type stands before");
+    assert_eq!(out[5], 1);
+    let plain = resolve_with(&under(0, &backward), &mut second()).expect("and so under rule set 0");
+    assert_eq!(out[16..], plain[16..]);
+    assert_eq!(resolve_with(&under(2, &backward), &mut second()), Err(Refusal::Header));
+}
+
 #[test]
 fn converting_there_and_back_gives_the_same_bytes() {
     let driver = example("driver/driver");

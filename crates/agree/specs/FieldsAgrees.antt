@@ -5,11 +5,11 @@ use mathlib.Core.List.{List, [], _∷_, _++_, append-assoc}
 use native.Mathlib.Omega.{arith}
 use Prim.Native.Nat.{ℕ, zero, suc, _+_, _/_, _≤_, _<_}
 use lib.Dec.{eqb}
-use lib.ListN.{length, getD}
+use lib.ListN.{length, getD, length-append}
 use Rattle.kit.specs.Pick.{pick}
 use Rattle.kit.specs.Out.{Out, _&_}
 use Rattle.rules.specs.Tools.{if_then_else_}
-use Rattle.rules.specs.Versions.{today}
+use Rattle.rules.specs.Versions.{RuleSet}
 use Rattle.rules.specs.Rows.{Close}
 use Rattle.rules.specs.Tree.{Declaration, Head, Fields, end, _▸_, Item, headOf, flatten, fieldsRows, itemRows}
 use Rattle.rules.specs.Shapes.{hereOnly}
@@ -18,12 +18,12 @@ use Rattle.rules.specs.Rules
 use Rattle.rules.specs.Rules.{Entry, declsIn, tableOf, Outside, onward, opened, Result, refused, ok, _>>=_, Env, fresh, Expanded, as-it-is, expandHead, expandFields, headsDecls, resolveInserted, resolveHead, resolveScope, resolveFields, resolveItem}
 use Rattle.rules.specs.Laws.Results.{ok-same, bind-inv, holds-of}
 use Rattle.rules.specs.Laws.Entries.{field-decls}
-use Rattle.rules.specs.Laws.Meaning.Names.{LowDecls, DeclFields}
+use Rattle.rules.specs.Laws.Meaning.Names.{LowDecls, LowFields, DeclFields}
 use Rattle.rules.specs.Laws.Meaning.Runs.{head-grown}
 use Rattle.rules.specs.Laws.Output.FourTimes.{inner, item-size, fields-size}
 use Rattle.rules.specs.Laws.Output.Counts.{deep}
 use Rattle.rows.specs.Taken.{codeAt}
-use Rattle.names.specs.Table.{Slot, pastOf, innermostT}
+use Rattle.names.specs.Table.{Slot, pastOf, scopeAt, innermostT}
 use Rattle.names.specs.Stands.{Envs, Below}
 use Rattle.names.proofs.Storey.{between-kept, envs-kept}
 use Rattle.plan.specs.Enter.{rowNumber}
@@ -37,7 +37,8 @@ use Rattle.agree.specs.AtLaws.{at-left, at-right, at-head, row-number, c
 use Rattle.form.specs.Ends.{Ends}
 use Rattle.agree.specs.ItemRows.{item-rows, some-rows}
 use Rattle.agree.specs.Slots.{ifOk, declSlots, operandsSlots, headSlots, fieldsSlots}
-use Rattle.agree.specs.SlotLaws.{decl-length}
+use Rattle.agree.specs.SlotLaws.{head-fresh, decl-length}
+use Rattle.agree.specs.Earlier.{knows-append, knows-fresh, knows-decls, Earlier, earlier-kept, come-onward}
 use Rattle.agree.specs.GoodSpaces.{good-spaces}
 use Rattle.agree.specs.WriteAgrees.{headsRows, put-then, put-one, row-copied}
 use Rattle.agree.specs.Cursor.{Left, left-past, Under, under-append, fields-apart}
@@ -108,13 +109,30 @@ unfolding Envs
 envs-onward names scopes zero env outside i en = absurd en
 envs-onward names scopes (suc depth) env outside i en = (record { name = en .0 .name; order = en .0 .order; room = en .0 .room; stands = en .0 .stands; rows = en .0 .rows }, en .1)
 
+-- and it has come past the field
+earlier-onward : (names : List Slot) (scopes : List (List ℕ)) (far depth : ℕ) (here₀ : List Declaration) (env : Env) (outside : Outside) (b row : ℕ) (before : List Declaration) (i : Item) (e : Expanded Head) → expandHead here₀ outside b (headOf i) ≡ ok e → (rest : List Slot)
+    → Left names (pastOf (innermostT scopes depth)) far (headSlots here₀ outside before b row (headOf i) ++ (declSlots (before ++ headsDecls (e .inserted)) (row + 1) (headOf i .decls) ++ rest))
+    → Earlier names scopes far depth (opened env outside) → Earlier names scopes (far + length (e .inserted) + length (headOf i .decls)) depth (opened env (onward i outside))
+unfolding Earlier
+earlier-onward names scopes far zero here₀ env outside b row before i e x rest l en = tt
+earlier-onward names scopes far (suc depth) here₀ env outside b row before i e x rest l en =
+    let h = headOf i in
+    let ds = before ++ headsDecls (e .inserted) in
+    let hs = headSlots here₀ outside before b row h in
+    let mine = declSlots ds (row + 1) (h .decls) in
+    let m = heads-slots here₀ outside before b row h e x in
+    let n = decl-length ds (row + 1) (h .decls) in
+    let past : far + length (hs ++ mine) ≡ far + length (e .inserted) + length (h .decls) = omega (arith, length-append hs mine) in
+    let l′ : Left names (pastOf (scopeAt scopes depth)) far ((hs ++ mine) ++ rest) = rw (append-assoc hs mine rest) (rw (innermost-is scopes depth) at l) in
+    (rw past at (come-onward names (scopeAt scopes depth) far (outside .before .decls) (h .decls) (hs ++ mine) rest l′ (knows-append hs mine [] (h .decls) (knows-fresh hs (head-fresh here₀ outside before b row h)) (knows-decls ds (row + 1) (h .decls))) (en .0)), en .1)
+
 -- the slots of the innermost scope lie below those that are used
 below-innermost : (names : List Slot) (n : ℕ) (scopes : List (List ℕ)) (depth : ℕ) (env : Env) (es : List Env) → Envs names scopes depth (env ∷ es) → Below n scopes depth → pastOf (innermostT scopes depth) ≤ n
 unfolding Envs Below
 below-innermost names n scopes zero env es en b = absurd en
 below-innermost names n scopes (suc depth) env es en b = rw (innermost-is scopes depth) (b .0)
 
-module _ (sizes : Sizes) (rows ends : List ℕ) (short : Fits sizes rows) where
+module _ (rules : RuleSet) (heap : rules .heap < 13) (sizes : Sizes) (rows ends : List ℕ) (short : Fits sizes rows) where
   -- behind a field comes a FIELD or the CLOSE
   next-code : (fs : Fields) (p : ℕ) → At rows p (fieldsRows fs ++ (Close ∷ [])) → eqb (codeAt rows p) 7 ≡ false
   unfolding flatten
@@ -122,16 +140,16 @@ module _ (sizes : Sizes) (rows ends : List ℕ) (short : Fits sizes rows) where
   next-code (i ▸ fs) p at = rw (code-is rows p _ (at-head rows p _ _ (rw (item-rows i) at (at-left rows p (itemRows i) (fieldsRows fs ++ (Close ∷ [])) (rw append-assoc at at))))) refl
 
   abbrev closed : State → (to : ℕ) → State
-  closed s to = record { at = rowNumber (s .at) 1; to = to; used = s .used; fresh = s .fresh; depth = s .depth; next = s .next; alias = s .alias; seen = s .seen }
+  closed s to = record { at = rowNumber (s .at) 1; to = to; used = s .used; fresh = s .fresh; depth = s .depth; next = s .next; alias = s .alias; seen = s .seen; before = s .before; early = s .early }
 
   close-is : (entered names : List Slot) (out : List ℕ) (s : State) (to : ℕ) (out′ : List ℕ) → Is rows (s .at) Close → putAll out (s .to) (Close ∷ []) ≡ (to & out′) → endedT rows ends (closedT rows ends out s) entered names ≡ (Done (closed s to) & entered & names & out′)
   unfolding closedT endedT putThen
   close-is entered names out s to out′ is e = rw (row-copied rows (s .at) Close out (s .to) is, ← put-one out (s .to) Close, e)
 
-  pub fields-end : FieldsGo sizes rows ends end
+  pub fields-end : FieldsGo rules sizes rows ends end
   unfolding flatten resolveScope fieldsT pick heights deep
-  fields-end allowed kind b k here₀ env outside before X entered names scopes out s depth zero any-time at-row h at en good low x ds u l ready t = absurd (omega arith)
-  fields-end allowed kind b k here₀ env outside before X entered names scopes out s depth (suc turns) any-time at-row h at en good low x ds u l ready t =
+  fields-end allowed kind b k here₀ env outside before X entered names scopes out s depth zero same at-row h at en good low low-names x ds u l ready t = absurd (omega arith)
+  fields-end allowed kind b k here₀ env outside before X entered names scopes out s depth (suc turns) same at-row h at en good low low-names x ds u l ready t =
       let is = at-head rows (s .at) Close [] at in
       let there = is .there in
       rw (code-is rows (s .at) Close is) (go (putAll out (s .to) (Close ∷ [])) refl)
@@ -157,17 +175,17 @@ module _ (sizes : Sizes) (rows ends : List ℕ) (short : Fits sizes rows) where
           )
 
   -- the fields behind one that is done
-  fields-later : (i : Item) (fs : Fields) → FieldsGo sizes rows ends fs → (allowed kind b k : ℕ) (here₀ : List Declaration) (env : Env) (outside : Outside) (before : List Declaration) (e : Expanded Head) (r : List Entry × ℕ)
+  fields-later : (i : Item) (fs : Fields) → FieldsGo rules sizes rows ends fs → (allowed kind b k : ℕ) (here₀ : List Declaration) (env : Env) (outside : Outside) (before : List Declaration) (e : Expanded Head) (r : List Entry × ℕ)
       (entered names : List Slot) (scopes : List (List ℕ)) (out : List ℕ) (s : State) (depth turns : ℕ) (y : List Head × (Item × ℕ)) (w : Wrote₃)
       (F : FieldGone sizes (begunT s depth) names out (s .at + length (itemRows i)) (s .next + length (e .inserted) + length (headOf i .decls)) (y .1 .1) (headsRows (y .0) ++ itemRows (y .1 .0)) w) → y .1 .1 ≤ k + inner i
-      → outside .early ≡ false → outside .before .row ≡ s .at → heights fs ≤ allowed → At rows (s .at + length (itemRows i)) (fieldsRows fs ++ (Close ∷ [])) → Ends fs ends (s .at + length (itemRows i)) → GoodFields today fs kind → LowDecls (headOf i .decls) → DeclFields fs
+      → outside .early ≡ s .early → outside .before .row ≡ s .at → heights fs ≤ allowed → At rows (s .at + length (itemRows i)) (fieldsRows fs ++ (Close ∷ [])) → Ends fs ends (s .at + length (itemRows i)) → GoodFields rules fs kind → LowDecls (headOf i .decls) → DeclFields fs → (s .early ≡ true → LowFields fs)
       → expandHead here₀ outside b (headOf i) ≡ ok e → expandFields here₀ (onward i outside) (e .k) fs ≡ ok r → tableOf env ≡ before ++ (headsDecls (e .inserted) ++ (headOf i .decls ++ declsIn (r .0))) → Under (fresh b) before
       → Left names (pastOf (innermostT scopes depth)) (s .next) (headSlots here₀ outside before b (s .at) (headOf i) ++ (declSlots (before ++ headsDecls (e .inserted)) (s .at + 1) (headOf i .decls) ++ fieldsSlots here₀ (onward i outside) ((before ++ headsDecls (e .inserted)) ++ headOf i .decls) (e .k) (s .at + length (itemRows i)) fs))
       → Ready sizes entered names scopes (begunT s depth) (opened env outside) (heights (i ▸ fs)) (deep (i ▸ fs)) k → length (fieldsRows fs) < turns
       → Says (laterSays fs here₀ env (onward i outside) (e .k) y) (λ v w. Gone sizes s names out (s .at + length (fieldsRows (i ▸ fs)) + 1) (v .1) (fieldsRows (v .0) ++ (Close ∷ [])) w × (v .1 ≤ k + deep (i ▸ fs)))
       (fieldsT rows ends (scopeT rows ends allowed) (F .gone .entered′) (F .gone .names′) scopes (F .gone .after) (F .gone .state) depth turns)
   unfolding heights deep laterSays
-  fields-later i fs later allowed kind b k here₀ env outside before e r entered names scopes out s depth turns y w F grows any-time at-row h at en good low-decls low x x′ ds u l ready t =
+  fields-later i fs later allowed kind b k here₀ env outside before e r entered names scopes out s depth turns y w F grows same at-row h at en good low-decls low low-names x x′ ds u l ready t =
       let g = F .gone in
       let v = g .state in
       let h₀ = headOf i in
@@ -189,10 +207,13 @@ module _ (sizes : Sizes) (rows ends : List ℕ) (short : Fits sizes rows) where
       let gr = holds-of _ _ e (head-grown here₀ outside b h₀) x in
       let u′ = under-append (fresh (e .k)) ds₁ (h₀ .decls) (grown-under b (e .k) before (e .inserted) (gr .0) (gr .1) u) (low-under (e .k) (h₀ .decls) low-decls) in
       let envs′ = envs-onward (g .names′) scopes depth env outside i (envs-kept (s .used) names (g .names′) (sym (g .kept)) scopes depth (opened env outside) (omega arith) (ready .below) (ready .envs)) in
+      let earlier′ : s .early ≡ true → Earlier (g .names′) scopes (v .next) depth (opened env (onward i outside)) =
+      λ t. rw (F .passes) (earlier-kept (s .used) names (g .names′) (sym (g .kept)) scopes (s .next + length (e .inserted) + length (h₀ .decls)) depth (opened env (onward i outside)) (ready .below)
+      (earlier-onward names scopes (s .next) depth here₀ env outside b (s .at) before i e x _ l (ready .earlier t))) in
       let ready′ : Ready sizes (g .entered′) (g .names′) scopes (begunT v depth) (opened env (onward i outside)) (heights fs) (deep fs) (y .1 .1) =
-      record { room = g .room; size = size; depths = ready .depths; envs = envs′; below = rw used (ready .below); deep = omega arith; slots = omega arith; numbers = omega arith; fresh = g .fresh } in
+      record { room = g .room; size = size; depths = ready .depths; envs = envs′; below = rw used (ready .below); deep = omega arith; slots = omega arith; numbers = omega arith; fresh = g .fresh; earlier = λ t. earlier′ (sym (F .asks) ∙ t) } in
       says-map (resolveFields fs here₀ env (onward i outside) (e .k) (y .1 .1)) (λ rs. (Rules._before_ (y .0) (y .1 .0 ▸ rs .0), rs .1)) _ _ _
-      (later allowed kind (e .k) (y .1 .1) here₀ env (onward i outside) (ds₁ ++ h₀ .decls) r (g .entered′) (g .names′) scopes (g .after) v depth turns any-time (omega (arith, g .arrived)) h (rw (g .arrived) at) (rw (g .arrived) en) good low x′
+      (later allowed kind (e .k) (y .1 .1) here₀ env (onward i outside) (ds₁ ++ h₀ .decls) r (g .entered′) (g .names′) scopes (g .after) v depth turns (same ∙ sym (F .asks)) (omega (arith, g .arrived)) h (rw (g .arrived) at) (rw (g .arrived) en) good low (λ t. low-names (sym (F .asks) ∙ t)) x′
       (ds ∙ simp append-assoc) u′ (rw (F .passes, g .arrived) l₃) ready′ t)
       (λ rs G.
       let arrived = G .0 .arrived in
@@ -215,10 +236,10 @@ module _ (sizes : Sizes) (rows ends : List ℕ) (short : Fits sizes rows) where
         omega arith,
       ))
 
-  pub fields-from : (i : Item) (fs : Fields) → ItemGoes sizes rows ends i → FieldsGo sizes rows ends fs → FieldsGo sizes rows ends (i ▸ fs)
+  pub fields-from : (i : Item) (fs : Fields) → ItemGoes rules sizes rows ends i → FieldsGo rules sizes rows ends fs → FieldsGo rules sizes rows ends (i ▸ fs)
   unfolding fieldsT pick heights deep Ends fieldsSlots ifOk wroteThen₃ laterSays
-  fields-from i fs item later allowed kind b k here₀ env outside before X entered names scopes out s depth zero any-time at-row h at en good low x ds u l ready t = absurd (omega arith)
-  fields-from i fs item later allowed kind b k here₀ env outside before X entered names scopes out s depth (suc turns) any-time at-row h at en good low x ds u l ready t =
+  fields-from i fs item later allowed kind b k here₀ env outside before X entered names scopes out s depth zero same at-row h at en good low low-names x ds u l ready t = absurd (omega arith)
+  fields-from i fs item later allowed kind b k here₀ env outside before X entered names scopes out s depth (suc turns) same at-row h at en good low low-names x ds u l ready t =
       let c = fields-made here₀ outside b i fs X x in
       let e = c .0 in
       let h₀ = headOf i in
@@ -231,16 +252,16 @@ module _ (sizes : Sizes) (rows ends : List ℕ) (short : Fits sizes rows) where
       let deep-left = ready .deep in
       let slots-left = ready .slots in
       let numbers-left = ready .numbers in
-      let spaces = good-spaces (i ▸ fs) kind good in
+      let spaces = good-spaces rules (i ▸ fs) kind heap good in
       let ds₁ = before ++ headsDecls (e .inserted) in
       let slots₁ = fieldsSlots here₀ (onward i outside) (ds₁ ++ h₀ .decls) (e .k) (s .at + length (itemRows i)) fs in
       let l′ : Left names (pastOf (innermostT scopes depth)) (s .next) (headSlots here₀ outside before b (s .at) h₀ ++ (declSlots ds₁ (s .at + 1) (h₀ .decls) ++ slots₁)) = rw (c .2) at l in
       let ds′ : tableOf env ≡ before ++ (headsDecls (e .inserted) ++ (h₀ .decls ++ declsIn (c .1 .0))) = ds ∙ ap (λ (y : List Declaration). before ++ y) (c .4) in
       let ready₁ : Ready sizes entered names scopes (begunT s depth) (opened env outside) (heightItem i) (inner i) k =
-      record { room = ready .room; size = ready .size; depths = ready .depths; envs = ready .envs; below = ready .below; deep = omega arith; slots = omega arith; numbers = omega arith; fresh = ready .fresh } in
+      record { room = ready .room; size = ready .size; depths = ready .depths; envs = ready .envs; below = ready .below; deep = omega arith; slots = omega arith; numbers = omega arith; fresh = ready .fresh; earlier = ready .earlier } in
       rw (code, fields-says i fs here₀ env outside b k e (c .2))
       (says-then₃ (itemSays i env outside k e) (laterSays fs here₀ env (onward i outside) (e .k)) _ _ (fieldT rows ends (scopeT rows ends allowed) entered names scopes out (begunT s depth)) _
-      (item allowed kind b k here₀ env outside before (declsIn (c .1 .0)) e slots₁ entered names scopes out (begunT s depth) any-time at-row (omega arith) (at-left rows (s .at) (itemRows i) (fieldsRows fs ++ (Close ∷ [])) at′) (next-code fs (s .at + length (itemRows i)) behind)
-      (en .0) (en .1) (good .0) (spaces .0) (low .1) (c .2) l′ (λ r g g′. fields-apart here₀ (onward i outside) r (ds₁ ++ h₀ .decls) (e .k) (s .at + length (itemRows i)) fs (omega arith)) ds′ u refl refl ready₁)
+      (item allowed kind b k here₀ env outside before (declsIn (c .1 .0)) e slots₁ entered names scopes out (begunT s depth) same at-row (omega arith) (at-left rows (s .at) (itemRows i) (fieldsRows fs ++ (Close ∷ [])) at′) (next-code fs (s .at + length (itemRows i)) behind)
+      (en .0) (en .1) (good .0) (spaces .0) (low .1) (λ t. low-names t .0) (λ t. low-names t .1) (c .2) l′ (λ r g g′. fields-apart here₀ (onward i outside) r (ds₁ ++ h₀ .decls) (e .k) (s .at + length (itemRows i)) fs (omega arith)) ds′ u refl refl ready₁)
       (λ y q F. rw (F .0 .gone .is)
-      (fields-later i fs later allowed kind b k here₀ env outside before e (c .1) entered names scopes out s depth turns y _ (F .0) (F .1) any-time at-row (omega arith) behind (en .2) (good .1) (low .0) (low .2) (c .2) (c .3) ds′ u l′ ready (omega arith))))
+      (fields-later i fs later allowed kind b k here₀ env outside before e (c .1) entered names scopes out s depth turns y _ (F .0) (F .1) same at-row (omega arith) behind (en .2) (good .1) (low .0) (low .2) (λ t. low-names t .2) (c .2) (c .3) ds′ u l′ ready (omega arith))))

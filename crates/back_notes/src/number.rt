@@ -79,7 +79,7 @@ pub fn number_rows(rows: &[u8], noted: &mut [Note])
     ensures { λ _. ⌜ now (noted .exit) ≡ sets (now (noted .entry)) 0 (notesT 0 [] [] (rowsAt (now (rows .entry)) 0)) ⌝ }
 {
     let n = rows.len() / 16;
-    let mut scopes: [Scope; SCOPES] = [[0usize; 3]; SCOPES];
+    let mut scopes: [Scope; SCOPES] = [[0usize; 4]; SCOPES];
     let mut counts: [Counts; SCOPES] = [[0u32; 13]; SCOPES];
     let mut depth = 0;
     let mut i = 0;

@@ -28,14 +28,14 @@ use Rattle.refusal.specs.declared.Refusal.{Refusal}
 use Rattle.resolver.specs.Meaning.{numbers, Said, meaning, ruled}
 use Rattle.resolver.specs.declared.run.Answer.{Answer}
 use Rattle.inside.specs.Run.{RootIn, Resolves}
-use Rattle.member.proofs.Prelude.{Resolved}
+use Rattle.member.proofs.Prelude.{first-in-force, Resolved}
 use Rattle.member.proofs.Ways.{packed-as, is-told, found}
 use Rattle.batch.specs.Shares.{InFront, InShare, InShares}
 use Rattle.batch.proofs.Turns.{next-share, outsFrom, outs-start, outs-turn, outs-end, answersFrom, answers-turn, answers-end}
 
 -- ---- in_front
 
-pub fronted : (root form rest new : List ℕ) (share : ℕ) → share ≤ length rest → (a : Answer) → Resolves root form (take share rest) new a
+pub fronted : (root form rest new : List ℕ) (share : ℕ) → share ≤ length rest → (a : Answer) → Resolves (setting 0) root form (take share rest) new a
     → (s : Refusal) → numbers (s .number) (s .place) ≡ meaning a .plain → (r : ℕ) → r ≡ s .number * 4294967296 + s .place
     → InFront root form share rest (new ++ drop share rest) r
 fronted root form rest new share fits a resolves s told r e = λ t i.
@@ -94,7 +94,7 @@ abbrev pub Left : (root members lengths outs₀ answers₀ : List ℕ) (i : ℕ)
 Left root members lengths outs₀ answers₀ i outs answers =
     let share = length outs₀ / length lengths in
     let forms = cut lengths members in
-    (t : Scope) → RootIn t root
+    (t : Scope) → RootIn (setting 0 .version) t root
     → (outsFrom (setting 0) (base-usual .0) (rootOf t) share forms i outs ≡ memberOutputs (setting 0) (rootOf t) share forms outs₀)
     × (answersFrom (setting 0) (base-usual .0) (rootOf t) share forms i answers ≡ sets answers₀ 0 (answersBytes (memberAnswers (setting 0) (rootOf t) share forms)))
 
@@ -132,20 +132,20 @@ module _ (prelude area : List ℕ) (said : Refusal) (a : Answer) (told : numbers
   module _ (h : said .number ≡ 0 → ⊥) (forms : List (List ℕ)) where
     pub told-batch : (room r : ℕ) → r ≡ said .number * 4294967296 + said .place → r ≡ packedBatch (afterPrelude (preludeOf base prelude (length area)) forms room)
     unfolding packedBatch afterPrelude
-    told-batch room r e = rw (is-told prelude area said a told ran h .1) e
+    told-batch room r e = rw (is-told (setting 0) prelude area said a told ran h .1) e
 
     pub told-shares : (old : List ℕ) → old ≡ sharesAfter (preludeOf base prelude (length area)) forms old
     unfolding sharesAfter
-    told-shares old = rw (is-told prelude area said a told ran h .1)
+    told-shares old = rw (is-told (setting 0) prelude area said a told ran h .1)
 
     pub told-bytes : (room : ℕ) (old : List ℕ) → old ≡ answersAfter (afterPrelude (preludeOf base prelude (length area)) forms room) old
     unfolding answersAfter afterPrelude
-    told-bytes room old = rw (is-told prelude area said a told ran h .1)
+    told-bytes room old = rw (is-told (setting 0) prelude area said a told ran h .1)
 
   -- it is accepted
   module _ (h : said .number ≡ 0) (all : (i : ℕ) → Fits w8 (getD prelude i 0)) where
-    at : Resolved prelude area (said .place)
-    at = found prelude area said a told ran h all (output base prelude area) refl (take (16 * said .place) (drop 8 (output base prelude area))) refl
+    at : Resolved (setting 0) prelude area (said .place)
+    at = found (setting 0) prelude area said a told ran first-in-force h all (output base prelude area) refl (take (16 * said .place) (drop 8 (output base prelude area))) refl
 
     pub done-batch : (forms : List (List ℕ)) (room r : ℕ) → r ≡ said .number * 4294967296 + said .place → r ≡ packedBatch (afterPrelude (preludeOf base prelude (length area)) forms room)
     unfolding packedBatch afterPrelude
@@ -156,7 +156,7 @@ module _ (prelude area : List ℕ) (said : Refusal) (a : Answer) (told : numbers
       inside : (outs′ ≡ memberOutputs (setting 0) (rootOf (at .tree)) (shareOf (cut lengths members) (length outs)) (cut lengths members) outs)
           × (answers′ ≡ sets answers 0 (answersBytes (memberAnswers (setting 0) (rootOf (at .tree)) (shareOf (cut lengths members) (length outs)) (cut lengths members))))
       unfolding shareOf
-      inside = rw cut-count (all-done (at .tree) (subst (RootIn (at .tree)) (sym (rows ∙ ap (λ (o : List ℕ). take (16 * said .place) (drop 8 o)) left)) (at .root)))
+      inside = rw cut-count (all-done (at .tree) (subst (RootIn (setting 0 .version) (at .tree)) (sym (rows ∙ ap (λ (o : List ℕ). take (16 * said .place) (drop 8 o)) left)) (at .root)))
 
       pub done-shares : outs′ ≡ sharesAfter (preludeOf base prelude (length area)) (cut lengths members) outs
       unfolding sharesAfter

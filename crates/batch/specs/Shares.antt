@@ -14,20 +14,20 @@ use Rattle.inside.specs.Run.{RootIn}
 -- One member in the front of a buffer, whose rest stays.
 abbrev pub InFront : (root form : List ℕ) (share : ℕ) (old new : List ℕ) (answer : ℕ) → Type 0
 InFront root form share old new answer =
-    (t : Scope) → RootIn t root → (answer ≡ packed (insideAnswer (setting 0) (rootOf t) form share)) × (new ≡ insideOutput (setting 0) (rootOf t) form (take share old) ++ drop share old)
+    (t : Scope) → RootIn (setting 0 .version) t root → (answer ≡ packed (insideAnswer (setting 0) (rootOf t) form share)) × (new ≡ insideOutput (setting 0) (rootOf t) form (take share old) ++ drop share old)
 
 -- The i-th member in its share, and its answer.
 abbrev pub InShare : (root members lengths : List ℕ) (i : ℕ) (outs outs′ answers answers′ : List ℕ) → Type 0
 InShare root members lengths i outs outs′ answers answers′ =
     let share = length outs / length lengths in
     let form = getD (cut lengths members) i [] in
-    (t : Scope) → RootIn t root
+    (t : Scope) → RootIn (setting 0 .version) t root
     → (outs′ ≡ take (i * share) outs ++ (insideOutput (setting 0) (rootOf t) form (take share (drop (i * share) outs)) ++ drop share (drop (i * share) outs)))
     × (answers′ ≡ sets answers (8 * i) (bytes 8 (packed (insideAnswer (setting 0) (rootOf t) form share))))
 
 -- All members, each in its share, and the answers of all.
 abbrev pub InShares : (root members lengths outs outs′ answers answers′ : List ℕ) → Type 0
 InShares root members lengths outs outs′ answers answers′ =
-    (t : Scope) → RootIn t root
+    (t : Scope) → RootIn (setting 0 .version) t root
     → (outs′ ≡ memberOutputs (setting 0) (rootOf t) (length outs / length lengths) (cut lengths members) outs)
     × (answers′ ≡ sets answers 0 (answersBytes (memberAnswers (setting 0) (rootOf t) (length outs / length lengths) (cut lengths members))))

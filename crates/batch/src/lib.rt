@@ -5,9 +5,9 @@ use batch_parts::member_at;
 use batch_parts::put_answer;
 use batch_parts::share_of;
 use inside::run::resolve_inside;
-use member::packed;
 use member::rows_of;
 use member::said;
+use packed::packed_refusal;
 use refusal::ROOM;
 use refusal::ROW_COUNT;
 use refusal::Refusal;
@@ -28,7 +28,7 @@ fn in_front(root: &[u8], form: &[u8], rest: &mut [u8], share: usize) -> u64
     requires { ⌜ share ≤ length (now rest) ⌝ }
     ensures { λ r. ⌜ InFront (now (root .entry)) (now (form .entry)) share (now (rest .entry)) (now (rest .exit)) r ⌝ }
 {
-    packed(said(resolve_inside(root, form, &mut rest[..share])))
+    packed_refusal(said(resolve_inside(root, form, &mut rest[..share])))
 }
 
 // The member `i` in its share, and its answer.
@@ -79,17 +79,23 @@ fn resolve_all(
 {
     let of = said(resolve(prelude, resolved));
     if of.number != 0 {
-        return packed(of);
+        return packed_refusal(of);
     }
-    in_shares(rows_of(resolved, of.place), members, lengths, outs, answers);
-    packed(of)
+    in_shares(
+        rows_of(resolved, 0, of.place),
+        members,
+        lengths,
+        outs,
+        answers,
+    );
+    packed_refusal(of)
 }
 
 // A refusal ahead of the prelude's.
 fn refused(number: u32) -> u64
     ensures { λ r. ⌜ r ≡ number * 4294967296 ⌝ }
 {
-    packed(Refusal { number, place: 0 })
+    packed_refusal(Refusal { number, place: 0 })
 }
 
 // Resolves a batch, the prelude into `resolved`: a refusal's number times 2^32 plus its place, or the number of rows that were

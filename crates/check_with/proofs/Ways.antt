@@ -85,7 +85,7 @@ of-rules (Result.refused why place) = refl
 of-rules (ok r) = refl
 
 -- the steps in lent tables answer what the rules' steps answer, under any version that they are able to take
-module _ (v : Version) (able : Able v) (ends : List ℕ) (entered names : List Slot) (rooms : Rooms v ends entered names) (form : List ℕ) (bytes : Bytes form) (s : Scope) (reads : readForm (under v) form ≡ accepted s) where
+module _ (v : Version) (able : Able (under v)) (ends : List ℕ) (entered names : List Slot) (rooms : Rooms v ends entered names) (form : List ℕ) (bytes : Bytes form) (s : Scope) (reads : readForm (under v) form ≡ accepted s) where
   rows-are : (length (drop (v .header) form) / 16 ≤ v .rows) × (length (drop (v .header) form) / 16 ≡ rowCount v form)
   rows-are =
       let R = read-exactly (under v) form s .0 reads in
@@ -105,7 +105,7 @@ module _ (v : Version) (able : Able v) (ends : List ℕ) (entered names : List S
   unfolding walkIn
   steps-able =
       let R = read-exactly (under v) form s .0 reads in
-      of-walk _ ∙ (ap asSteps (steps-refusal v able ends entered names rooms (drop (v .header) form) (bytes-drop (v .header) form bytes) (rows-are .0) s is-form (R .low) (0 ∷ [])) ∙ of-rules (resolve today s))
+      of-walk _ ∙ (ap asSteps (steps-refusal (under v) able ends entered names rooms (drop (v .header) form) (bytes-drop (v .header) form bytes) (rows-are .0) s is-form (R .low) (0 ∷ [])) ∙ of-rules (resolve today s))
 
 steps-at : (i : ℕ) → i < 2 → (ends : List ℕ) (entered names : List Slot) → Rooms (setting i .version) ends entered names → (form : List ℕ) → Bytes form → (s : Scope) → readForm (setting i) form ≡ accepted s
     → stepsIn (walkIn (setting i) (bodyOf i form) ends entered names (0 ∷ [])) ≡ stepsOf (resolve (setting i .rules) s)

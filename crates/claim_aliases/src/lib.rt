@@ -179,7 +179,7 @@ pub fn try_aliases(claim: &[u8], table: &mut [Slot], index: &mut [u16]) -> Tried
     ensures { λ r. ⌜ (r & now (table .exit)) ≡ laidBy (aliasesT (length (now (table .entry))) 0 false [] [] (rowsAt (now (claim .entry)) 0)) (now (table .entry)) ⌝ }
 {
     let n = claim.len() / 16;
-    let mut scopes: [Scope; SCOPES] = [[0usize; 3]; SCOPES];
+    let mut scopes: [Scope; SCOPES] = [[0usize; 4]; SCOPES];
     let mut c = Cursor {
         depth: 0,
         used: 0,

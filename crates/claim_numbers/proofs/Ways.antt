@@ -19,7 +19,7 @@ use Rattle.index.specs.Indexed.{Holds}
 use Rattle.claim_rows.specs.Left.{rowsAt}
 use Rattle.claim_rows.specs.Added.{isAddedT}
 use Rattle.claim_rows.proofs.Ways.{is-false, is-true, rows-there, rows-past}
-use Rattle.claim_scopes.specs.Open.{behindT, openIn, hereT, openT}
+use Rattle.claim_scopes.specs.Open.{scopeT, behindT, openIn, hereT, openT}
 use Rattle.claim_scopes.specs.Entries.{slotT, enterT, laidT}
 use Rattle.claim_scopes.proofs.Held.{Behind, open-length, open-behind, Laid, laid-none, Entered, slot-enters, laid-is}
 use Rattle.claim_numbers.specs.Count.{noCounts, countsAt, moreT, bumpT, countT, countsIn, numberIn, moreIn, lessIn, numberT, countsT}
@@ -137,7 +137,7 @@ leftOf (a & b) = b
 
 module _ (scopes counts : List (List ℕ)) (d : ℕ) (p : Parts) (i : ℕ) (l : d ≤ length counts) (same : length scopes ≡ length counts) where
   -- where an OPEN, a CLOSE and any other row leave the depth
-  opened : (t : Bool) → ltb d (length scopes) ≡ t → (o w : Out ℕ (List (List ℕ))) → o ≡ pick t (d + 1 & set scopes d (p .x ∷ i ∷ 0 ∷ [])) (d & scopes) → w ≡ pick (ltb d (length counts)) (0 & set counts d noCounts) (0 & counts)
+  opened : (t : Bool) → ltb d (length scopes) ≡ t → (o w : Out ℕ (List (List ℕ))) → o ≡ pick t (d + 1 & set scopes d (scopeT (p .x) i)) (d & scopes) → w ≡ pick (ltb d (length counts)) (0 & set counts d noCounts) (0 & counts)
       → (outOf w ≡ 0) × (countsIn (leftOf w) (outOf o) ≡ pick (ltb (length (countsIn counts d)) (length counts)) (noCounts ∷ countsIn counts d) (countsIn counts d)) × (length (leftOf w) ≡ length counts)
   unfolding pick
   opened true t o w e f =

@@ -123,7 +123,7 @@ pub fn enter_all(claim: &[u8], table: &mut [Slot], index: &mut [u16]) -> usize
     ensures { λ r. ⌜ ((r & now (table .exit)) ≡ laidBy (entriesT (length (now (table .entry))) 0 false [] [] [] (rowsAt (now (claim .entry)) 0)) (now (table .entry))) × Holds (now (table .exit)) (now (index .exit)) r ⌝ }
 {
     let n = claim.len() / 16;
-    let mut scopes: [Scope; SCOPES] = [[0usize; 3]; SCOPES];
+    let mut scopes: [Scope; SCOPES] = [[0usize; 4]; SCOPES];
     let mut counts: [Counts; SCOPES] = [[0u32; 13]; SCOPES];
     let mut c = Cursor {
         depth: 0,

@@ -97,7 +97,7 @@ pub fn try_operands(input: &[u8], claim: &[u8], table: &[Slot], index: &[u16], u
     ensures { λ r. ⌜ r ≡ operandsT (take used (now (table .entry))) (now (claim .entry)) used 0 false [] (rowsAt (now (claim .entry)) 0) (rowsAt (now (input .entry)) 0) ⌝ }
 {
     let n = claim.len() / 16;
-    let mut scopes: [Scope; SCOPES] = [[0usize; 3]; SCOPES];
+    let mut scopes: [Scope; SCOPES] = [[0usize; 4]; SCOPES];
     let mut c = Cursor {
         used,
         depth: 0,

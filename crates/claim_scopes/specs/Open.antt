@@ -9,7 +9,7 @@ use Rattle.names.specs.Table.{scopeAt}
 use Rattle.parts.specs.declared.Parts.{Parts}
 
 abbrev pub scopeT : (name row : ℕ) → List ℕ
-scopeT name row = name ∷ row ∷ 0 ∷ []
+scopeT name row = name ∷ row ∷ 0 ∷ 0 ∷ []
 
 abbrev pub nameIn : List ℕ → ℕ
 nameIn s = getD s 0 0

@@ -14,7 +14,7 @@ pub fn behind_row(scopes: &mut [Scope], depth: usize, p: Parts, i: usize) -> usi
 {
     if p.code == OPEN {
         if depth < scopes.len() {
-            scopes[depth] = [p.x as usize, i, 0];
+            scopes[depth] = [p.x as usize, i, 0, 0];
             return depth + 1;
         }
         return depth;

@@ -110,7 +110,7 @@ fn with_members(resolved: &[u8; 65536], rows: u32, name: &[u8], path: &[u8], fir
     if status == FAILED {
         return FAILED;
     }
-    each_member(rows_of(resolved, rows), first)
+    each_member(rows_of(resolved, 0, rows), first)
 }
 
 fn batch_form(form: &[u8], name: &[u8], path: &[u8], first: u8) -> u8 {

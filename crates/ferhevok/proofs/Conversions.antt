@@ -14,9 +14,9 @@ module _ (a : Answer) where
   unfolding meaning
   packs-rows n e = rw e
 
-  pub packs-why : (r : Refusal) → a ≡ Refused r → r .number * 4294967296 + r .place ≡ packedAnswer (meaning a)
+  pub packs-why : (r : Refusal) (n : ℕ) → a ≡ Refused r → n ≡ r .number * 4294967296 + r .place → n ≡ packedAnswer (meaning a)
   unfolding meaning
-  packs-why r e = rw e
+  packs-why r n e h = rw e h
 
 pub ruleset rows = (packs-rows, packs-why, needs)
 

@@ -14,9 +14,9 @@ module _ (a : Answer) where
   unfolding meaning
   packs-listed n e = rw e
 
-  pub packs-refusal : (r : Refusal) → a ≡ Refused r → r .number * 4294967296 + r .place ≡ packedAnswer (meaning a)
+  pub packs-refusal : (r : Refusal) (n : ℕ) → a ≡ Refused r → n ≡ r .number * 4294967296 + r .place → n ≡ packedAnswer (meaning a)
   unfolding meaning
-  packs-refusal r e = rw e
+  packs-refusal r n e h = rw e h
 
 pub ruleset lists = (packs-listed, packs-refusal, needs)
 

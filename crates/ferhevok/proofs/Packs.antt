@@ -24,8 +24,8 @@ module _ (a : Answer) where
   pub packs-accepted : (n : ℕ) → a ≡ Accepted n → n ≡ packed (meaning a .plain)
   packs-accepted n e = rw e (omega arith)
 
-  pub packs-refused : (r : Refusal) (t : Told) → a ≡ Refused r t → r .number * 4294967296 + r .place ≡ packed (meaning a .plain)
-  packs-refused r t e = rw e
+  pub packs-refused : (r : Refusal) (t : Told) (n : ℕ) → a ≡ Refused r t → n ≡ r .number * 4294967296 + r .place → n ≡ packed (meaning a .plain)
+  packs-refused r t n e h = rw e h
 
 pub ruleset packs = (packs-accepted, packs-refused, needs)
 
@@ -42,8 +42,8 @@ module _ (a : mend.Answer) where
   pub packs-mended : (n : ℕ) → a ≡ mended.Mended n → n ≡ packedMending (mending.meaning a)
   packs-mended n e = rw e (omega arith)
 
-  pub packs-unmended : (r : Refusal) → a ≡ mended.Refused r → r .number * 4294967296 + r .place ≡ packedMending (mending.meaning a)
-  packs-unmended r e = rw e
+  pub packs-unmended : (r : Refusal) (n : ℕ) → a ≡ mended.Refused r → n ≡ r .number * 4294967296 + r .place → n ≡ packedMending (mending.meaning a)
+  packs-unmended r n e h = rw e h
 
 pub ruleset packs-mending = (packs-mended, packs-unmended, needs)
 
@@ -56,8 +56,8 @@ module _ (a : moves.Answer) where
   pub packs-listed : (n : Listed) → a ≡ moving.Listed n → n .apart * 65536 + n .moved ≡ packed (moved.meaning a)
   packs-listed n e = rw e (omega arith)
 
-  pub packs-unlisted : (r : Refusal) → a ≡ moving.Refused r → r .number * 4294967296 + r .place ≡ packed (moved.meaning a)
-  packs-unlisted r e = rw e
+  pub packs-unlisted : (r : Refusal) (n : ℕ) → a ≡ moving.Refused r → n ≡ r .number * 4294967296 + r .place → n ≡ packed (moved.meaning a)
+  packs-unlisted r n e h = rw e h
 
 pub ruleset packs-lists = (packs-listed, packs-unlisted, needs)
 

@@ -14,8 +14,8 @@ module _ (a : Answer) where
   pub packs-answered : (n : ℕ) → a ≡ Answered n → n ≡ packed (meaning a)
   packs-answered n e = rw e (omega arith)
 
-  pub packs-unanswered : (r : Refusal) → a ≡ Refused r → r .number * 4294967296 + r .place ≡ packed (meaning a)
-  packs-unanswered r e = rw e
+  pub packs-unanswered : (r : Refusal) (n : ℕ) → a ≡ Refused r → n ≡ r .number * 4294967296 + r .place → n ≡ packed (meaning a)
+  packs-unanswered r n e h = rw e h
 
 pub ruleset packs-slots = (packs-answered, packs-unanswered, needs)
 

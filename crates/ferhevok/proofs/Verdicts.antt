@@ -16,8 +16,8 @@ module _ (v : Verdict) where
   pub packs-no : (condition row : ℕ) → v ≡ No condition row → (100 + condition) * 4294967296 + row ≡ packedVerdict (meaning v)
   packs-no condition row e = rw e
 
-  pub packs-refusal : (r : Refusal) → v ≡ Refused r → r .number * 4294967296 + r .place ≡ packedVerdict (meaning v)
-  packs-refusal r e = rw e
+  pub packs-refusal : (r : Refusal) (n : ℕ) → v ≡ Refused r → n ≡ r .number * 4294967296 + r .place → n ≡ packedVerdict (meaning v)
+  packs-refusal r n e h = rw e h
 
 pub ruleset verdicts = (packs-yes, packs-no, packs-refusal, needs)
 

@@ -1,5 +1,6 @@
 // The C functions that hold a binding sheet against an input and its resolved form.
 use names::Slot;
+use packed::packed_refusal;
 use sheet::Answer;
 use sheet::check;
 use sheet_with::check_with;
@@ -19,7 +20,7 @@ fn packed_slots(answer: Answer) -> u64
 {
     match answer {
         Answer::Answered(failing) => failing as u64,
-        Answer::Refused(refusal) => (refusal.number as u64) * 4294967296 + (refusal.place as u64),
+        Answer::Refused(refusal) => packed_refusal(refusal),
     }
 }
 

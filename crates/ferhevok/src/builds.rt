@@ -1,6 +1,7 @@
 // The C function that compares two builds.
 use diff::run::Answer;
 use diff::run::compare;
+use packed::packed_refusal;
 ghost use mathlib.Core.Path.{_≡_};
 ghost use lib.ListN.{length};
 ghost use Rattle.rules.specs.Answer.{mapAnswer};
@@ -16,7 +17,7 @@ fn packed_list(answer: Answer) -> u64
 {
     match answer {
         Answer::Listed(bytes) => bytes as u64,
-        Answer::Refused(refusal) => (refusal.number as u64) * 4294967296 + (refusal.place as u64),
+        Answer::Refused(refusal) => packed_refusal(refusal),
     }
 }
 

@@ -1,6 +1,7 @@
 // The C function that mends a form in its own buffer.
 use mend::run::Answer;
 use mend::run::mend;
+use packed::packed_refusal;
 ghost use mathlib.Core.Path.{_≡_};
 ghost use lib.ListN.{length};
 ghost use Rattle.rules.specs.Versions.{all};
@@ -14,7 +15,7 @@ fn packed_in(answer: Answer) -> u64
 {
     match answer {
         Answer::Mended(changes) => changes as u64,
-        Answer::Refused(refusal) => (refusal.number as u64) * 4294967296 + (refusal.place as u64),
+        Answer::Refused(refusal) => packed_refusal(refusal),
     }
 }
 

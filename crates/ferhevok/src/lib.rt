@@ -11,6 +11,7 @@ pub mod numbers;
 pub mod told;
 pub mod versions;
 
+use packed::packed_refusal;
 use resolver::run::Answer;
 use resolver::run::resolve;
 ghost use mathlib.Core.Path.{_≡_};
@@ -26,8 +27,7 @@ pub(crate) fn packed_in(answer: Answer) -> u64
 {
     match answer {
         Answer::Accepted(rows) => rows as u64,
-        Answer::Refused(refusal, _) => (refusal.number as u64) * 4294967296
-            + (refusal.place as u64),
+        Answer::Refused(refusal, _) => packed_refusal(refusal),
     }
 }
 

@@ -3,7 +3,7 @@ use batch::batch;
 use meant::Declared;
 use meant::meant_at;
 use member::member as resolve_member;
-use member::packed;
+use packed::packed_refusal;
 ghost use mathlib.Core.Path.{_≡_};
 ghost use mathlib.Core.Bool.{false};
 ghost use lib.Dec.{ltb};
@@ -44,7 +44,7 @@ pub extern "C" fn wnt_member(prelude: &[u8], member: &[u8], out: &mut [u8], work
     ensures { λ _. ⌜ now (out .exit) ≡ memberLeaves base (ltb (length (now (work .entry))) 65480) (now (prelude .entry)) 65480 (now (member .entry)) (now (out .entry)) ⌝ }
     ensures { λ _. ⌜ now (work .exit) ≡ cleared 0 65480 (now (work .entry)) ⌝ }
 {
-    packed(resolve_member(prelude, member, out, work))
+    packed_refusal(resolve_member(prelude, member, out, work))
 }
 
 // Resolves a batch: the prelude into `resolved`, and each member into its share of `outs`.

@@ -1,4 +1,5 @@
 // The C function that resolves a form and hands out what its refusal tells.
+use packed::packed_refusal;
 use resolver::run::Answer;
 use resolver::run::resolve;
 ghost use mathlib.Core.Path.{_≡_};
@@ -33,7 +34,7 @@ fn telling(answer: Answer, told: &mut [u32]) -> u64
         }
         Answer::Refused(refusal, besides) => {
             put_told(told, besides.space, besides.first);
-            (refusal.number as u64) * 4294967296 + (refusal.place as u64)
+            packed_refusal(refusal)
         }
     }
 }

@@ -1,6 +1,7 @@
 // The C function that converts a form from one version to another.
 use convert::run::Answer;
 use convert::run::convert;
+use packed::packed_refusal;
 ghost use mathlib.Core.Path.{_≡_};
 ghost use lib.ListN.{length};
 ghost use Rattle.rules.specs.Answer.{mapAnswer};
@@ -15,7 +16,7 @@ fn packed_rows(answer: Answer) -> u64
 {
     match answer {
         Answer::Converted(rows) => rows as u64,
-        Answer::Refused(refusal) => (refusal.number as u64) * 4294967296 + (refusal.place as u64),
+        Answer::Refused(refusal) => packed_refusal(refusal),
     }
 }
 

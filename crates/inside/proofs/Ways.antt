@@ -3,21 +3,22 @@ use mathlib.Core.Path.{_≡_, refl, sym, ap, _∙_, subst}
 use mathlib.Core.Bool.{Bool, true, false}
 use mathlib.Core.List.{List, [], _∷_, _++_}
 use native.Mathlib.Omega.{arith}
-use Prim.Native.Nat.{ℕ, zero, suc, _+_, _-_, _*_, _%_, _≤_, _<_}
+use Prim.Native.Nat.{ℕ, zero, suc, _+_, _-_, _*_, _≤_, _<_}
 use mir.Syntax.{w8}
 use mir.Val.{Fits}
 use lib.Dec.{ltb}
-use lib.ListN.{length, getD, take, drop, set, replicate, length-drop, length-replicate, length-set}
-use lib.Seq.{take-all, getD-set-same, getD-set-other}
+use lib.ListN.{length, getD, take, drop, set, replicate, length-drop, length-replicate, length-set, replicate-append-replicate}
+use lib.Seq.{take-all, take-at, getD-set-other}
 use borrow.Author.Needs.{needs}
 use borrow.Author.Tests.{lt-ltb, le-ltb}
-use Rattle.kit.specs.Pick.{pick}
 use Rattle.kit.specs.Out.{Out, _&_}
+use Rattle.kit.specs.Pick.{pick}
 use Rattle.kit.proofs.Laws.{copies-at}
 use Rattle.rules.specs.Tools.{only}
-use Rattle.rules.specs.Versions.{Setting, version1}
+use Rattle.rules.specs.Versions.{Version, Setting, version1, version2}
 use Rattle.rules.specs.Tree.{Scope, flatten}
 use Rattle.rules.specs.Answer.{hasHeader}
+use Rattle.rules.specs.Laws.RowLaws.{Bytes}
 use Rattle.batching.specs.Batch.{rootOf, insideAnswer, insideOutput}
 use Rattle.refusal.specs.declared.Refusal.{Refusal}
 use Rattle.refusal.specs.Refusals.{untold}
@@ -25,14 +26,13 @@ use Rattle.parts.specs.Apart.{partsAt}
 use Rattle.parts.specs.declared.Parts.{Parts}
 use Rattle.limits.specs.declared.Limits.{Limits}
 use Rattle.limits.specs.Held.{settingIn, limitsOf, setting}
+use Rattle.limits.proofs.Laws as limits
 use Rattle.form.specs.Header.{headerFor, headerTo}
-use Rattle.form.specs.Marked.{endsT}
+use Rattle.form.specs.Marked.{endsTo}
 use Rattle.form.specs.declared.header.Header.{Header}
 use Rattle.form.specs.declared.header.Header.the-variants.{Rows, Wrong, Count}
 use Rattle.reader.specs.Readings.{readTo}
-use Rattle.reader.specs.declared.read.Reading.{Reading}
-use Rattle.reader.specs.declared.read.Reading.the-variants as reading
-use Rattle.names.specs.Table.{Slot, emptySlot, noScope, scopeOf, pastOf, scopeAt}
+use Rattle.names.specs.Table.{Slot, noScope, scopeOf, pastOf, scopeAt}
 use Rattle.index.specs.Indexed.{Holds, Tiled}
 use Rattle.write.specs.State.{Wrote}
 use Rattle.write.specs.declared.alias.State.{State}
@@ -44,192 +44,257 @@ use Rattle.claim_laws.specs.RowParts.{allParts}
 use Rattle.whole_form.specs.Whole.{formOf, refusedT, readT, bodyT}
 use Rattle.whole_form.specs.declared.read.Form.{Form}
 use Rattle.whole_form.specs.declared.read.Form.the-variants.{Whole, Refused as NotWhole}
-use Rattle.whole_form.proofs.Ways.{Headed, header-rows, head-long, head-wrong, head-count, head-rows}
+use Rattle.whole_form.proofs.Ways.{Headed, header-rows, head-wrong, head-count, head-rows}
 use Rattle.prelude_root.specs.Root.{rootT}
 use Rattle.resolver.specs.Meaning.{meaning, ruled}
 use Rattle.resolver.specs.Admit.{isShort, admit, Enough}
-use Rattle.resolver.specs.Run.{seenOf, noSlots, noEnds, fillT}
+use Rattle.resolver.specs.Run.{seenOf, fillT}
 use Rattle.resolver.specs.declared.run.Answer.{Answer}
 use Rattle.resolver.specs.declared.run.Answer.the-variants.{Refused}
 use Rattle.resolver.proofs.Bytes.{all-bytes}
-use Rattle.resolver.proofs.Starts.{served-zero, served-start}
-use Rattle.resolver.proofs.Root.{able-1}
+use Rattle.resolver.proofs.Starts.{served-new}
+use Rattle.resolver.proofs.Root.{under, Able, able-1, able-2}
 use Rattle.resolver.proofs.Admits.{wrong-short, count-short, rows-short, admit-short, admit-read, admit-enough}
-use Rattle.member_laws.specs.Within.{inner, walkInside}
+use Rattle.resolver_with.specs.Areas.{slotsFor}
+use Rattle.resolver_with.proofs.Runs.{few-in}
+use Rattle.member_laws.specs.Within.{inner, oneOpen, walkInside}
 use Rattle.member_laws.specs.RootEntered.{Around, root-entered}
-use Rattle.member_laws.specs.Inside.{Seated, RoomsIn, inside-early, inside-stays, inside-agrees-all}
-use Rattle.inside.specs.Run.{twiceSlots, walkBehind, walkAround, RootIn, Resolves}
+use Rattle.member_laws.specs.Inside.{inside-early, inside-stays, inside-agrees-all}
+use Rattle.inside.specs.Areas.{bothFor, Suits}
+use Rattle.inside.specs.Run.{walkBehind, walkAround, RootIn, Resolves}
+
+-- ---- the settings
+
+-- a scope may be open in each of them
+some-scope : (i : ℕ) → 1 ≤ setting i .version .scopes
+some-scope zero = omega arith
+some-scope (suc zero) = omega arith
+some-scope (suc (suc zero)) = omega arith
+some-scope (suc (suc (suc i))) = omega arith
+
+-- those in force can be taken by the walk, and their names may mean what any field declares
+able-in : (i : ℕ) → i < 2 → Able (setting i) × (setting i .rules .early ≡ false)
+able-in zero h = (able-1, refl)
+able-in (suc zero) h = (able-2, refl)
+able-in (suc (suc i)) h = absurd (omega arith)
+
+-- limits with one scope fewer stand for their setting
+stands : (i : ℕ) → settingIn (limitsOf (inner (setting i))) ≡ inner (setting i)
+unfolding settingIn pick
+stands zero = refl
+stands (suc zero) = refl
+stands (suc (suc zero)) = refl
+stands (suc (suc (suc i))) = refl
 
 -- ---- held
 
-module _ (l : Limits) (e : l ≡ limitsOf (setting 0)) where
+module _ (i : ℕ) (l : Limits) (e : l ≡ limitsOf (setting i)) where
   pub held-less : 1 ≤ l .scopes
-  held-less = rw e (omega arith)
+  held-less = rw e (some-scope i)
 
-  pub held-is : record { version = l .version; header = l .header; wide = l .wide; names = l .names; rows = l .rows; scopes = l .scopes - 1; rules = l .rules } ≡ limitsOf (inner (setting 0))
+  pub held-is : record { version = l .version; header = l .header; wide = l .wide; names = l .names; rows = l .rows; scopes = l .scopes - 1; rules = l .rules } ≡ limitsOf (inner (setting i))
   held-is = rw e
-
-abbrev S : Setting
-S = inner (setting 0)
-
-stands : settingIn (limitsOf S) ≡ S
-unfolding settingIn pick
-stands = refl
-
--- ---- read_rows
-
-module _ (rows : List ℕ) (count : ℕ) (l : Limits) (e : l ≡ limitsOf S) (r : Reading) (q : r ≡ readTo l rows) where
-  pub rows-broken : (row : ℕ) (v : Form) → r ≡ reading.Broken row → v ≡ refusedT 4 (row % 4294967296) → v ≡ readT (readTo (limitsOf S) rows) count
-  unfolding readT
-  rows-broken row v is w = rw (← e, ← q, is) w
-
-  pub rows-deep : (row : ℕ) (v : Form) → r ≡ reading.Deep row → v ≡ refusedT 5 (row % 4294967296) → v ≡ readT (readTo (limitsOf S) rows) count
-  unfolding readT
-  rows-deep row v is w = rw (← e, ← q, is) w
-
-  pub rows-whole : r ≡ reading.Whole → Whole count ≡ readT (readTo (limitsOf S) rows) count
-  unfolding readT
-  rows-whole is = rw (← e, ← q, is)
-
-pub ruleset reads = (rows-broken, rows-deep, rows-whole, needs)
 
 -- ---- admitted_inside
 
 all-behind : (k : ℕ) (l : List ℕ) → take (length l - k) (drop k l) ≡ drop k l
 all-behind k l = take-all (length l - k) (drop k l) (simp length-drop (omega arith))
 
-pub enough : (input : List ℕ) (room : ℕ) (v : Form) → v ≡ formOf (admit S input room) → Enough v S input room
-enough input room v e = admit-enough S input room v e
+pub enough : (i : ℕ) (input : List ℕ) (room : ℕ) (v : Form) → v ≡ formOf (admit (inner (setting i)) input room) → Enough v (inner (setting i)) input room
+enough i input room v e = admit-enough (inner (setting i)) input room v e
 
-module _ (input : List ℕ) (room : ℕ) (l : Limits) (e : l ≡ limitsOf S) (h : Header) (q : h ≡ headerTo l input) where
+module _ (i : ℕ) (input : List ℕ) (room : ℕ) (l : Limits) (e : l ≡ limitsOf (inner (setting i))) (h : Header) (q : h ≡ headerTo l input) where
+  abbrev S : Setting
+  S = inner (setting i)
+
   of-limits : h ≡ headerTo (limitsOf S) input
   of-limits = rw e at q
 
   of-setting : h ≡ headerFor (only (hasHeader S input) S) input
   unfolding headerTo
-  of-setting = rw stands at of-limits
+  of-setting = rw (stands i) at of-limits
+
+  low : limitsOf S .rows ≤ 4294967295
+  low = omega (arith, limits.few-rows i)
 
   pub refuses-wrong : (v : Form) → h ≡ Wrong → v ≡ refusedT 1 0 → v ≡ formOf (admit S input room)
   refuses-wrong v is w =
       let short : false ≡ isShort S input room = unfold isShort in wrong-short S input (hasHeader S input) _ (sym is ∙ of-setting) in
-      (admit-read S input room false short refl v (rw stands at (head-wrong (limitsOf S) input h of-limits (omega arith) v is w)))
+      (admit-read S input room false short refl v (rw (stands i) at (head-wrong (limitsOf S) input h of-limits low v is w)))
 
   pub refuses-count : (v : Form) → h ≡ Count → v ≡ refusedT 2 0 → v ≡ formOf (admit S input room)
   refuses-count v is w =
       let short : false ≡ isShort S input room = unfold isShort in count-short S input (hasHeader S input) _ (sym is ∙ of-setting) in
-      (admit-read S input room false short refl v (rw stands at (head-count (limitsOf S) input h of-limits (omega arith) v is w)))
+      (admit-read S input room false short refl v (rw (stands i) at (head-count (limitsOf S) input h of-limits low v is w)))
 
   module _ (rows : ℕ) (is : h ≡ Rows rows) where
     found : Headed S input rows
     found = header-rows S input rows (sym is ∙ of-setting)
 
-    pub few-rows : rows ≤ 1023
-    few-rows = found .few
+    pub few-rows : rows ≤ 16383
+    few-rows = omega (arith, found .few, limits.few-rows i)
 
-    pub long-enough : 8 ≤ length input
-    long-enough = let n = found .long in omega arith
+    module _ (header : ℕ) (size : header ≡ setting i .version .header) where
+      pub long-enough : header ≤ length input
+      long-enough = let n = found .long in omega arith
 
-    said : ltb room (8 + 64 * rows) ≡ isShort S input room
-    said = rows-short S input room rows found
+      said : ltb room (header + 64 * rows) ≡ isShort S input room
+      said = rw size (rows-short S input room rows found)
 
-    pub refuses-short : (v : Form) → room < 8 + 64 * rows → v ≡ refusedT 3 0 → v ≡ formOf (admit S input room)
-    refuses-short v g w = (w ∙ admit-short S input room (ltb room (8 + 64 * rows)) said (lt-ltb room (8 + 64 * rows) g))
+      pub refuses-short : (v : Form) → room < header + 64 * rows → v ≡ refusedT 3 0 → v ≡ formOf (admit S input room)
+      refuses-short v g w = (w ∙ admit-short S input room (ltb room (header + 64 * rows)) said (lt-ltb room (header + 64 * rows) g))
 
-    pub reads-rows : (v : Form) → 8 + 64 * rows ≤ room → v ≡ readT (readTo (limitsOf S) (take (length input - 8) (drop 8 input))) rows → v ≡ formOf (admit S input room)
-    unfolding bodyT
-    reads-rows v g w =
-        let w′ : v ≡ readT (readTo (limitsOf S) (drop 8 input)) rows = rw (all-behind 8 input) at w in
-        (admit-read S input room (ltb room (8 + 64 * rows)) said (le-ltb room (8 + 64 * rows) g) v (rw stands at (head-rows (limitsOf S) input h of-limits (omega arith) v rows is w′)))
+      pub reads-rows : (v : Form) → header + 64 * rows ≤ room → v ≡ readT (readTo l (take (length input - header) (drop header input))) rows → v ≡ formOf (admit S input room)
+      unfolding bodyT
+      reads-rows v g w =
+          let w′ : v ≡ readT (readTo (limitsOf S) (drop (setting i .version .header) input)) rows = subst (λ (n : ℕ). v ≡ readT (readTo (limitsOf S) (drop n input)) rows) size (rw (all-behind header input, e) at w) in
+          (admit-read S input room (ltb room (header + 64 * rows)) said (le-ltb room (header + 64 * rows) g) v (rw (stands i) at (head-rows (limitsOf S) input h of-limits low v rows is w′)))
 
 pub ruleset admits = (enough, refuses-wrong, refuses-count, few-rows, long-enough, refuses-short, reads-rows, needs)
 
--- ---- walk_inside
+-- ---- walk_behind, walk_inside
 
 pub name-is : (root : List ℕ) (p : Parts) (r : ℕ) → p ≡ partsAt root 0 → r ≡ p .x → r ≡ partsAt root 0 .x
 name-is root p r e q = q ∙ ap (λ (x : Parts). x .x) e
 
--- the tables are empty
-pub names-empty : Holds (replicate 2048 emptySlot) (replicate 3072 0) 0
-names-empty =
-    let l = length-replicate 2048 emptySlot in
-    served-zero (replicate 2048 emptySlot) (replicate 2048 emptySlot) 3072 3072 0 (omega arith) (omega arith) (omega arith) (omega arith) refl .held
+-- the first scope is open, of more than there may be
+front-set : (n m : ℕ) (scope : List ℕ) → 1 ≤ n → n ≤ suc m → take n (set (replicate (suc m) noScope) 0 scope) ≡ set (replicate n noScope) 0 scope
+front-set zero m scope h g = absurd (omega arith)
+front-set (suc n) m scope h g =
+    let apart : m ≡ n + (m - n) = omega arith in
+    ap (λ (l : List (List ℕ)). scope ∷ l)
+    (ap (λ (k : ℕ). take n (replicate k noScope)) apart
+    ∙ (ap (λ (l : List (List ℕ)). take n l) (sym (replicate-append-replicate n (m - n) noScope)) ∙ take-at (replicate n noScope) (replicate (m - n) noScope) n (length-replicate n noScope)))
 
-pub served-inside : (names : List Slot) (chains : List ℕ) (used used′ : ℕ) → Holds names chains used → used′ ≡ used → Served (replicate 1024 emptySlot) (replicate 2048 0) names chains used′
-served-inside names chains used used′ h e = record { free = served-start 0 refl .free; held = rw e h }
-
--- one scope is open
-pub stacked-inside : (name used : ℕ) (scope : List ℕ) (s : State) → scope ≡ scopeOf name 0 used → s ≡ startIn used 1 → Stacked (set (replicate 32 noScope) 0 scope) s
+-- one scope is open, of so many
+stacked : (most name used : ℕ) → 1 ≤ most → Stacked (set (replicate most noScope) 0 (scopeOf name 0 used 0)) (startIn used 1 false)
 unfolding Tiled
-stacked-inside name used scope s q e =
-    rw (q, e) (record { tiled = (refl, omega arith, tt); end = refl; below = below })
+stacked zero name used h = absurd (omega arith)
+stacked (suc most) name used h = record { tiled = (refl, omega arith, tt); end = refl; below = below }
   where
-    below : (k : ℕ) → pastOf (scopeAt (set (replicate 32 noScope) 0 (scopeOf name 0 used)) k) ≤ used
+    below : (k : ℕ) → pastOf (scopeAt (set (replicate (suc most) noScope) 0 (scopeOf name 0 used 0)) k) ≤ used
     below zero = omega arith
-    below (suc k) = rw (getD-set-other (replicate 32 noScope) 0 (suc k) (scopeOf name 0 used) noScope (omega arith), copies-at 32 (suc k) noScope) (omega arith)
+    below (suc k) = rw (getD-set-other (replicate (suc most) noScope) 0 (suc k) (scopeOf name 0 used 0) noScope (omega arith), copies-at (suc most) (suc k) noScope) (omega arith)
 
-pub walk-behind : (rows ends out o : List ℕ) (names e n : List Slot) (a : Walked) (s : State) (name used : ℕ) (scope : List ℕ) → scope ≡ scopeOf name 0 used → s ≡ startIn used 1 → ends ≡ endsT rows (replicate 1024 0)
-    → (a & e & n & o) ≡ scopeT rows ends (32 - s .depth) (replicate 1024 emptySlot) names (set (replicate 32 noScope) 0 scope) out s → a & o ≡ walkInside (setting 0) name used rows noEnds noSlots names out
-unfolding walkInside noSlots noEnds seenOf endsT
-walk-behind rows ends out o names e n a s name used scope q b k w = rw (← k, ← (rw (q, b) at w))
+module _ (i : ℕ) (entered names : List Slot) (known chains ends : List ℕ) (suits : Suits i entered names known chains ends) where
+  -- the tables may hold anything where their indexes start empty
+  pub names-free : (c : List ℕ) → c ≡ replicate (length chains) 0 → Holds names c 0
+  names-free c q =
+      let f = few-in i (suits .served) in
+      let n = suits .names in
+      let k = suits .chains in
+      rw q (served-new (slotsFor (setting i .version)) (omega arith) names names (length chains) (length chains) 0 (omega arith) (omega arith) (omega arith) (omega arith) refl .held)
 
-pub walk-is : (root rows out : List ℕ) (names : List Slot) (w : Wrote) (name used : ℕ) → (used & names) ≡ rootT (replicate 2048 emptySlot) (rowsAt root 0) → name ≡ partsAt root 0 .x → w ≡ walkInside (setting 0) name used rows noEnds noSlots names out → w ≡ walkAround root rows out
-unfolding walkAround walkBehind twiceSlots
-walk-is root rows out names w name used r m q = rw (← r, ← m) q
+  pub served-inside : (k : List ℕ) (used used′ : ℕ) → k ≡ replicate (length known) 0 → Holds names chains used → used′ ≡ used → Served entered k names chains used′
+  served-inside k used used′ q h e =
+      let f = few-in i (suits .served) in
+      let n = suits .entered in
+      let m = suits .known in
+      rw (q, e) (record { free = served-new (slotsFor (setting i .version)) (omega arith) entered entered (length known) (length known) 0 (omega arith) (omega arith) (omega arith) (omega arith) refl .free; held = h })
 
--- ---- resolve_inside
+  pub suits-kept : (n : List Slot) (c : List ℕ) → length n ≡ length names → length c ≡ length chains → Suits i entered n known c ends
+  suits-kept n c p q =
+      record { served = suits .served; entered = suits .entered; names = p ∙ suits .names; known = suits .known; chains = q ∙ suits .chains; ends = suits .ends }
 
-long : length twiceSlots ≡ 2048
-unfolding twiceSlots
-long = length-replicate 2048 emptySlot
+  module _ (l : Limits) (limits : l ≡ limitsOf (setting i)) (most : ℕ) (scopes-are : most ≡ l .scopes) where
+    most-is : most ≡ setting i .version .scopes
+    most-is = scopes-are ∙ ap (λ (x : Limits). x .scopes) limits
 
-long-entered : length noSlots ≡ 1024
-unfolding noSlots
-long-entered = length-replicate 1024 emptySlot
+    pub most-few : most ≤ 64
+    most-few = omega (arith, most-is, able-in i (suits .served) .0 .shallow)
 
-long-ends : length noEnds ≡ 1024
-unfolding noEnds
-long-ends = length-replicate {A = ℕ} 1024 0
+    module _ (name used : ℕ) (scope : List ℕ) (is : scope ≡ scopeOf name 0 used 0) (s : State) (starts : s ≡ startIn used 1 false) where
+      stack-is : take most (set (replicate 64 noScope) 0 scope) ≡ oneOpen (setting i .version .scopes) name used
+      stack-is =
+          front-set most 63 scope (omega (arith, most-is, some-scope i)) most-few ∙ (ap (λ (n : ℕ). set (replicate n noScope) 0 scope) most-is ∙ ap (λ (x : List ℕ). set (replicate (setting i .version .scopes) noScope) 0 x) is)
+
+      pub stacked-inside : Stacked (take most (set (replicate 64 noScope) 0 scope)) s
+      stacked-inside = rw (stack-is, starts) (stacked (setting i .version .scopes) name used (some-scope i))
+
+      pub walk-behind : (rows noted out o : List ℕ) (e n : List Slot) (a : Walked) (by : Limits) → by ≡ limitsOf (setting i) → noted ≡ endsTo (by .scopes) rows ends
+          → (a & e & n & o) ≡ scopeT rows noted (length (take most (set (replicate 64 noScope) 0 scope)) - s .depth) entered names (take most (set (replicate 64 noScope) 0 scope)) out s → a & o ≡ walkInside (setting i) name used rows ends entered names out
+      unfolding walkInside seenOf
+      walk-behind rows noted out o e n a by limits₂ m w =
+          let k : by .scopes ≡ setting i .version .scopes = ap (λ (x : Limits). x .scopes) limits₂ in
+          let d : length (oneOpen (setting i .version .scopes) name used) - 1 ≡ setting i .version .scopes - 1 =
+          ap (λ (n : ℕ). n - 1) (length-set (replicate (setting i .version .scopes) noScope) 0 (scopeOf name 0 used 0) ∙ length-replicate (setting i .version .scopes) noScope) in
+          let w′ : (a & e & n & o) ≡ scopeT rows (endsTo (setting i .version .scopes) rows ends) (setting i .version .scopes - 1) entered names (oneOpen (setting i .version .scopes) name used) out (startIn used 1 false) = rw (stack-is, starts, m, k, d) at w in
+          rw (able-in i (suits .served) .1, ← w′)
+
+pub walk-is : (i : ℕ) (root rows ends out : List ℕ) (entered names names′ : List Slot) (w : Wrote) (name used : ℕ) → (used & names′) ≡ rootT names (rowsAt root 0) → name ≡ partsAt root 0 .x
+    → w ≡ walkInside (setting i) name used rows ends entered names′ out → w ≡ walkAround (setting i) root rows ends entered names out
+unfolding walkAround walkBehind
+walk-is i root rows ends out entered names names′ w name used r m q = rw (← r, ← m) q
+
+-- ---- resolve_around
 
 -- a walk is asked once
-fills-as : (walk walk′ : List ℕ → Wrote) (front : List ℕ) → walk (drop 8 front) ≡ walk′ (drop 8 front) → fillT (setting 0) walk front ≡ fillT (setting 0) walk′ front
+fills-as : (s : Setting) (walk walk′ : List ℕ → Wrote) (front : List ℕ) → walk (drop (s .version .header) front) ≡ walk′ (drop (s .version .header) front) → fillT s walk front ≡ fillT s walk′ front
 unfolding fillT
-fills-as walk walk′ front e = rw e
+fills-as s walk walk′ front e = rw e
 
-module _ (input old : List ℕ) (f : Form) (w : f ≡ formOf (admit S input (length old))) (enough : Enough f S input (length old)) where
-  pub resolves-early : (root : List ℕ) (why : Refusal) → f ≡ NotWhole why → Resolves root input old old (Refused why untold)
-  resolves-early root why e t R = (inside-early version1 (rootOf t) input (length old) why (sym e ∙ w), inside-stays version1 (rootOf t) input (length old) why (sym e ∙ w) old refl)
+-- under any version that the walk is able to take
+module _ (v : Version) (able : Able (under v)) (some-open : 1 ≤ v .scopes) (root input old ends : List ℕ) (entered names : List Slot) (en : length entered ≡ slotsFor v) (nn : length names ≡ bothFor v) (mn : length ends ≡ slotsFor v) where
+  resolves-by : Bytes input → (rows : ℕ) → Whole rows ≡ formOf (admit (inner (under v)) input (length old)) → (a : Answer) (k : List ℕ)
+      → a & k ≡ fillT (under v) (walkAround (under v) root (drop (v .header) input) ends entered names) (take (v .header + 64 * rows) old)
+      → Resolves (under v) root input old (k ++ drop (v .header + 64 * rows) old) a
+  resolves-by all rows whole a k r t R = go (root-entered t names (R .spaces) (omega (arith, nn, able .few)) (omega (arith, nn, R .few)) (omega (arith, R .short, able .few)))
+    where
+      front : List ℕ
+      front = take (v .header + 64 * rows) old
 
-  module _ (rows : ℕ) (e : f ≡ Whole rows) where
-    facts : (8 ≤ length input) × (8 + 64 * rows ≤ length old) × (rows ≤ 1023)
-    facts = rw e at enough
+      go : Around t names (rootT names (allParts (flatten t))) → (meaning a ≡ ruled (insideAnswer (under v) (rootOf t) input (length old))) × (k ++ drop (v .header + 64 * rows) old ≡ insideOutput (under v) (rootOf t) input old)
+      go A =
+          let same : walkAround (under v) root (drop (v .header) input) ends entered names (drop (v .header) front) ≡ walkInside (under v) (partsAt root 0 .x) (A .used) (drop (v .header) input) ends entered (A .names′) (drop (v .header) front) =
+          unfold walkAround walkBehind in rw (R .rows, A .is) in
+          inside-agrees-all v able some-open (rootOf t) (partsAt root 0 .x) (A .used) ends entered (A .names′)
+          (record { name-is = R .name; stands = A .stands; rows = A .rows })
+          (record {
+            ends = omega (arith, mn);
+            entered = omega (arith, en);
+            names = omega (arith, A .size, nn, A .count-is, R .few);
+            entered-narrow = omega (arith, en, able .few);
+            names-narrow = omega (arith, A .size, nn, able .few);
+          })
+          input old all rows whole a k
+          (r ∙ fills-as (under v) (walkAround (under v) root (drop (v .header) input) ends entered names) (walkInside (under v) (partsAt root 0 .x) (A .used) (drop (v .header) input) ends entered (A .names′)) front same)
 
-    pub has-header : 8 ≤ length input
-    has-header = facts .0
+-- under each setting in force
+resolves-in : (i : ℕ) (root input old : List ℕ) (entered names : List Slot) (known chains ends : List ℕ) → Suits i entered names known chains ends → Bytes input → (rows : ℕ)
+    → Whole rows ≡ formOf (admit (inner (setting i)) input (length old)) → (a : Answer) (k : List ℕ)
+    → a & k ≡ fillT (setting i) (walkAround (setting i) root (drop (setting i .version .header) input) ends entered names) (take (setting i .version .header + 64 * rows) old)
+    → Resolves (setting i) root input old (k ++ drop (setting i .version .header + 64 * rows) old) a
+resolves-in zero root input old entered names known chains ends s = resolves-by version1 able-1 (some-scope 0) root input old ends entered names (s .entered) (s .names) (s .ends)
+resolves-in (suc zero) root input old entered names known chains ends s = resolves-by version2 able-2 (some-scope 1) root input old ends entered names (s .entered) (s .names) (s .ends)
+resolves-in (suc (suc i)) root input old entered names known chains ends s = let h = s .served in absurd (omega arith)
 
-    pub has-room : 8 + 64 * rows ≤ length old
-    has-room = facts .1
+early-in : (i : ℕ) → i < 2 → (root input old : List ℕ) (why : Refusal) → NotWhole why ≡ formOf (admit (inner (setting i)) input (length old)) → Resolves (setting i) root input old old (Refused why untold)
+early-in zero h root input old why e t R = (inside-early version1 (rootOf t) input (length old) why e, inside-stays version1 (rootOf t) input (length old) why e old refl)
+early-in (suc zero) h root input old why e t R = (inside-early version2 (rootOf t) input (length old) why e, inside-stays version2 (rootOf t) input (length old) why e old refl)
+early-in (suc (suc i)) h root input old why e t R = absurd (omega arith)
 
-    pub has-few : rows ≤ 1023
-    has-few = facts .2
+module _ (i : ℕ) (input old : List ℕ) (f : Form) (w : f ≡ formOf (admit (inner (setting i)) input (length old))) (entered names : List Slot) (known chains ends : List ℕ) (suits : Suits i entered names known chains ends) where
+  pub resolves-early : (root : List ℕ) (why : Refusal) → f ≡ NotWhole why → Resolves (setting i) root input old old (Refused why untold)
+  resolves-early root why e = early-in i (suits .served) root input old why (sym e ∙ w)
 
-    pub resolves : (root : List ℕ) → ((i : ℕ) → Fits w8 (getD input i 0)) → (a : Answer) (k : List ℕ) → a & k ≡ fillT (setting 0) (walkAround root (take (length input - 8) (drop 8 input))) (take (8 + 64 * rows) old) → Resolves root input old (k ++ drop (8 + 64 * rows) old) a
-    resolves root all a k r t R = go (root-entered t twiceSlots (R .spaces) (omega (arith, long)) (omega (arith, long, R .few)) (omega (arith, R .short)))
-      where
-        r′ : a & k ≡ fillT (setting 0) (walkAround root (drop 8 input)) (take (8 + 64 * rows) old)
-        r′ = rw (all-behind 8 input) at r
+  module _ (fine : Enough f (inner (setting i)) input (length old)) (rows : ℕ) (e : f ≡ Whole rows) where
+    facts : (setting i .version .header ≤ length input) × (setting i .version .header + 64 * rows ≤ length old) × (rows ≤ setting i .version .rows)
+    facts = rw e at fine
 
-        go : Around t twiceSlots (rootT twiceSlots (allParts (flatten t))) → (meaning a ≡ ruled (insideAnswer (setting 0) (rootOf t) input (length old))) × (k ++ drop (8 + 64 * rows) old ≡ insideOutput (setting 0) (rootOf t) input old)
-        go A =
-            let same : walkAround root (drop 8 input) (drop 8 (take (8 + 64 * rows) old)) ≡ walkInside (setting 0) (partsAt root 0 .x) (A .used) (drop 8 input) noEnds noSlots (A .names′) (drop 8 (take (8 + 64 * rows) old)) =
-            unfold walkAround walkBehind in rw (R .rows, A .is) in
-            inside-agrees-all version1 able-1 (omega arith) (rootOf t) (partsAt root 0 .x) (A .used) noEnds noSlots (A .names′)
-            (record { name-is = R .name; stands = A .stands; rows = A .rows })
-            (record {
-              ends = omega (arith, long-ends);
-              entered = omega (arith, long-entered);
-              names = omega (arith, A .size, long, A .count-is, R .few);
-              entered-narrow = omega (arith, long-entered);
-              names-narrow = omega (arith, A .size, long);
-            })
-            input old (all-bytes input all) rows (sym e ∙ w) a k
-            (r′ ∙ fills-as (walkAround root (drop 8 input)) (walkInside (setting 0) (partsAt root 0 .x) (A .used) (drop 8 input) noEnds noSlots (A .names′)) (take (8 + 64 * rows) old) same)
+    pub has-few : rows ≤ 16383
+    has-few = omega (arith, facts .2, limits.few-rows i)
+
+    module _ (header : ℕ) (size : header ≡ setting i .version .header) where
+      pub has-header : header ≤ length input
+      has-header = omega (arith, facts .0)
+
+      pub has-room : header + 64 * rows ≤ length old
+      has-room = omega (arith, facts .1)
+
+      pub resolves : (root : List ℕ) → ((j : ℕ) → Fits w8 (getD input j 0)) → (a : Answer) (k : List ℕ)
+          → a & k ≡ fillT (setting i) (walkAround (setting i) root (take (length input - header) (drop header input)) ends entered names) (take (header + 64 * rows) old)
+          → Resolves (setting i) root input old (k ++ drop (header + 64 * rows) old) a
+      resolves root all a k r =
+          subst (λ (n : ℕ). Resolves (setting i) root input old (k ++ drop (n + 64 * rows) old) a) (sym size)
+          (resolves-in i root input old entered names known chains ends suits (all-bytes input all) rows (sym e ∙ w) a k
+          (subst (λ (n : ℕ). a & k ≡ fillT (setting i) (walkAround (setting i) root (drop n input) ends entered names) (take (n + 64 * rows) old)) size (rw (all-behind header input) at r)))

@@ -1,3 +1,3 @@
-// A form whose root lies inside the root of a resolved form: its run, in version 1.
+// A form whose root lies inside the root of a resolved form: its run, in tables that are lent, and in version 1 in tables of its own.
 pub mod admit;
 pub mod run;

@@ -1,7 +1,10 @@
-// The walk inside a root whose rows are given, and the whole run.
+// The walk inside a root whose rows are given, and the whole run. All but version 1's own tables is said for the setting at any place
+// that is in force.
 use crate::admit::admitted_inside;
-use form::ends::mark_ends;
-use form::header::HEADER;
+use areas::zero_links;
+use form::ends::mark_ends_to;
+use limits::most_scopes;
+use limits::of_input;
 use names::Scope;
 use names::Slot;
 use names::scope_of;
@@ -13,6 +16,7 @@ use refusal::Told;
 use resolver::run::Answer;
 use resolver::run::blank;
 use resolver::run::finish;
+use resolver::run::header_size;
 use walk::walk::scope_walk;
 use walk::walk::starting;
 use whole_form::read::Form;
@@ -22,9 +26,16 @@ ghost use Rattle.kit.specs.Out.{_&_};
 ghost use Rattle.parts.specs.Apart.{partsAt};
 ghost use Rattle.limits.specs.Held.{setting};
 ghost use Rattle.index.specs.Indexed.{Holds};
-ghost use Rattle.resolver.specs.Run.{noSlots, noEnds, fillT};
+ghost use Rattle.resolver.specs.Run.{fillT};
 ghost use Rattle.member_laws.specs.Within.{walkInside};
+ghost use Rattle.inside.specs.Areas.{Suits};
 ghost use Rattle.inside.specs.Run.{walkAround, Resolves};
+
+// A root that stands in the table: its name, and how many of the first slots are its.
+pub struct Seat {
+    pub name: usize,
+    pub used: usize,
+}
 
 // A name as a whole number.
 fn wide(name: u32) -> usize
@@ -41,53 +52,88 @@ fn name_of(root: &[u8]) -> usize
     wide(open.x)
 }
 
-// The walk over the rows of a form inside a root of this name, which has the first slots of the table, so many.
+// The walk over the rows of a form of the setting at place i inside a root that stands in the table.
 fn walk_behind(
     rows: &[u8],
     out: &mut [u8],
+    i: usize,
+    entered: &mut [Slot],
     names: &mut [Slot],
+    known: &mut [u16],
     chains: &mut [u16],
-    name: usize,
-    used: usize,
+    ends: &mut [u32],
+    root: Seat,
 ) -> Walked
-    requires { ⌜ Holds (now names) (now chains) used ⌝ }
-    ensures { λ r. ⌜ (r & now (out .exit)) ≡ walkInside (setting 0) name used (now (rows .entry)) noEnds noSlots (now (names .entry)) (now (out .entry)) ⌝ }
+    requires { ⌜ Suits i (now entered) (now names) (now known) (now chains) (now ends) × Holds (now names) (now chains) (root .used) ⌝ }
+    ensures { λ r. ⌜ (r & now (out .exit)) ≡ walkInside (setting i) (root .name) (root .used) (now (rows .entry)) (now (ends .entry)) (now (entered .entry)) (now (names .entry)) (now (out .entry)) ⌝ }
 {
-    let mut ends = [0u32; 1024];
-    mark_ends(rows, &mut ends);
-    let mut entered: [Slot; 1024] = [[0u32; 6]; 1024];
-    let mut known = [0u16; 2048];
-    let mut scopes: [Scope; 32] = [[0usize; 3]; 32];
-    scopes[0] = scope_of(name, 0, used);
+    mark_ends_to(rows, ends, of_input(i));
+    zero_links(known);
+    let mut scopes: [Scope; 64] = [[0usize; 4]; 64];
+    scopes[0] = scope_of(root.name, 0, root.used, 0);
+    let most = most_scopes(of_input(i));
     scope_walk(
         rows,
-        &ends,
-        &mut entered,
-        &mut known,
+        ends,
+        entered,
+        known,
         names,
         chains,
-        &mut scopes,
+        &mut scopes[..most],
         out,
-        starting(used, 1),
+        starting(root.used, 1, false),
     )
 }
 
-// The walk inside the root whose rows are `root`: its declarations come first in the table, which has room for as many and for
-// the form's.
-fn walk_inside(root: &[u8], rows: &[u8], out: &mut [u8]) -> Walked
-    ensures { λ r. ⌜ (r & now (out .exit)) ≡ walkAround (now (root .entry)) (now (rows .entry)) (now (out .entry)) ⌝ }
+// The walk inside the root whose rows are `root`: its declarations come first in the table of names, which has room for as many and
+// for the form's. The tables may hold anything: their indexes start empty.
+fn walk_inside(
+    root: &[u8],
+    rows: &[u8],
+    out: &mut [u8],
+    i: usize,
+    entered: &mut [Slot],
+    names: &mut [Slot],
+    known: &mut [u16],
+    chains: &mut [u16],
+    ends: &mut [u32],
+) -> Walked
+    requires { ⌜ Suits i (now entered) (now names) (now known) (now chains) (now ends) ⌝ }
+    ensures { λ r. ⌜ (r & now (out .exit)) ≡ walkAround (setting i) (now (root .entry)) (now (rows .entry)) (now (ends .entry)) (now (entered .entry)) (now (names .entry)) (now (out .entry)) ⌝ }
 {
-    let mut names: [Slot; 2048] = [[0u32; 6]; 2048];
-    let mut chains = [0u16; 3072];
-    let used = enter_root(root, &mut names, &mut chains);
-    walk_behind(rows, out, &mut names, &mut chains, name_of(root), used)
+    zero_links(chains);
+    let used = enter_root(root, names, chains);
+    let name = name_of(root);
+    walk_behind(
+        rows,
+        out,
+        i,
+        entered,
+        names,
+        known,
+        chains,
+        ends,
+        Seat { name, used },
+    )
 }
 
 // Fills the form's share of the output.
-fn fill_inside(root: &[u8], rows: &[u8], front: &mut [u8]) -> Answer
-    ensures { λ r. ⌜ (r & now (front .exit)) ≡ fillT (setting 0) (walkAround (now (root .entry)) (now (rows .entry))) (now (front .entry)) ⌝ }
+fn fill_inside(
+    root: &[u8],
+    rows: &[u8],
+    front: &mut [u8],
+    i: usize,
+    entered: &mut [Slot],
+    names: &mut [Slot],
+    known: &mut [u16],
+    chains: &mut [u16],
+    ends: &mut [u32],
+) -> Answer
+    requires { ⌜ Suits i (now entered) (now names) (now known) (now chains) (now ends) ⌝ }
+    ensures { λ r. ⌜ (r & now (front .exit)) ≡ fillT (setting i) (walkAround (setting i) (now (root .entry)) (now (rows .entry)) (now (ends .entry)) (now (entered .entry)) (now (names .entry))) (now (front .entry)) ⌝ }
 {
-    if front.len() < HEADER {
+    let header = header_size(i);
+    if front.len() < header {
         return Answer::Refused(
             Refusal {
                 number: ROOM,
@@ -96,21 +142,75 @@ fn fill_inside(root: &[u8], rows: &[u8], front: &mut [u8]) -> Answer
             Told { space: 0, first: 0 },
         );
     }
-    match walk_inside(root, rows, &mut front[HEADER..]) {
+    match walk_inside(
+        root,
+        rows,
+        &mut front[header..],
+        i,
+        entered,
+        names,
+        known,
+        chains,
+        ends,
+    ) {
         Walked::Refused(refusal, told) => blank(front, refusal, told),
-        Walked::Done(s) => finish(front, 0, s.to),
+        Walked::Done(s) => finish(front, i, s.to),
     }
 }
 
-// Resolves a form inside the root of a resolved form, whose rows are `root`.
-pub fn resolve_inside(root: &[u8], form: &[u8], out: &mut [u8]) -> Answer
-    ensures { λ r. ⌜ Resolves (now (root .entry)) (now (form .entry)) (now (out .entry)) (now (out .exit)) r ⌝ }
+// Resolves a form of the setting at place i inside the root of a resolved form, whose rows are `root`, in tables that are lent.
+pub fn resolve_around(
+    root: &[u8],
+    form: &[u8],
+    out: &mut [u8],
+    i: usize,
+    entered: &mut [Slot],
+    names: &mut [Slot],
+    known: &mut [u16],
+    chains: &mut [u16],
+    ends: &mut [u32],
+) -> Answer
+    requires { ⌜ Suits i (now entered) (now names) (now known) (now chains) (now ends) ⌝ }
+    ensures { λ r. ⌜ Resolves (setting i) (now (root .entry)) (now (form .entry)) (now (out .entry)) (now (out .exit)) r ⌝ }
 {
-    match admitted_inside(form, out.len()) {
+    match admitted_inside(form, i, out.len()) {
         Form::Refused(why) => Answer::Refused(why, Told { space: 0, first: 0 }),
         Form::Whole(rows) => {
-            let size = HEADER + 64 * rows;
-            fill_inside(root, &form[HEADER..], &mut out[..size])
+            let header = header_size(i);
+            let size = header + 64 * rows;
+            fill_inside(
+                root,
+                &form[header..],
+                &mut out[..size],
+                i,
+                entered,
+                names,
+                known,
+                chains,
+                ends,
+            )
         }
     }
+}
+
+// The same in version 1, in tables that start empty.
+pub fn resolve_inside(root: &[u8], form: &[u8], out: &mut [u8]) -> Answer
+    ensures { λ r. ⌜ Resolves (setting 0) (now (root .entry)) (now (form .entry)) (now (out .entry)) (now (out .exit)) r ⌝ }
+{
+    let mut entered: [Slot; 1024] = [[0u32; 6]; 1024];
+    let mut names: [Slot; 2048] = [[0u32; 6]; 2048];
+    let mut known = [0u16; 2048];
+    let mut chains = [0u16; 3072];
+    let mut ends = [0u32; 1024];
+    resolve_around(
+        root,
+        form,
+        out,
+        0,
+        &mut entered,
+        &mut names,
+        &mut known,
+        &mut chains,
+        &mut ends,
+    )
 }

@@ -4,11 +4,11 @@ use mathlib.Core.Bool.{Bool, true, false}
 use mathlib.Core.Option.{Option, none, some}
 use mathlib.Core.List.{List, [], _∷_, _++_, append-assoc}
 use native.Mathlib.Omega.{arith}
-use Prim.Native.Nat.{ℕ, _+_, _*_, _/_, _≤_}
+use Prim.Native.Nat.{ℕ, zero, suc, _+_, _*_, _/_, _≤_, _<_}
 use lib.ListN.{length, take, drop}
 use lib.Seq.{take-at, drop-at}
 use Rattle.rules.specs.Tools.{only, _orElse_}
-use Rattle.rules.specs.Versions.{Setting, base, version1, today, asClaimed}
+use Rattle.rules.specs.Versions.{Version, Setting, version1, version2, today, asClaimed}
 use Rattle.rules.specs.Rows.{Row, Open, encode}
 use Rattle.rules.specs.Tree.{Scope, scope, flatten}
 use Rattle.rules.specs.Good.{GoodScope}
@@ -16,7 +16,7 @@ use Rattle.rules.specs.Readings.{fieldsOf}
 use Rattle.rules.specs.Answer as rules
 use Rattle.rules.specs.Answer.{AnswerOf, refused, accepted, mapAnswer, hasHeader, settingOf, rowCount, answer, answerInside, formIn, formBytes, rowsBytes, headerBytes, outputAfter, written, output, outputInside}
 use Rattle.rules.specs.Laws.RowLaws.{Bytes}
-use Rattle.rules.specs.Laws.Demand3.{base-usual, Accepted, readings}
+use Rattle.rules.specs.Laws.Demand3.{Accepted, readings}
 use Rattle.rules.specs.Laws.Output.OutBytes.{header-length}
 use Rattle.read_form.specs.ReadForm.{readForm}
 use Rattle.read_form.specs.Laws.ReadFormLaws.{read-exactly, ours-read}
@@ -31,6 +31,7 @@ use Rattle.claim_laws.specs.RowParts as row-parts
 use Rattle.claim_laws.specs.OnBytes.{rows-are, rows-stand}
 use Rattle.agree.specs.Spaces.{Spaces}
 use Rattle.agree.specs.GoodSpaces.{good-spaces}
+use Rattle.resolver.proofs.Root.{under, Able, able-1, able-2}
 use Rattle.resolver.proofs.Admits.{output-one}
 use Rattle.inside.specs.Run.{RootIn}
 
@@ -50,77 +51,101 @@ prelude-answer settings prelude room = go (settingOf settings prelude)
 
 -- ---- one that is accepted
 
--- there is one setting in force
-only-base : (input : List ℕ) (v : Setting) → settingOf base input ≡ some v → v ≡ setting 0
-unfolding settingOf only _orElse_
-only-base input v e = go (hasHeader (setting 0) input) e
-  where
-    go : (b : Bool) → (only b (setting 0) orElse none) ≡ some v → v ≡ setting 0
-    go true q = cc
-    go false q = let z : _≡_ {A = ℕ} 0 1 = cc in absurd (omega arith)
+-- a setting in force: a version that the code is able to take, with rule set 0
+pub record InForce (s : Setting) : Type 0 where
+  pub version : Version
+  pub is : s ≡ under version
+  pub able : Able (under version)
+
+pub first-in-force : InForce (setting 0)
+first-in-force = record { version = version1; is = refl; able = able-1 }
+
+pub in-force : (i : ℕ) → i < 2 → InForce (setting i)
+in-force zero h = first-in-force
+in-force (suc zero) h = record { version = version2; is = refl; able = able-2 }
+in-force (suc (suc i)) h = absurd (omega arith)
 
 -- its tree, and the rows of its output
-pub record Resolved (input old : List ℕ) (rows : ℕ) : Type 0 where
+pub record Resolved (s : Setting) (input old : List ℕ) (rows : ℕ) : Type 0 where
   pub tree : Scope
-  pub is : preludeOf base input (length old) ≡ accepted (record { setting = setting 0; resolved = tree })
+  pub is : preludeOf (s ∷ []) input (length old) ≡ accepted (record { setting = s; resolved = tree })
   pub count-is : rows ≡ length (flatten tree)
-  pub root : RootIn tree (take (16 * rows) (drop 8 (output base input old)))
+  pub root : RootIn (s .version) tree (take (16 * rows) (drop (s .version .header) (output (s ∷ []) input old)))
 
--- the bytes behind the header, so many rows
-body-of : (rs : List Row) (size : ℕ) (old : List ℕ) → take (16 * length rs) (drop 8 (written size (formBytes (setting 0) rs) old)) ≡ drop 8 (formBytes (setting 0) rs)
-unfolding written formBytes
-body-of rs size old =
-    let h : length (headerBytes (setting 0) (length rs)) ≡ 8 = header-length (setting 0) (length rs) [] (omega arith) in
-    let r : length (rowsBytes rs) ≡ 16 * length rs = rows-length rs in
-    rw (
-      append-assoc (headerBytes (setting 0) (length rs)) (rowsBytes rs) _,
-      drop-at (headerBytes (setting 0) (length rs)) (rowsBytes rs ++ _) 8 h,
-      take-at (rowsBytes rs) _ (16 * length rs) r,
-      drop-at (headerBytes (setting 0) (length rs)) (rowsBytes rs) 8 h,
-    )
+module _ (v : Version) (able : Able (under v)) where
+  abbrev s : Setting
+  s = under v
 
-module _ (t : Scope) (l : List ℕ) (e : readForm (asClaimed (setting 0)) l ≡ accepted t) where
-  tree-spaces : Spaces (fieldsOf t)
-  tree-spaces = go t (read-exactly (asClaimed (setting 0)) l t .0 e .is-form .good)
+  -- there is no other setting
+  only-one : (input : List ℕ) (x : Setting) → settingOf (s ∷ []) input ≡ some x → x ≡ s
+  unfolding settingOf only _orElse_
+  only-one input x e = go (hasHeader s input) e
     where
-      go : (s : Scope) → GoodScope today s → Spaces (fieldsOf s)
-      go (scope kind name fs) g = good-spaces fs kind g
+      go : (b : Bool) → (only b s orElse none) ≡ some x → x ≡ s
+      go true q = cc
+      go false q = let z : _≡_ {A = ℕ} 0 1 = cc in absurd (omega arith)
 
-  tree-name : partsAt (drop 8 l) 0 .x ≡ rootOf t .name
-  tree-name = go t (rows-stand (asClaimed (setting 0)) l t e)
-    where
-      go : (s : Scope) → row-parts.Stands (partsAt (drop 8 l)) 0 (flatten s) → partsAt (drop 8 l) 0 .x ≡ rootOf s .name
-      go (scope kind name fs) h = unfold flatten row-parts.asParts encode rootOf in ap (λ (p : Parts). p .x) (h .0)
+  -- the bytes behind the header, so many rows
+  body-of : (rs : List Row) (size : ℕ) (old : List ℕ) → take (16 * length rs) (drop (v .header) (written size (formBytes s rs) old)) ≡ drop (v .header) (formBytes s rs)
+  unfolding written formBytes
+  body-of rs size old =
+      let h : length (headerBytes s (length rs)) ≡ v .header = header-length s (length rs) [] (able .usual .header) in
+      let r : length (rowsBytes rs) ≡ 16 * length rs = rows-length rs in
+      rw (
+        append-assoc (headerBytes s (length rs)) (rowsBytes rs) _,
+        drop-at (headerBytes s (length rs)) (rowsBytes rs ++ _) (v .header) h,
+        take-at (rowsBytes rs) _ (16 * length rs) r,
+        drop-at (headerBytes s (length rs)) (rowsBytes rs) (v .header) h,
+      )
 
-resolved-as : (input old : List ℕ) (rs : List Row) → Bytes input → (a : Accepted base input old rs) → answer base input (length old) ≡ accepted rs → a .setting ≡ setting 0 → Resolved input old (length rs)
-unfolding preludeIn mapAnswer outputAfter
-resolved-as input old rs bs a e s =
-    let f : formIn [] (setting 0) input (length old) ≡ accepted (a .after) = subst (λ (v : Setting). formIn [] v input (length old) ≡ accepted (a .after)) s (a .forms) in
-    let asks : settingOf base input ≡ some (setting 0) = a .asked-for ∙ ap some s in
-    let claim : readForm (asClaimed (setting 0)) (formBytes (setting 0) rs) ≡ accepted (a .after) = subst (λ (v : Setting). readForm (asClaimed v) (formBytes v rs) ≡ accepted (a .after)) s (ours-read base input old rs a) in
-    let size = setting 0 .version .header + 64 * rowCount (setting 0 .version) input in
-    let left : output base input old ≡ written size (formBytes (setting 0) rs) old = output-one (setting 0) input old ∙ rw e in
-    let bytes : take (16 * length rs) (drop 8 (output base input old)) ≡ drop 8 (formBytes (setting 0) rs) =
-    ap (λ (o : List ℕ). take (16 * length rs) (drop 8 o)) left ∙ body-of rs size old in
-    let few = few-declared (a .setting .rules) (a .before) (a .after, a .next) (a .low) (a .resolves) in
-    let rows-few : length (flatten (a .before)) ≤ 1023 = subst (λ (v : Setting). length (flatten (a .before)) ≤ v .version .rows) s (a .few) in
-    let four : length rs ≤ 4 * 1023 = subst (λ (v : Setting). rowCount (v .version) input ≤ v .version .rows → length rs ≤ 4 * rowCount (v .version) input → length rs ≤ 4 * 1023) (sym s) (λ p q. omega arith) (a .counted) (a .four) in
-    let same : length (flatten (a .after)) ≡ length rs = ap length (a .of-tree) in
-    record {
-      tree = a .after;
-      is = rw (asks, f);
-      count-is = sym same;
-      root = subst (RootIn (a .after)) (sym bytes)
-          (record {
-            rows = rows-are (asClaimed (setting 0)) (formBytes (setting 0) rs) (a .after) claim;
-            name = tree-name (a .after) (formBytes (setting 0) rs) claim;
-            spaces = tree-spaces (a .after) (formBytes (setting 0) rs) claim;
-            few = omega arith;
-            short = omega arith;
-          });
-    }
+  module _ (t : Scope) (l : List ℕ) (e : readForm (asClaimed s) l ≡ accepted t) where
+    tree-spaces : Spaces (fieldsOf t)
+    tree-spaces = go t (read-exactly (asClaimed s) l t .0 e .is-form .good)
+      where
+        go : (x : Scope) → GoodScope today x → Spaces (fieldsOf x)
+        go (scope kind name fs) g = good-spaces today fs kind (omega arith) g
 
-pub prelude-resolved : (input old : List ℕ) (rs : List Row) → Bytes input → answer base input (length old) ≡ accepted rs → Resolved input old (length rs)
-prelude-resolved input old rs bs e =
-    let a = readings base base-usual input old bs rs e in
-    resolved-as input old rs bs a e (only-base input (a .setting) (a .asked-for))
+    tree-name : partsAt (drop (v .header) l) 0 .x ≡ rootOf t .name
+    tree-name = go t (rows-stand (asClaimed s) l t e)
+      where
+        go : (x : Scope) → row-parts.Stands (partsAt (drop (v .header) l)) 0 (flatten x) → partsAt (drop (v .header) l) 0 .x ≡ rootOf x .name
+        go (scope kind name fs) h = unfold flatten row-parts.asParts encode rootOf in ap (λ (p : Parts). p .x) (h .0)
+
+  resolved-as : (input old : List ℕ) (rs : List Row) → Bytes input → (a : Accepted (s ∷ []) input old rs) → answer (s ∷ []) input (length old) ≡ accepted rs → a .setting ≡ s → Resolved s input old (length rs)
+  unfolding preludeIn mapAnswer outputAfter
+  resolved-as input old rs bs a e is =
+      let f : formIn [] s input (length old) ≡ accepted (a .after) = subst (λ (x : Setting). formIn [] x input (length old) ≡ accepted (a .after)) is (a .forms) in
+      let asks : settingOf (s ∷ []) input ≡ some s = a .asked-for ∙ ap some is in
+      let claim : readForm (asClaimed s) (formBytes s rs) ≡ accepted (a .after) = subst (λ (x : Setting). readForm (asClaimed x) (formBytes x rs) ≡ accepted (a .after)) is (ours-read (s ∷ []) input old rs a) in
+      let size = v .header + 64 * rowCount v input in
+      let left : output (s ∷ []) input old ≡ written size (formBytes s rs) old = output-one s input old ∙ rw e in
+      let bytes : take (16 * length rs) (drop (v .header) (output (s ∷ []) input old)) ≡ drop (v .header) (formBytes s rs) =
+      ap (λ (o : List ℕ). take (16 * length rs) (drop (v .header) o)) left ∙ body-of rs size old in
+      let few = few-declared (a .setting .rules) (a .before) (a .after, a .next) (a .low) (a .resolves) in
+      let rows-few : length (flatten (a .before)) ≤ v .rows = subst (λ (x : Setting). length (flatten (a .before)) ≤ x .version .rows) is (a .few) in
+      let counted : rowCount v input ≤ v .rows = subst (λ (x : Setting). rowCount (x .version) input ≤ x .version .rows) is (a .counted) in
+      let four : length rs ≤ 4 * rowCount v input = subst (λ (x : Setting). length rs ≤ 4 * rowCount (x .version) input) is (a .four) in
+      let same : length (flatten (a .after)) ≡ length rs = ap length (a .of-tree) in
+      record {
+        tree = a .after;
+        is = rw (asks, f);
+        count-is = sym same;
+        root = subst (RootIn v (a .after)) (sym bytes)
+            (record {
+              rows = rows-are (asClaimed s) (formBytes s rs) (a .after) claim;
+              name = tree-name (a .after) (formBytes s rs) claim;
+              spaces = tree-spaces (a .after) (formBytes s rs) claim;
+              few = omega arith;
+              short = omega arith;
+            });
+      }
+
+  resolved-under : (input old : List ℕ) (rs : List Row) → Bytes input → answer (s ∷ []) input (length old) ≡ accepted rs → Resolved s input old (length rs)
+  resolved-under input old rs bs e =
+      let a = readings (s ∷ []) (able .usual, tt) input old bs rs e in
+      resolved-as input old rs bs a e (only-one input (a .setting) (a .asked-for))
+
+pub prelude-resolved : (s : Setting) → InForce s → (input old : List ℕ) (rs : List Row) → Bytes input → answer (s ∷ []) input (length old) ≡ accepted rs → Resolved s input old (length rs)
+prelude-resolved s force input old rs bs e =
+    subst (λ (x : Setting). Resolved x input old (length rs)) (sym (force .is))
+    (resolved-under (force .version) (force .able) input old rs bs (subst (λ (x : Setting). answer (x ∷ []) input (length old) ≡ accepted rs) (force .is) e))

@@ -1,9 +1,9 @@
 // One member of a batch by itself, inside the root of its resolved prelude, in version 1. It is given the prelude and the member and nothing
 // of another member.
-use form::header::HEADER;
 use inside::run::resolve_inside;
 use refusal::Refusal;
 use resolver::run::Answer;
+use resolver::run::header_size;
 use resolver::run::resolve;
 use stores::zero_from;
 ghost use mathlib.Core.Path.{_≡_};
@@ -12,6 +12,7 @@ ghost use lib.Dec.{ltb};
 ghost use lib.ListN.{length, take, drop};
 ghost use Rattle.kit.specs.Pick.{pick};
 ghost use Rattle.rules.specs.Versions.{base};
+ghost use Rattle.limits.specs.Held.{setting};
 ghost use Rattle.batching.specs.Batch.{memberAnswer, memberOutput};
 ghost use Rattle.batching.specs.BatchCalls.{roomWith, cleared};
 ghost use Rattle.resolver.specs.Meaning.{numbers, meaning, ruled};
@@ -29,12 +30,13 @@ fn least(a: usize, b: usize) -> usize
     if a < b { a } else { b }
 }
 
-// The rows of the form at the front of these bytes, which says that it has so many.
-pub fn rows_of(form: &[u8], count: u32) -> &[u8]
-    ensures { λ r. ⌜ now r ≡ take (16 * count) (drop 8 (now (form .entry))) ⌝ }
+// The rows of the form of the setting at place i at the front of these bytes, which says that it has so many.
+pub fn rows_of(form: &[u8], i: usize, count: u32) -> &[u8]
+    ensures { λ r. ⌜ now r ≡ take (16 * count) (drop (setting i .version .header) (now (form .entry))) ⌝ }
 {
-    let to = least(HEADER + 16 * (count as usize), form.len());
-    let from = least(HEADER, to);
+    let header = header_size(i);
+    let to = least(header + 16 * (count as usize), form.len());
+    let from = least(header, to);
     &form[from..to]
 }
 
@@ -54,15 +56,8 @@ pub fn said(answer: Answer) -> Refusal
     }
 }
 
-// An answer as one number: a refusal's number times 2^32 plus its place, or the number of rows.
-pub fn packed(said: Refusal) -> u64
-    ensures { λ r. ⌜ r ≡ said .number * 4294967296 + said .place ⌝ }
-{
-    (said.number as u64) * 4294967296 + (said.place as u64)
-}
-
 // A prelude's refusal, told from the member's own.
-fn of_prelude(why: Refusal) -> Refusal
+pub fn of_prelude(why: Refusal) -> Refusal
     requires { ⌜ why .number ≤ 13 ⌝ }
     ensures { λ r. ⌜ r ≡ record { number = 200 + why .number; place = why .place } ⌝ }
 {
@@ -80,7 +75,7 @@ fn resolve_member(prelude: &[u8], member: &[u8], out: &mut [u8], area: &mut [u8]
     if of.number != 0 {
         return of_prelude(of);
     }
-    said(resolve_inside(rows_of(area, of.place), member, out))
+    said(resolve_inside(rows_of(area, 0, of.place), member, out))
 }
 
 // The room of a working area: none where it is below its size.
@@ -91,11 +86,11 @@ fn room_in(area: usize) -> usize
 }
 
 // Zeroes a working area up to its size.
-fn clear(work: &mut [u8])
-    ensures { λ _. ⌜ now (work .exit) ≡ cleared 0 65480 (now (work .entry)) ⌝ }
+pub fn clear(work: &mut [u8], size: usize)
+    ensures { λ _. ⌜ now (work .exit) ≡ cleared 0 size (now (work .entry)) ⌝ }
 {
-    let size = least(AREA, work.len());
-    zero_from(&mut work[..size], 0);
+    let front = least(size, work.len());
+    zero_from(&mut work[..front], 0);
 }
 
 // Resolves a member as if its root lay inside the resolved prelude's root: number and place of the refusal, or 0 and the number of
@@ -107,6 +102,6 @@ pub fn member(prelude: &[u8], member: &[u8], out: &mut [u8], work: &mut [u8]) ->
 {
     let room = room_in(work.len());
     let answer = resolve_member(prelude, member, out, &mut work[..room]);
-    clear(work);
+    clear(work, AREA);
     answer
 }

@@ -1,6 +1,6 @@
 -- A member inside a root that stands in the table: what the walk leaves of it, and what is answered, are what the rules say.
 use mathlib.Core.Path.{_≡_, refl, sym, ap, _∙_, subst}
-use mathlib.Core.Bool.{true}
+use mathlib.Core.Bool.{true, false}
 use mathlib.Core.List.{List, [], _∷_, _++_, map}
 use native.Mathlib.Omega.{arith}
 use Prim.Native.Nat.{ℕ, _+_, _-_, _*_, _/_, _≤_}
@@ -17,6 +17,7 @@ use Rattle.rules.specs.Begins.{IsForm}
 use Rattle.rules.specs.Rules.{Env, tableOf, Result, ok, resolveInside}
 use Rattle.rules.specs.Answer as rules
 use Rattle.rules.specs.Answer.{accepted, mapAnswer, rowCount, rowsOf, resolved, answerInside, outputAfter, outputInside}
+use Rattle.rules.specs.Laws.ToolLaws.{false-not}
 use Rattle.rules.specs.Laws.RowLaws.{Bytes, bytes-drop}
 use Rattle.rules.specs.Laws.Reading.ReadRight.{reads-form}
 use Rattle.rules.specs.Laws.Meaning.Names.{low-scope}
@@ -63,7 +64,7 @@ pub record RoomsIn (v : Version) (used : ℕ) (es : List ℕ) (en ns : List Slot
 
 -- ---- the walk
 
-module _ (v : Version) (able : Able v) (some-scope : 1 ≤ v .scopes) (root : Env) (name used : ℕ) (ends : List ℕ) (entered names : List Slot) (seated : Seated root names name used) (rooms : RoomsIn v used ends entered names) where
+module _ (v : Version) (able : Able (under v)) (some-scope : 1 ≤ v .scopes) (root : Env) (name used : ℕ) (ends : List ℕ) (entered names : List Slot) (seated : Seated root names name used) (rooms : RoomsIn v used ends entered names) where
   sizes : Sizes
   sizes = record { entered = length entered; names = length names; scopes = v .scopes }
 
@@ -87,7 +88,7 @@ module _ (v : Version) (able : Able v) (some-scope : 1 ≤ v .scopes) (root : En
         go : (s : Scope) → Ends (fieldsOf s) (endsTo (v .scopes) rows ends) 1 → EndsIn s (endsTo (v .scopes) rows ends) 0
         go (scope kind name fs) h = h
 
-    begun : Begun sizes entered names scopes used 1 (root ∷ []) t
+    begun : Begun sizes entered names scopes used 1 false (root ∷ []) t
     unfolding sizes Envs Below
     begun =
         let at = at-form topName rows all (omega arith) (flatten t) (sym (f .of-tree)) in
@@ -97,14 +98,15 @@ module _ (v : Version) (able : Able v) (some-scope : 1 ≤ v .scopes) (root : En
         record {
           room = refl;
           size = refl;
-          depths = length-set (replicate (v .scopes) noScope) 0 (scopeOf name 0 used) ∙ long;
+          depths = length-set (replicate (v .scopes) noScope) 0 (scopeOf name 0 used 0) ∙ long;
           envs = subst (λ (x : ℕ). Envs names scopes 1 (record { name = x; entries = root .entries; before = root .before } ∷ [])) n
-              (envs-push (replicate (v .scopes) noScope) 0 name 0 used (omega arith) names (root .entries) (root .before) [] (omega arith) (omega (arith, rooms .names)) (seated .stands) (seated .rows) tt);
-          below = below-push (replicate (v .scopes) noScope) 0 name 0 used (omega arith) used (omega arith) tt;
+              (envs-push (replicate (v .scopes) noScope) 0 name 0 used 0 (omega arith) names (root .entries) (root .before) [] (omega arith) (omega (arith, rooms .names)) (seated .stands) (seated .rows) tt);
+          below = below-push (replicate (v .scopes) noScope) 0 name 0 used 0 (omega arith) used (omega arith) tt;
           deep = omega arith;
           slots = omega (arith, rooms .names);
           numbers = omega (arith, able .few);
           fresh = refl;
+          earlier = λ e. false-not e;
         }
 
     pub inside-walks : (out : List ℕ) → 64 * (length rows / 16) ≤ length out → Walks (resolveInside today (root ∷ []) t) out (walkInside (under v) name used rows ends entered names out)
@@ -113,7 +115,7 @@ module _ (v : Version) (able : Able v) (some-scope : 1 ≤ v .scopes) (root : En
         let at = at-form topName rows all (omega arith) (flatten t) (sym (f .of-tree)) in
         let count = at .1 in
         seen (resolveInside today (root ∷ []) t) out _
-        (inside-agrees sizes rows (endsTo (v .scopes) rows ends) t fits (at .0) ends-in (f .good) (low-scope t (read-low today (v .scopes) topName (length rows / 16) rows t (omega arith) (reads-form today (v .scopes) (rowsOf topName (length rows / 16) rows) t f (omega arith))))
+        (inside-agrees today (able .heap) sizes rows (endsTo (v .scopes) rows ends) t fits (at .0) ends-in (f .good) (low-scope t (read-low today (v .scopes) topName (length rows / 16) rows t (omega arith) (reads-form today (v .scopes) (rowsOf topName (length rows / 16) rows) t f (omega arith)))) (λ e. false-not e)
         (root ∷ []) (v .scopes - 1) used 1 entered names scopes low begun out (omega arith))
 
 -- ---- the answer
@@ -140,10 +142,10 @@ module _ (v : Version) (root : Env) (input : List ℕ) (room : ℕ) (why : Refus
 abbrev fewer : Version → Version
 fewer v = record { number = v .number; header = v .header; counting = v .counting; names = v .names; rows = v .rows; scopes = v .scopes - 1 }
 
-able-fewer : (v : Version) → Able v → Able (fewer v)
+able-fewer : (v : Version) → Able (under v) → Able (under (fewer v))
 able-fewer v a =
     let u = a .usual in
-    record { usual = record { low = u .low; heap = u .heap; header = u .header; countable = u .countable; few = u .few }; top = a .top; few = a .few; shallow = omega (arith, a .shallow) }
+    record { usual = record { low = u .low; heap = u .heap; header = u .header; countable = u .countable; few = u .few }; heap = a .heap; top = a .top; few = a .few; shallow = omega (arith, a .shallow) }
 
 -- the header that is put does not tell how many scopes may be open
 fills-alike : (v : Version) (walk : List ℕ → _) (front : List ℕ) → fillT (under v) walk front ≡ fillT (under (fewer v)) walk front
@@ -155,7 +157,7 @@ unfolding outputAfter rowCount rules.formBytes rules.headerBytes rules.mark
 leaves-alike v (rules.refused number place carried) input old = refl
 leaves-alike v (accepted rows) input old = refl
 
-module _ (v : Version) (able : Able v) (some-scope : 1 ≤ v .scopes) (root : Env) (name used : ℕ) (ends : List ℕ) (entered names : List Slot) (seated : Seated root names name used) (rooms : RoomsIn v used ends entered names)
+module _ (v : Version) (able : Able (under v)) (some-scope : 1 ≤ v .scopes) (root : Env) (name used : ℕ) (ends : List ℕ) (entered names : List Slot) (seated : Seated root names name used) (rooms : RoomsIn v used ends entered names)
     (input old : List ℕ) (all : Bytes input) (rows : ℕ) (whole : Whole rows ≡ formOf (admit (leftIn (root ∷ []) (under v)) input (length old))) where
   tree : (t : Scope) × (admit (under (fewer v)) input (length old) ≡ accepted t) × (rows ≡ length (flatten t))
   tree = whole-is (admit (under (fewer v)) input (length old)) rows whole
@@ -168,8 +170,8 @@ module _ (v : Version) (able : Able v) (some-scope : 1 ≤ v .scopes) (root : En
 
   walked : (out : List ℕ) → 64 * rowCount (fewer v) input ≤ length out → Walks (resolveInside today (root ∷ []) (tree .0)) out (walkInside (under v) name used (drop (v .header) input) ends entered names out)
   walked out room =
-      let b = body-rows (fewer v) (able-fewer v able) input old (tree .0) fine in
-      inside-walks v able some-scope root name used ends entered names seated rooms (drop (v .header) input) (bytes-drop (v .header) input all) (omega (arith, fine .few)) (tree .0) (body-form (fewer v) (able-fewer v able) input old (tree .0) fine) (fine .low) out (omega arith)
+      let b = body-rows (under (fewer v)) (able-fewer v able) input old (tree .0) fine in
+      inside-walks v able some-scope root name used ends entered names seated rooms (drop (v .header) input) (bytes-drop (v .header) input all) (omega (arith, fine .few)) (tree .0) (body-form (under (fewer v)) (able-fewer v able) input old (tree .0) fine) (fine .low) out (omega arith)
 
   abbrev share : ℕ
   share = v .header + 64 * rowCount (fewer v) input
@@ -180,8 +182,8 @@ module _ (v : Version) (able : Able v) (some-scope : 1 ≤ v .scopes) (root : En
   counted a k e =
       let x = mapAnswer flatten (resolved (resolveInside today (root ∷ []) (tree .0))) in
       let w = walkInside (under v) name used (drop (v .header) input) ends entered names in
-      let s : Says (fewer v) (rowCount (fewer v) input) old x (a & (k ++ drop share old)) =
-      subst (λ (y : Ran). Says (fewer v) (rowCount (fewer v) input) old x (before y (drop share old))) (sym (e ∙ fills-alike v w (take share old))) (tree-says (fewer v) (able-fewer v able) input old (tree .0) fine (root ∷ []) w walked) in
+      let s : Says (under (fewer v)) (rowCount (fewer v) input) old x (a & (k ++ drop share old)) =
+      subst (λ (y : Ran). Says (under (fewer v)) (rowCount (fewer v) input) old x (before y (drop share old))) (sym (e ∙ fills-alike v w (take share old))) (tree-says (under (fewer v)) (able-fewer v able) input old (tree .0) fine (root ∷ []) w walked) in
       let one : insideAnswer (under v) root input (length old) ≡ x = answer-inside (root ∷ []) (under v) input (length old) ∙ rw (tree .1) in
       (s .0 ∙ ap ruled (sym one), s .1 ∙ (leaves-alike v x input old ∙ sym (output-inside (root ∷ []) (under v) input old ∙ rw one)))
 

@@ -27,9 +27,9 @@ inner s =
 
 -- the scopes that may be open, of which one is: it has this name and the first `used` slots
 abbrev pub oneOpen : (most name used : ℕ) → List (List ℕ)
-oneOpen most name used = set (replicate most noScope) 0 (scopeOf name 0 used)
+oneOpen most name used = set (replicate most noScope) 0 (scopeOf name 0 used 0)
 
 unfoldable pub walkInside : Setting → (name used : ℕ) (rows ends : List ℕ) (entered names : List Slot) (out : List ℕ) → Wrote
 walkInside s name used rows ends entered names out =
     let most = s .version .scopes in
-    seenOf (scopeT rows (endsTo most rows ends) (most - 1) entered names (oneOpen most name used) out (startIn used 1))
+    seenOf (scopeT rows (endsTo most rows ends) (most - 1) entered names (oneOpen most name used) out (startIn used 1 (s .rules .early)))

@@ -7,6 +7,7 @@ use lib.ListN.{length, take, drop, replicate}
 use types.Run.{OneOf}
 use denote.Enum.Declared.{tagOf}
 use borrow.Author.Needs.{needs}
+use Rattle.kit.specs.Out.{_&_}
 use Rattle.rows.proofs.row.Row as rowType
 use Rattle.rows.specs.Taken.{rowTo}
 use Rattle.rows.specs.Apart.{rowOf}
@@ -14,11 +15,11 @@ use Rattle.rows.proofs.Laws.{parts-row}
 use Rattle.rows.specs.declared.row.Row.{Row}
 use Rattle.rows.specs.declared.row.Row.the-variants as row
 use Rattle.parts.specs.Apart.{partsAt}
-use Rattle.parts.specs.declared.Parts.{Parts}
 use Rattle.limits.specs.declared.Limits.{Limits}
 use Rattle.limits.specs.Held.{rulesOf}
-use Rattle.read_row.specs.Machine.{inRoot}
-use Rattle.reader.specs.Machine.{rowsT}
+use Rattle.read_row.specs.Machine.{Outcome, on, outcomeOf, placeOf, stepT, inRoot}
+use Rattle.read_row.specs.declared.State.{State}
+use Rattle.reader.specs.Machine.{rowsT, readOnT, readingT}
 use Rattle.reader.specs.Readings.{readTo}
 use Rattle.reader.specs.declared.read.Reading.{Reading}
 use Rattle.reader.specs.declared.read.Reading.the-variants.{Broken, Deep}
@@ -28,11 +29,30 @@ use Rattle.mend_form.specs.Kept.{keptIn}
 use Rattle.mend_form.specs.Filled.{bodyT, rowIn}
 use Rattle.mend_form.specs.declared.Kept.{Kept}
 use Rattle.mend_form.proofs.Laws.{body-size}
-use Rattle.mend_form.proofs.Rows.{parts-body}
+use Rattle.mend_form.proofs.Rows.{in-size, parts-body}
 
--- the parts of the row that was made are those of the mended form's row
-pub part-is : (rows : List ℕ) (k : Kept) (i : ℕ) (this : List ℕ) (p : Parts) → k .rows ≤ length rows / 16 → this ≡ rowIn rows k i → p ≡ partsAt this 0 → p ≡ partsAt (bodyT rows k) i
-part-is rows k i this p there e g = g ∙ (ap (λ (l : List ℕ). partsAt l 0) e ∙ sym (parts-body rows k there i))
+-- ---- read_next and read_rows
+
+module _ (l : Limits) (rows : List ℕ) (k : Kept) where
+  -- the row that was made is the mended form's row
+  pub next-read : (i : ℕ) (this : List ℕ) → k .rows ≤ length rows / 16 → this ≡ rowIn rows k i → (s : State) → s .stage < 5 → (kinds : List ℕ) (o : Outcome) (next : ℕ) (kinds′ : List ℕ) → (o & next & kinds′) ≡ readOnT (rulesOf (l .rules)) (l .names) this 0 (length this / 16 - 0) (outcomeOf s & kinds) → (o & kinds′) ≡ stepT (rulesOf (l .rules)) (placeOf s) kinds (rowOf (l .names) (partsAt (bodyT rows k) i))
+  next-read i this there made s h kinds o next kinds′ st =
+      let size : length this ≡ 16 = ap length made ∙ in-size rows k i in
+      let row : rowTo (l .names) this 0 ≡ rowOf (l .names) (partsAt (bodyT rows k) i) = parts-row (l .names) this 0 ∙ ap (rowOf (l .names)) (ap (λ (x : List ℕ). partsAt x 0) made ∙ sym (parts-body rows k there i)) in
+      Steps.one-read (rulesOf (l .rules)) (l .names) this size s h kinds o next kinds′ st ∙ ap (stepT (rulesOf (l .rules)) (placeOf s) kinds) row
+
+  module _ (n : ℕ) (start : State) (kinds₀ : List ℕ) (i : ℕ) (s : State) (kinds : List ℕ) (inv : readOnT (rulesOf (l .rules)) (l .names) (bodyT rows k) i (n - i) (outcomeOf s & kinds) ≡ readOnT (rulesOf (l .rules)) (l .names) (bodyT rows k) 1 (n - 1) (outcomeOf start & kinds₀)) where
+    pub next-turn : i < n → s .stage < 5 → (t : State) (kinds′ : List ℕ) → (outcomeOf t & kinds′) ≡ stepT (rulesOf (l .rules)) (placeOf s) kinds (rowOf (l .names) (partsAt (bodyT rows k) i)) → readOnT (rulesOf (l .rules)) (l .names) (bodyT rows k) (i + 1) (n - (i + 1)) (outcomeOf t & kinds′) ≡ readOnT (rulesOf (l .rules)) (l .names) (bodyT rows k) 1 (n - 1) (outcomeOf start & kinds₀)
+    next-turn h e t kinds′ st = Steps.on-turn (rulesOf (l .rules)) (l .names) (bodyT rows k) n i s kinds _ inv h e (partsAt (bodyT rows k) i) refl t kinds′ st
+
+    module _ (r : outcomeOf start ≡ on inRoot) (x : Reading) (e : x ≡ readingT n (outcomeOf s) i) where
+      pub next-end : n ≤ i → x ≡ rowsT (rulesOf (l .rules)) (l .names) (bodyT rows k) 1 (n - 1) inRoot kinds₀
+      next-end h =
+          Steps.all-read (rulesOf (l .rules)) (l .names) (bodyT rows k) n start r kinds₀ (outcomeOf s) i kinds (Steps.on-end (rulesOf (l .rules)) (l .names) (bodyT rows k) n i s kinds _ inv h) x e
+
+      pub next-over : 5 ≤ s .stage → x ≡ rowsT (rulesOf (l .rules)) (l .names) (bodyT rows k) 1 (n - 1) inRoot kinds₀
+      next-over h =
+          Steps.all-read (rulesOf (l .rules)) (l .names) (bodyT rows k) n start r kinds₀ (outcomeOf s) i kinds (Steps.on-over (rulesOf (l .rules)) (l .names) (bodyT rows k) n i s kinds _ inv h) x e
 
 -- ---- read_mended
 
@@ -59,5 +79,7 @@ module _ (l : Limits) (rows : List ℕ) (k : Kept) (is : k ≡ keptIn rows) (the
       mended-root z few r e =
           let count : k .rows + k .scopes - 1 ≡ length (bodyT rows k) / 16 - 1 = omega (arith, body-size rows k) in
           Steps.read-root l (bodyT rows k) this root-is kind name o h n q z few r (e ∙ ap (λ (m : ℕ). rowsT (rulesOf (l .rules)) (l .names) (bodyT rows k) 1 m inRoot (take (n - 0) (drop 0 (replicate 255 0)))) count) ∙ ap (readTo l) body-is
+
+pub ruleset next-ways = (next-turn, next-end, next-over, needs)
 
 pub ruleset mended-ways = (mended-other, mended-kind, mended-none, mended-root, needs)

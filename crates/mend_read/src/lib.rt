@@ -5,36 +5,59 @@ use limits::most_scopes;
 use mend_form::Kept;
 use mend_form::kept_in;
 use mend_form::row_of;
-use parts::Parts;
-use parts::parts_at;
-use read_row::DEEP;
+use read_row::State;
 use read_row::WHOLE;
 use read_row::root;
-use read_row::step;
+use reader::read::Progress;
 use reader::read::Reading;
+use reader::read::read_on;
+use reader::read::reading_of;
 use rows::row::Row;
 use rows::row::row_to;
 use wants::table;
 ghost use mathlib.Core.Path.{_≡_};
 ghost use Prim.Native.Nat.{_+_, _-_, _/_, _≤_, _<_};
 ghost use lib.ListN.{length};
+ghost use Rattle.kit.specs.Out.{_&_};
 ghost use Rattle.parts.specs.Apart.{partsAt};
+ghost use Rattle.rows.specs.Apart.{rowOf};
 ghost use Rattle.limits.specs.Held.{rulesOf};
 ghost use Rattle.codes.specs.Values.{Allows};
 ghost use Rattle.wants.specs.States.{Right};
-ghost use Rattle.read_row.specs.Machine.{inRoot};
+ghost use Rattle.read_row.specs.Machine.{outcomeOf, placeOf, stepT, inRoot};
 ghost use Rattle.reader.specs.Machine.{rowsT};
 ghost use Rattle.reader.specs.Readings.{readTo};
 ghost use Rattle.mend_form.specs.Kept.{keptIn};
 ghost use Rattle.mend_form.specs.Filled.{bodyT};
 
-// The six parts of row i of the mended form, all zero where there is none.
-fn mended_parts(rows: &[u8], kept: Kept, i: usize) -> Parts
-    requires { ⌜ kept .rows ≤ length (now rows) / 16 ⌝ }
-    ensures { λ r. ⌜ r ≡ partsAt (bodyT (now (rows .entry)) kept) i ⌝ }
+// Goes on with a reading over the next row of the mended form.
+fn read_next(
+    rows: &[u8],
+    kept: Kept,
+    from: Progress,
+    kinds: &mut [usize],
+    table: &[[u8; 41]; 67],
+    allowed: &[[u8; 26]; 4],
+    limits: Limits,
+) -> State
+    requires { ⌜ (kept .rows ≤ length (now rows) / 16) × (from .state .stage < 5) ⌝ }
+    requires { ⌜ Right (now table) ⌝ }
+    requires { ⌜ Allows (now allowed) ⌝ }
+    ensures { λ r. ⌜ (outcomeOf r & now (kinds .exit)) ≡ stepT (rulesOf (limits .rules)) (placeOf (from .state)) (now (kinds .entry)) (rowOf (limits .names) (partsAt (bodyT (now (rows .entry)) kept) (from .next))) ⌝ }
 {
-    let row = row_of(rows, kept, i);
-    parts_at(&row, 0)
+    let row = row_of(rows, kept, from.next);
+    let state = from.state;
+    let start = Progress { state, next: 0 };
+    let read = read_on(
+        &row,
+        start,
+        kinds,
+        table,
+        allowed,
+        limits.names,
+        limits.rules,
+    );
+    read.state
 }
 
 // The mended rows after the root's OPEN.
@@ -54,25 +77,16 @@ fn read_rows(
     let n = kept.rows + kept.scopes;
     let mut s = root();
     let mut i = 1;
-    while i < n {
-        let behind = i + 1;
-        let parts = mended_parts(rows, kept, i);
-        s = step(s, kinds, table, allowed, parts, limits.names, limits.rules);
-        if WHOLE <= s.stage {
-            if s.stage == WHOLE {
-                if behind == n {
-                    return Reading::Whole;
-                }
-                return Reading::Broken(behind);
-            }
-            if s.stage == DEEP {
-                return Reading::Deep(i);
-            }
-            return Reading::Broken(i);
+    while s.stage < WHOLE {
+        if n <= i {
+            return reading_of(n, Progress { state: s, next: i });
         }
+        let behind = i + 1;
+        let from = Progress { state: s, next: i };
+        s = read_next(rows, kept, from, kinds, table, allowed, limits);
         i = behind;
     }
-    Reading::Broken(i)
+    reading_of(n, Progress { state: s, next: i })
 }
 
 // Whether the rows, once mended, are a form within the limits.

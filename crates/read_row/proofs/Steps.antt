@@ -77,8 +77,8 @@ module _ (d k n m : ℕ) (f : Field) where
   unfolding outcomeOf pick
   made-deep = refl
 
-pub root-placed : (f : Field) (n m : ℕ) → placeOf (made 1 0 n m f 4) ≡ inRoot
-unfolding placeOf currentIn pick
+pub root-placed : (f : Field) (n m : ℕ) → outcomeOf (made 1 0 n m f 4) ≡ on inRoot
+unfolding outcomeOf placeOf currentIn pick
 root-placed f n m = refl
 
 module _ (stage paths : ℕ) (o : Option (List Part)) where

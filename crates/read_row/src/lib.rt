@@ -25,7 +25,7 @@ ghost use Rattle.limits.specs.Held.{rulesOf};
 ghost use Rattle.codes.specs.Values.{Allows};
 ghost use Rattle.wants.specs.States.{leftOf, Right};
 ghost use Rattle.shapes.specs.Starts.{known};
-ghost use Rattle.read_row.specs.Machine.{wrong, whole, deep, currentIn, placeOf, outcomeOf, moreT, declaredT, declaredLeft, wantedT, settledT, mayEndT, fieldT, declT, betweenT, pathedT, stays, refT, outerT, caseT, pathT, exportT, mayOpenT, openT, closeT, stepT, inRoot};
+ghost use Rattle.read_row.specs.Machine.{on, wrong, whole, deep, currentIn, placeOf, outcomeOf, moreT, declaredT, declaredLeft, wantedT, settledT, mayEndT, fieldT, declT, betweenT, pathedT, stays, refT, outerT, caseT, pathT, exportT, mayOpenT, openT, closeT, stepT, inRoot};
 
 // ---- where a reading stands
 
@@ -478,7 +478,7 @@ pub fn step(
 
 // In the root, before its first field.
 pub fn root() -> State
-    ensures { λ r. ⌜ placeOf r ≡ inRoot ⌝ }
+    ensures { λ r. ⌜ outcomeOf r ≡ on inRoot ⌝ }
 {
     State {
         depth: 1,

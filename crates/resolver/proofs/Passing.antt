@@ -23,7 +23,7 @@ use Rattle.resolver.specs.Run.{noSlots, noEnds, seenOf, walkIn, walkT}
 use Rattle.resolver.specs.Steps.{stepsIn, stepsT, stepsOf}
 use Rattle.resolver.specs.declared.steps.Steps.{Steps}
 use Rattle.resolver.specs.declared.steps.Steps.the-variants.{Pass, Refused}
-use Rattle.resolver.proofs.Root.{able-1, steps-refusal}
+use Rattle.resolver.proofs.Root.{under, able-1, steps-refusal}
 use Rattle.resolver.proofs.Laws.{rooms-1}
 
 -- a refusal, if there is one, as the steps answer it
@@ -42,7 +42,7 @@ passing (ok r) (walked.Refused refusal told & e & n & o) h = ap asSteps h
 -- For the rows of a form of version 1.
 pub steps-agree : (rows : List ℕ) (t : Scope) → Bytes rows → length rows / 16 ≤ 1023 → IsForm today (rowsOf topName (length rows / 16) rows) t → height t ≤ 32 → stepsT rows ≡ stepsOf (resolve today t)
 unfolding stepsT walkT walkIn
-steps-agree rows t all few f low = passing (resolve today t) _ (steps-refusal version1 able-1 noEnds noSlots noSlots rooms-1 rows all few t f low (0 ∷ []))
+steps-agree rows t all few f low = passing (resolve today t) _ (steps-refusal (under version1) able-1 noEnds noSlots noSlots rooms-1 rows all few t f low (0 ∷ []))
 
 -- ---- the ways through the code
 

@@ -25,27 +25,31 @@ use walk::walk::starting;
 use whole_form::read::Form;
 use write::alias::Walked;
 ghost use mathlib.Core.Path.{_≡_};
-ghost use Prim.Native.Nat.{_<_};
-ghost use lib.ListN.{length};
+ghost use Prim.Native.Nat.{_≤_, _<_};
+ghost use lib.ListN.{length, take};
 ghost use Rattle.kit.specs.Out.{_&_};
 ghost use Rattle.rules.specs.Tools.{if_then_else_};
+ghost use Rattle.rules.specs.Versions.{all};
 ghost use Rattle.limits.specs.Held.{setting};
 ghost use Rattle.resolver.specs.Meaning.{meaning, ruled};
 ghost use Rattle.resolver.specs.Run.{walkIn, fillT};
-ghost use Rattle.resolver_with.specs.Served.{asked};
-ghost use Rattle.resolver_with.specs.Areas.{lentOf, Cleared};
-ghost use Rattle.resolver_with.specs.With.{answerWith, outputWith, Ran};
-ghost use Rattle.resolver_with.specs.Exact.{Suits, exactly, Zeroed};
+ghost use Rattle.resolver_with.specs.Served.{first, askedIn, asked, askedOfAll};
+ghost use Rattle.resolver_with.specs.Areas.{lentOf, roomy, Cleared};
+ghost use Rattle.resolver_with.specs.With.{answerWith, outputWith, answerOfAll, outputOfAll, Ran};
+ghost use Rattle.resolver_with.specs.Exact.{CutTo, exactly, Zeroed};
 
-// How many of all settings are in force here: the first ones.
-const SERVED: usize = 2;
+// How many settings there are, and how many of them, the first ones, have rule set 0.
+const ALL: usize = 3;
 
-// The place of the setting that the header asks for, of those in force; the first where it asks for none of them.
-pub fn asked_for(form: &[u8]) -> usize
-    ensures { λ r. ⌜ (setting r ≡ asked (now (form .entry))) × (r < 2) ⌝ }
+const TODAY: usize = 2;
+
+// The place of the setting that the header asks for, of the first ones, so many; the first where it asks for none of them.
+fn asked_among(form: &[u8], most: usize) -> usize
+    requires { ⌜ (0 < most) × (most ≤ 3) ⌝ }
+    ensures { λ r. ⌜ (setting r ≡ askedIn (take most all) (now (form .entry)) first) × (r < most) ⌝ }
 {
     let mut next = 0;
-    while next < SERVED {
+    while next < most {
         let i = next;
         next += 1;
         match header_to(form, of_input(i)) {
@@ -55,6 +59,28 @@ pub fn asked_for(form: &[u8]) -> usize
         }
     }
     0
+}
+
+// The same of those with rule set 0.
+pub fn asked_for(form: &[u8]) -> usize
+    ensures { λ r. ⌜ (setting r ≡ asked (now (form .entry))) × (r < 2) ⌝ }
+{
+    asked_among(form, TODAY)
+}
+
+// The same of all.
+pub fn asked_of_all(form: &[u8]) -> usize
+    ensures { λ r. ⌜ (setting r ≡ askedOfAll (now (form .entry))) × (r < 3) ⌝ }
+{
+    asked_among(form, ALL)
+}
+
+// Whether a name means only what an earlier field declares, under the setting at place i.
+fn is_early(i: usize) -> bool
+    ensures { λ r. ⌜ r ≡ setting i .rules .early ⌝ }
+{
+    let limits = of_input(i);
+    limits.rules == 1
 }
 
 // The walk over the rows of a form. The tables may hold anything: their indexes start empty.
@@ -68,13 +94,14 @@ pub fn walk_in(
     chains: &mut [u16],
     ends: &mut [u32],
 ) -> Walked
-    requires { ⌜ Suits i (now entered) (now names) (now known) (now chains) (now ends) ⌝ }
+    requires { ⌜ CutTo i (now entered) (now names) (now known) (now chains) (now ends) ⌝ }
     ensures { λ r. ⌜ (r & now (out .exit)) ≡ walkIn (setting i) (now (rows .entry)) (now (ends .entry)) (now (entered .entry)) (now (names .entry)) (now (out .entry)) ⌝ }
 {
+    let early = is_early(i);
     mark_ends_to(rows, ends, of_input(i));
     zero_links(known);
     zero_links(chains);
-    let mut scopes: [Scope; 64] = [[0usize; 3]; 64];
+    let mut scopes: [Scope; 64] = [[0usize; 4]; 64];
     let most = most_scopes(of_input(i));
     scope_walk(
         rows,
@@ -85,12 +112,12 @@ pub fn walk_in(
         chains,
         &mut scopes[..most],
         out,
-        starting(0, 0),
+        starting(0, 0, early),
     )
 }
 
 // Fills the form's share of the output.
-fn fill_in(
+pub fn fill_in(
     rows: &[u8],
     front: &mut [u8],
     i: usize,
@@ -100,7 +127,7 @@ fn fill_in(
     chains: &mut [u16],
     ends: &mut [u32],
 ) -> Answer
-    requires { ⌜ Suits i (now entered) (now names) (now known) (now chains) (now ends) ⌝ }
+    requires { ⌜ CutTo i (now entered) (now names) (now known) (now chains) (now ends) ⌝ }
     ensures { λ r. ⌜ (r & now (front .exit)) ≡ fillT (setting i) (walkIn (setting i) (now (rows .entry)) (now (ends .entry)) (now (entered .entry)) (now (names .entry))) (now (front .entry)) ⌝ }
 {
     let header = header_size(i);
@@ -153,7 +180,7 @@ fn room_if(enough: bool, room: usize) -> usize
 }
 
 // Resolves the form under the setting at place i, in areas of which none is larger than its size.
-fn run_in(
+pub fn run_in(
     form: &[u8],
     out: &mut [u8],
     i: usize,
@@ -163,7 +190,6 @@ fn run_in(
     chains: &mut [u16],
     ends: &mut [u32],
 ) -> Answer
-    requires { ⌜ i < 2 ⌝ }
     ensures { λ r. ⌜ Ran (setting i) (exactly (setting i .version) (lentOf (now (entered .entry)) (now (names .entry)) (now (known .entry)) (now (chains .entry)) (now (ends .entry)))) (now (form .entry)) (now (out .entry)) (now (out .exit)) r ⌝ }
 {
     let enough = is_exact(
@@ -221,7 +247,6 @@ fn run_cleared(
     chains: &mut [u16],
     ends: &mut [u32],
 ) -> Answer
-    requires { ⌜ i < 2 ⌝ }
     ensures { λ r. ⌜ Ran (setting i) (exactly (setting i .version) (lentOf (now (entered .entry)) (now (names .entry)) (now (known .entry)) (now (chains .entry)) (now (ends .entry)))) (now (form .entry)) (now (out .entry)) (now (out .exit)) r × Zeroed (now (entered .entry)) (now (entered .exit)) (now (names .entry)) (now (names .exit)) (now (known .entry)) (now (known .exit)) (now (chains .entry)) (now (chains .exit)) (now (ends .entry)) (now (ends .exit)) ⌝ }
 {
     match run_in(form, out, i, entered, names, known, chains, ends) {
@@ -236,20 +261,19 @@ fn run_cleared(
     }
 }
 
-// Resolves a form of any setting in force: its names become numbers, in the form that `out` holds then. The working areas are two
-// tables, the index of each, and the ends of fields; their sizes go by the form's version.
-pub fn resolve_with(
+// Resolves the form under the setting at place i, in areas of any size, and zeroes of each as much as the version takes.
+fn resolve_at(
     form: &[u8],
     out: &mut [u8],
+    i: usize,
     entered: &mut [Slot],
     names: &mut [Slot],
     known: &mut [u16],
     chains: &mut [u16],
     ends: &mut [u32],
 ) -> Answer
-    ensures { λ r. ⌜ (meaning r ≡ ruled (answerWith (now (form .entry)) (length (now (out .entry))) (lentOf (now (entered .entry)) (now (names .entry)) (now (known .entry)) (now (chains .entry)) (now (ends .entry))))) × (now (out .exit) ≡ outputWith (now (form .entry)) (now (out .entry)) (lentOf (now (entered .entry)) (now (names .entry)) (now (known .entry)) (now (chains .entry)) (now (ends .entry)))) × Cleared (asked (now (form .entry)) .version) (now (entered .entry)) (now (entered .exit)) (now (names .entry)) (now (names .exit)) (now (known .entry)) (now (known .exit)) (now (chains .entry)) (now (chains .exit)) (now (ends .entry)) (now (ends .exit)) ⌝ }
+    ensures { λ r. ⌜ Ran (setting i) (roomy (setting i .version) (lentOf (now (entered .entry)) (now (names .entry)) (now (known .entry)) (now (chains .entry)) (now (ends .entry)))) (now (form .entry)) (now (out .entry)) (now (out .exit)) r × Cleared (setting i .version) (now (entered .entry)) (now (entered .exit)) (now (names .entry)) (now (names .exit)) (now (known .entry)) (now (known .exit)) (now (chains .entry)) (now (chains .exit)) (now (ends .entry)) (now (ends .exit)) ⌝ }
 {
-    let i = asked_for(form);
     let slots = slots_for(i);
     let links = links_for(i);
     let a = least(slots, entered.len());
@@ -267,4 +291,37 @@ pub fn resolve_with(
         &mut chains[..d],
         &mut ends[..e],
     )
+}
+
+// Resolves a form of either version, under rule set 0: its names become numbers, in the form that `out` holds then. The working
+// areas are two tables, the index of each, and the ends of fields; their sizes go by the form's version.
+pub fn resolve_with(
+    form: &[u8],
+    out: &mut [u8],
+    entered: &mut [Slot],
+    names: &mut [Slot],
+    known: &mut [u16],
+    chains: &mut [u16],
+    ends: &mut [u32],
+) -> Answer
+    ensures { λ r. ⌜ (meaning r ≡ ruled (answerWith (now (form .entry)) (length (now (out .entry))) (lentOf (now (entered .entry)) (now (names .entry)) (now (known .entry)) (now (chains .entry)) (now (ends .entry))))) × (now (out .exit) ≡ outputWith (now (form .entry)) (now (out .entry)) (lentOf (now (entered .entry)) (now (names .entry)) (now (known .entry)) (now (chains .entry)) (now (ends .entry)))) × Cleared (asked (now (form .entry)) .version) (now (entered .entry)) (now (entered .exit)) (now (names .entry)) (now (names .exit)) (now (known .entry)) (now (known .exit)) (now (chains .entry)) (now (chains .exit)) (now (ends .entry)) (now (ends .exit)) ⌝ }
+{
+    let i = asked_for(form);
+    resolve_at(form, out, i, entered, names, known, chains, ends)
+}
+
+// The same under the rule set that the form asks for.
+pub fn resolve_of_all(
+    form: &[u8],
+    out: &mut [u8],
+    entered: &mut [Slot],
+    names: &mut [Slot],
+    known: &mut [u16],
+    chains: &mut [u16],
+    ends: &mut [u32],
+) -> Answer
+    ensures { λ r. ⌜ (meaning r ≡ ruled (answerOfAll (now (form .entry)) (length (now (out .entry))) (lentOf (now (entered .entry)) (now (names .entry)) (now (known .entry)) (now (chains .entry)) (now (ends .entry))))) × (now (out .exit) ≡ outputOfAll (now (form .entry)) (now (out .entry)) (lentOf (now (entered .entry)) (now (names .entry)) (now (known .entry)) (now (chains .entry)) (now (ends .entry)))) × Cleared (askedOfAll (now (form .entry)) .version) (now (entered .entry)) (now (entered .exit)) (now (names .entry)) (now (names .exit)) (now (known .entry)) (now (known .exit)) (now (chains .entry)) (now (chains .exit)) (now (ends .entry)) (now (ends .exit)) ⌝ }
+{
+    let i = asked_of_all(form);
+    resolve_at(form, out, i, entered, names, known, chains, ends)
 }

@@ -1,4 +1,5 @@
--- Of an input that is accepted: what the code proposes is what the rules propose, and the check accepts it.
+-- Of an input that is accepted, of any version that the walk is able to take: what the code proposes is what the rules propose, and the
+-- check accepts it. What is not accepted is answered as the resolver answers it.
 use mathlib.Core.Path.{_≡_, refl, sym, ap, _∙_, subst}
 use mathlib.Core.Bool.{Bool, true, false}
 use mathlib.Core.Option.{none, some}
@@ -11,40 +12,47 @@ use lib.Seq.{length-take-le, take-at, drop-at}
 use Rattle.kit.specs.Out.{_&_}
 use Rattle.kit.proofs.Laws.{tests}
 use Rattle.rules.specs.Tools.{if_then_else_, only, _orElse_}
-use Rattle.rules.specs.Versions.{Setting, version1, today, topName, base}
+use Rattle.rules.specs.Versions.{Version, Setting, today, topName}
 use Rattle.rules.specs.Rows.{Row}
 use Rattle.rules.specs.Tree.{Scope, flatten}
 use Rattle.rules.specs.Rules.{Result, ok}
+use Rattle.rules.specs.Answer as rules
 use Rattle.rules.specs.Answer.{AnswerOf, refused, accepted, mapAnswer, hasHeader, settingOf, rowCount, rowsOf, resolved, answer, rowsBytes, formBytes, written, outputAfter, output}
 use Rattle.rules.specs.Laws.RowLaws.{Bytes, bytes-drop}
 use Rattle.rules.specs.Laws.Results.{some-same}
-use Rattle.rules.specs.Laws.Demand3.{base-usual, readings}
+use Rattle.rules.specs.Laws.Demand3.{AllUsual, readings}
 use Rattle.rules.specs.Laws.Meaning.Names.{LowScope}
 use Rattle.rules.specs.Laws.Meaning.ReadNames.{read-low}
 use Rattle.rules.specs.Laws.Reading.ReadRight.{reads-form}
 use Rattle.read_form.specs.ReadForm.{_andThen_, readForm}
 use Rattle.read_form.specs.Laws.ReadFormLaws.{no-answer, past, read-exactly, read-written}
-use Rattle.read_form.specs.Laws.OutputLength.{form-length}
+use Rattle.read_form.specs.Laws.OutputLength.{form-length, output-length}
+use Rattle.checking.specs.Check as checking
 use Rattle.checking.specs.Check.{yes, verdictFor, verdict}
 use Rattle.checking.specs.CheckAnswer.{slotsOf, linksOf, checkFor, checkAnswer}
 use Rattle.sharing.specs.Sharing.{mark, propose, proposed, sharedAfter, shared, sharedOutput}
-use Rattle.sharing.specs.Laws.SharedAccepted.{shared-four}
+use Rattle.sharing.specs.Laws.SharedAccepted.{shared-four, shared-refuses}
 use Rattle.sharing.specs.Laws.SharedAnswer.{Planned, planned}
-use Rattle.sharing.specs.Laws.SharedBuffer.{planned-buffer}
-use Rattle.form.proofs.EndsStorey.{ends-right}
-use Rattle.names.specs.Table.{emptySlot}
-use Rattle.mark_laws.specs.Agrees.{mark-agrees}
-use Rattle.resolver.specs.Meaning.{meaning, ruled}
+use Rattle.sharing.specs.Laws.SharedBuffer.{refused-buffer, planned-buffer}
+use Rattle.form.specs.Marked.{endsTo}
+use Rattle.form.proofs.EndsStorey.{ends-to-right}
+use Rattle.names.specs.Table.{Slot}
+use Rattle.mark.specs.Marked.{markedT}
+use Rattle.mark_laws.specs.Agrees.{AllMarked, mark-agrees}
+use Rattle.resolver.specs.Meaning.{Said, meaning, ruled}
 use Rattle.resolver.specs.Admit.{isShort, admit}
-use Rattle.resolver.specs.Run.{noSlots, noEnds, walkT}
+use Rattle.resolver.specs.Run.{walkIn}
 use Rattle.resolver.specs.declared.run.Answer.{Answer}
 use Rattle.resolver.proofs.Admits.{steps, Admitted, admitted, answer-one, output-one}
-use Rattle.resolver.proofs.Root.{under, able-1, Walks}
+use Rattle.resolver.proofs.Root.{under, Able, Walks, Rooms}
 use Rattle.resolver.proofs.Agrees.{Says, fills-accepted, body-rows, body-form}
-use Rattle.resolver.proofs.Laws.{rooms-1}
+use Rattle.moved.proofs.Agrees.{Counted, answer-counted}
+use Rattle.claim_check.specs.Meaning as checked
+use Rattle.claim_check.specs.declared.Verdict.{Verdict}
 use Rattle.share_laws.specs.Walked.{marked-walks}
+use Rattle.share.specs.declared.Own.{Own}
 use Rattle.share.specs.Run as run
-use Rattle.share.specs.Run.{markT, walkedT, noRows, proposeT, Roomy}
+use Rattle.share.specs.Run.{proposeIn, Roomy, isYes, saidYes, Resolved}
 
 -- ---- one setting
 
@@ -65,9 +73,9 @@ admit-of s input room own e = go (admit s input room) refl (sym (answer-one s in
     go (accepted t) q p = (t, q)
 
 -- the verdict, where the setting is known
-judged : (input claim : List ℕ) (s : Setting) → settingOf base input ≡ some s → verdict base input claim ≡ yes → verdictFor (some s) input claim ≡ yes
+judged : (settings : List Setting) (input claim : List ℕ) (s : Setting) → settingOf settings input ≡ some s → verdict settings input claim ≡ yes → verdictFor (some s) input claim ≡ yes
 unfolding verdict
-judged input claim s e v = rw e at v
+judged settings input claim s e v = rw e at v
 
 -- ---- a form over what stood there
 
@@ -87,151 +95,214 @@ over-written size new own old h = unfold written in ap (λ (l : List ℕ). new +
 
 -- ---- the proposal
 
-no-rows : length noRows ≡ 16368
-unfolding noRows
-no-rows = length-replicate {A = ℕ} 16368 0
+module _ (v : Version) (able : Able (under v)) where
+  abbrev one : Setting
+  one = under v
 
-abbrev one : Setting
-one = under version1
+  usual : AllUsual (one ∷ [])
+  usual = (able .usual, tt)
 
-module _ (input old : List ℕ) (bs : Bytes input) (own : List Row) (e : answer base input (length old) ≡ accepted own) where
-  pub tree : (t : Scope) × (admit one input (length old) ≡ accepted t)
-  tree = admit-of one input (length old) own e
+  -- where there is no room nothing is accepted
+  pub none-accepted : {X : Type 0} (input : List ℕ) (own : List Row) → answer (one ∷ []) input 0 ≡ accepted own → X
+  none-accepted input own e =
+      let t = admit-of one input 0 own e in
+      let room = admitted one input 0 (t .0) (t .1) .enough in
+      let header = able .usual .header in
+      absurd (omega arith)
 
-  fine : Admitted one input (length old) (tree .0)
-  fine = admitted one input (length old) (tree .0) (tree .1)
+  pub as-long : (input old : List ℕ) → length (output (one ∷ []) input old) ≡ length old
+  as-long input old = unfold output in output-length [] (one ∷ []) usual input old
 
-  reads : readForm one input ≡ accepted (tree .0)
-  reads = past (isShort one input (length old)) 3 0 [] (readForm one input) (tree .0) (unfold admit in (tree .1)) .1
+  module _ (input old : List ℕ) (bs : Bytes input) (own : List Row) (e : answer (one ∷ []) input (length old) ≡ accepted own) where
+    pub tree : (t : Scope) × (admit one input (length old) ≡ accepted t)
+    tree = admit-of one input (length old) own e
 
-  pub plan : Planned base input (length old) own
-  plan = planned base base-usual input bs (length old) own e
+    fine : Admitted one input (length old) (tree .0)
+    fine = admitted one input (length old) (tree .0) (tree .1)
 
-  is-one : plan .setting ≡ one
-  is-one = one-setting one (plan .setting) input (plan .asked-for)
+    reads : readForm one input ≡ accepted (tree .0)
+    reads = past (isShort one input (length old)) 3 0 [] (readForm one input) (tree .0) (unfold admit in (tree .1)) .1
 
-  asks : settingOf base input ≡ some one
-  asks = plan .asked-for ∙ ap some is-one
+    plan : Planned (one ∷ []) input (length old) own
+    plan = planned (one ∷ []) usual input bs (length old) own e
 
-  shared-is : shared base input (length old) ≡ mapAnswer flatten (resolved (propose today (tree .0)))
-  unfolding shared sharedAfter proposed _andThen_
-  shared-is = rw (e, asks, reads)
+    is-one : plan .setting ≡ one
+    is-one = one-setting one (plan .setting) input (plan .asked-for)
 
-  -- the tree that the rules propose
-  pub made : (q : Scope × ℕ) × (propose today (tree .0) ≡ ok q) × (flatten (q .0) ≡ plan .out)
-  made = go (propose today (tree .0)) refl (sym shared-is ∙ plan .answers)
+    asks : settingOf (one ∷ []) input ≡ some one
+    asks = plan .asked-for ∙ ap some is-one
+
+    shared-is : shared (one ∷ []) input (length old) ≡ mapAnswer flatten (resolved (propose today (tree .0)))
+    unfolding shared sharedAfter proposed _andThen_
+    shared-is = rw (e, asks, reads)
+
+    -- the tree that the rules propose
+    made : (q : Scope × ℕ) × (propose today (tree .0) ≡ ok q) × (flatten (q .0) ≡ plan .out)
+    made = go (propose today (tree .0)) refl (sym shared-is ∙ plan .answers)
+      where
+        go : (m : Result (Scope × ℕ)) → propose today (tree .0) ≡ m → mapAnswer flatten (resolved m) ≡ accepted (plan .out) → (q : Scope × ℕ) × (propose today (tree .0) ≡ ok q) × (flatten (q .0) ≡ plan .out)
+        go (Result.refused why z) q a = unfold resolved mapAnswer in no-answer _ _ _ (plan .out) a
+        go (ok r) q a = let p : accepted (flatten (r .0)) ≡ accepted (plan .out) = unfold resolved mapAnswer in a in (r, q, cc)
+
+    abbrev rs : List Row
+    rs = flatten (made .0 .0)
+
+    abbrev body : List ℕ
+    body = drop (v .header) input
+
+    abbrev n : ℕ
+    n = rowCount v input
+
+    abbrev size : ℕ
+    size = v .header + 64 * n
+
+    count : length body / 16 ≡ n
+    count = body-rows one able input old (tree .0) fine
+
+    long : length body ≡ 16 * n
+    long = rw length-drop (omega (arith, fine .long))
+
+    low : LowScope (tree .0)
+    low =
+        read-low today (v .scopes) topName (length body / 16) body (tree .0) (omega arith) (reads-form today (v .scopes) (rowsOf topName (length body / 16) body) (tree .0) (body-form one able input old (tree .0) fine) (fine .low))
+
+    pub roomy : (now : List ℕ) → length now ≡ length old → Roomy one input now
+    roomy now same = record { rows = n; long = fine .long; few = fine .few; room = omega (arith, fine .enough) }
+
+    -- the marked rows
+    abbrev markedRows : List ℕ
+    markedRows = rowsBytes (flatten (mark (tree .0)))
+
+    -- are written where there is room for them, for the slots of a table and for the ends of fields
+    pub marks : (ends marked : List ℕ) (table : List Slot) → v .rows ≤ length ends → v .rows ≤ length table → length marked ≡ length body
+        → AllMarked (markedT body (endsTo (v .scopes) body ends) table marked) (length table) (flatten (mark (tree .0)))
+    marks ends marked table a b l =
+        let c = count in
+        let g = long in
+        let few = able .few in
+        let f = body-form one able input old (tree .0) fine in
+        let right = ends-to-right (v .scopes) topName body ends (tree .0) (f .of-tree) (fine .low) (omega (arith, fine .few)) (omega (arith, fine .few)) in
+        mark-agrees body _ marked table (tree .0) (bytes-drop (v .header) input bs) (f .of-tree) (omega arith) right l (omega (arith, fine .count, fine .few)) (omega (arith, fine .count, fine .few))
+
+    four : length rs ≤ 4 * n
+    four = omega (arith, shared-four today (tree .0) (made .0) (made .1), fine .count)
+
+    -- what the rules answer and leave
+    shared-accepts : shared (one ∷ []) input (length old) ≡ accepted rs
+    shared-accepts = plan .answers ∙ ap accepted (sym (made .2))
+
+    leaves : sharedOutput (one ∷ []) input old ≡ written size (formBytes one rs) old
+    leaves =
+        planned-buffer (one ∷ []) input old own plan
+        ∙ (subst (λ (s : Setting). written (plan .setting .version .header + 64 * rowCount (plan .setting .version) input) (formBytes (plan .setting) (plan .out)) old ≡ written (s .version .header + 64 * rowCount (s .version) input) (formBytes s (plan .out)) old) is-one refl
+        ∙ ap (λ (l : List Row). written size (formBytes one l) old) (sym (made .2)))
+
+    own-left : output (one ∷ []) input old ≡ written size (formBytes one own) old
+    own-left = output-one one input old ∙ (unfold outputAfter in rw e)
+
+    own-short : length (formBytes one own) ≤ size
+    own-short =
+        let R = readings (one ∷ []) usual input old bs own e in
+        let s : R .setting ≡ one = one-setting one (R .setting) input (R .asked-for) in
+        let f : length own ≤ 4 * n = subst (λ (x : Setting). length own ≤ 4 * rowCount (x .version) input) s (R .four) in
+        omega (arith, form-length one own (able .usual))
+
+    module _ (ends : List ℕ) (entered names : List Slot) (rooms : Rooms v ends entered names) where
+      walks : (out : List ℕ) → 64 * n ≤ length out → Walks (propose today (tree .0)) out (walkIn one markedRows ends entered names out)
+      walks out room =
+          marked-walks v able ends entered names rooms (tree .0) (omega (arith, fine .count, fine .few)) (fine .is-form .good) low (fine .low) (read-written one input (tree .0) (able .usual) bs reads) out (omega (arith, fine .count))
+
+      says : (now : List ℕ) → length now ≡ length old → Says one n now (accepted rs) (proposeIn one markedRows ends entered names input now)
+      unfolding proposeIn
+      says now same =
+          let room = fine .enough in
+          let front = drop (v .header) (take size now) in
+          let whole : length (take size now) ≡ size = length-take-le size now (omega arith) in
+          let W : Walks (ok (made .0)) front (walkIn one markedRows ends entered names front) =
+          subst (λ (m : Result (Scope × ℕ)). Walks m front (walkIn one markedRows ends entered names front)) (made .1) (walks front (simp length-drop (omega arith))) in
+          rw count (fills-accepted one able now n (fine .few) (omega arith) (walkIn one markedRows ends entered names) rs (W .0) four (W .1) (W .2))
+
+      -- THE PROPOSAL over what the resolver left
+      pub answers-shared : (a : Answer) (l marked : List ℕ) → marked ≡ markedRows → (a & l) ≡ proposeIn one marked ends entered names input (output (one ∷ []) input old)
+          → (meaning a ≡ ruled (shared (one ∷ []) input (length old))) × (l ≡ sharedOutput (one ∷ []) input old)
+      answers-shared a l marked m p =
+          let q : (a & l) ≡ proposeIn one markedRows ends entered names input (output (one ∷ []) input old) = p ∙ ap (λ (x : List ℕ). proposeIn one x ends entered names input (output (one ∷ []) input old)) m in
+          let S : Says one n (output (one ∷ []) input old) (accepted rs) (a & l) = subst (Says one n (output (one ∷ []) input old) (accepted rs)) (sym q) (says (output (one ∷ []) input old) (as-long input old)) in
+          let over : outputAfter one (accepted rs) size (output (one ∷ []) input old) ≡ written size (formBytes one rs) (output (one ∷ []) input old) = unfold outputAfter in refl in (
+            S .0 ∙ ap ruled (sym shared-accepts),
+            S .1 ∙ (over ∙ (ap (written size (formBytes one rs)) own-left ∙ (over-written size (formBytes one rs) (formBytes one own) old own-short ∙ sym leaves))),
+          )
+
+    -- ---- the check
+
+    -- in areas that are large enough
+    check-yes : (slots links : ℕ) → slotsOf v ≤ slots → linksOf v ≤ links → checkAnswer (one ∷ []) input (formBytes one rs) slots links ≡ yes
+    unfolding checkAnswer checkFor if_then_else_
+    check-yes slots links a b =
+        let R = read-exactly one input (tree .0) .0 reads in
+        let w : verdict (one ∷ []) input (formBytes one rs) ≡ yes =
+        subst (λ (l : List Row). verdict (one ∷ []) input (formBytes one l) ≡ yes) (sym (made .2)) (subst (λ (s : Setting). verdict (one ∷ []) input (formBytes s (plan .out)) ≡ yes) is-one (plan .checked)) in
+        let p : ltb slots (slotsOf v) ≡ false = omega tests in
+        let q : ltb links (linksOf v) ≡ false = omega tests in
+        rw (asks, R .counted, R .long, p, q) (judged (one ∷ []) input (formBytes one rs) one asks w)
+
+    -- what stands at the front
+    front-shared : (l : List ℕ) → l ≡ sharedOutput (one ∷ []) input old → (rows : ℕ) → rows ≡ length rs → take (v .header + 16 * rows) l ≡ formBytes one rs
+    front-shared l q rows c =
+        let f : length (formBytes one rs) ≡ v .header + 16 * length rs = form-length one rs (able .usual) in
+        rw c (ap (take (v .header + 16 * length rs)) (q ∙ leaves) ∙ take-written size (v .header + 16 * length rs) (formBytes one rs) old f)
+
+    -- IT IS NEVER REFUSED
+    pub never-refused : (a : Answer) (l : List ℕ) → meaning a ≡ ruled (shared (one ∷ []) input (length old)) → l ≡ sharedOutput (one ∷ []) input old → (slots links : ℕ) → slotsOf v ≤ slots → linksOf v ≤ links
+        → (rows : ℕ) (claim : List ℕ) (y : Bool) → rows ≡ meaning a .plain .place → claim ≡ take (v .header + 16 * rows) l → y ≡ isYes (checkAnswer (one ∷ []) input claim slots links) → y ≡ false → ⊥
+    unfolding isYes
+    never-refused a l m o slots links h k rows claim y r c f z =
+        let answered : ruled (shared (one ∷ []) input (length old)) .plain .place ≡ length rs = rw shared-accepts in
+        let counted : rows ≡ length rs = r ∙ (ap (λ (x : Said). x .plain .place) m ∙ answered) in
+        let g : isYes (checkAnswer (one ∷ []) input claim slots links) ≡ true = rw (c ∙ front-shared l o rows counted, check-yes slots links h k) in
+        let d : false ≡ true = sym z ∙ (f ∙ g) in
+        let u : _≡_ {A = ℕ} 0 1 = cc in
+        omega arith
+
+-- ---- what the resolver answered
+
+module _ (settings : List Setting) (input old now : List ℕ) (o : Own) (Q : run.Ran settings input old now o) where
+  -- the number is the rules'
+  number-is : (a : rules.Answer) → answer settings input (length old) ≡ a → o .number ≡ ruled a .plain .number
+  number-is a q = Q .numbered ∙ ap (λ (x : Said). x .plain .number) (Q .answers ∙ ap ruled q)
+
+  -- a refusal is the input's
+  refused-own : (o .number ≡ 0 → ⊥) → (n : ℕ) × (z : ℕ) × (c : List ℕ) × (answer settings input (length old) ≡ refused n z c)
+  refused-own h = go (answer settings input (length old)) refl
     where
-      go : (m : Result (Scope × ℕ)) → propose today (tree .0) ≡ m → mapAnswer flatten (resolved m) ≡ accepted (plan .out) → (q : Scope × ℕ) × (propose today (tree .0) ≡ ok q) × (flatten (q .0) ≡ plan .out)
-      go (Result.refused why z) q a = unfold resolved mapAnswer in no-answer _ _ _ (plan .out) a
-      go (ok r) q a = let p : accepted (flatten (r .0)) ≡ accepted (plan .out) = unfold resolved mapAnswer in a in (r, q, cc)
+      go : (a : rules.Answer) → answer settings input (length old) ≡ a → (n : ℕ) × (z : ℕ) × (c : List ℕ) × (answer settings input (length old) ≡ refused n z c)
+      go (refused nr z c) q = (nr, z, c, q)
+      go (accepted written-rows) q = absurd (h (number-is (accepted written-rows) q))
 
-  abbrev rs : List Row
-  rs = flatten (made .0 .0)
+  pub own-answers : (o .number ≡ 0 → ⊥) → meaning (o .answer) ≡ ruled (shared settings input (length old))
+  own-answers h = let q = refused-own h in Q .answers ∙ ap ruled (q .3 ∙ sym (shared-refuses settings input (length old) (q .0) (q .1) (q .2) (q .3)))
 
-  abbrev body : List ℕ
-  body = drop 8 input
+  pub own-leaves : (o .number ≡ 0 → ⊥) → now ≡ sharedOutput settings input old
+  own-leaves h = let q = refused-own h in Q .leaves ∙ sym (refused-buffer settings input old (q .0) (q .1) (q .2) (q .3))
 
-  abbrev n : ℕ
-  n = rowCount version1 input
+  -- and what is none has rows
+  pub accepted-own : o .number ≡ 0 → (rs : List Row) × (answer settings input (length old) ≡ accepted rs)
+  accepted-own h = go (answer settings input (length old)) refl (answer-counted settings input (length old))
+    where
+      go : (a : rules.Answer) → answer settings input (length old) ≡ a → Counted a → (rs : List Row) × (answer settings input (length old) ≡ accepted rs)
+      go (refused nr z c) q one-more = let x = number-is (refused nr z c) q in absurd (omega (arith, x, h, one-more))
+      go (accepted written-rows) q one-more = (written-rows, q)
 
-  count : length body / 16 ≡ n
-  count = body-rows version1 able-1 input old (tree .0) fine
+  unfoldable pub own-resolved : o .number ≡ 0 → Resolved settings input now
+  own-resolved h = let a = accepted-own h in record { old = old; own = a .0; accepts = a .1; left = Q .leaves }
 
-  long : length body ≡ 16 * n
-  long = rw length-drop (omega (arith, fine .long))
+-- ---- what the check answered
 
-  low : LowScope (tree .0)
-  low = read-low today 32 topName (length body / 16) body (tree .0) (omega arith) (reads-form today 32 (rowsOf topName (length body / 16) body) (tree .0) (body-form version1 able-1 input old (tree .0) fine) (fine .low))
+ruled-yes : (w : checking.Verdict) → saidYes (checked.ruled w) ≡ isYes w
+unfolding isYes
+ruled-yes checking.yes = refl
+ruled-yes (checking.no condition row) = refl
+ruled-yes (checking.refused number place carried) = refl
 
-  -- the marked rows are those of the marked tree
-  marks : (old′ : List ℕ) → length old′ ≡ length body → markT body old′ ≡ rowsBytes (flatten (mark (tree .0)))
-  unfolding markT run.rowsOf noEnds noSlots
-  marks old′ l =
-      let c = count in
-      let g = long in
-      let slots = length-replicate 1024 emptySlot in
-      let f = body-form version1 able-1 input old (tree .0) fine in
-      let ends = ends-right body noEnds (tree .0) (f .of-tree) (fine .low) (omega (arith, length-replicate {A = ℕ} 1024 0, fine .few)) (omega (arith, fine .few)) in
-      let M = mark-agrees body _ old′ noSlots (tree .0) (bytes-drop 8 input bs) (f .of-tree) (omega arith) ends l (omega (arith, fine .count, fine .few)) (omega (arith, fine .count, fine .few)) in
-      rw (M .answer)
-
-  walks : (out : List ℕ) → 64 * n ≤ length out → Walks (propose today (tree .0)) out (walkT (rowsBytes (flatten (mark (tree .0)))) out)
-  unfolding walkT
-  walks out room =
-      marked-walks version1 able-1 noEnds noSlots noSlots rooms-1 (tree .0) (omega (arith, fine .count, fine .few)) (fine .is-form .good) low (fine .low) (read-written one input (tree .0) (able-1 .usual) bs reads) out (omega (arith, fine .count))
-
-  four : length rs ≤ 4 * n
-  four = omega (arith, shared-four today (tree .0) (made .0) (made .1), fine .count)
-
-  module _ (old′ : List ℕ) (same : length old′ ≡ length old) where
-    pub roomy : Roomy input old′
-    roomy = record { rows = n; long = fine .long; few = fine .few; room = omega (arith, fine .enough) }
-
-    says : Says version1 n old′ (accepted rs) (proposeT input old′)
-    unfolding proposeT walkedT
-    says =
-        let room = fine .enough in
-        let front = drop 8 (take (8 + 64 * n) old′) in
-        let size : length (take (8 + 64 * n) old′) ≡ 8 + 64 * n = length-take-le (8 + 64 * n) old′ (omega arith) in
-        let zeros : length (take (length body) noRows) ≡ length body = length-take-le (length body) noRows (omega (arith, no-rows, long, fine .few)) in
-        let W : Walks (ok (made .0)) front (walkT (rowsBytes (flatten (mark (tree .0)))) front) = subst (λ (m : Result (Scope × ℕ)). Walks m front (walkT (rowsBytes (flatten (mark (tree .0)))) front)) (made .1) (walks front (simp length-drop (omega arith))) in
-        rw (count, marks (take (length body) noRows) zeros)
-        (fills-accepted version1 able-1 old′ n (fine .few) (omega arith) (walkT (rowsBytes (flatten (mark (tree .0))))) rs (W .0) four (W .1) (W .2))
-
-  -- what the rules answer and leave
-  shared-accepts : shared base input (length old) ≡ accepted rs
-  shared-accepts = plan .answers ∙ ap accepted (sym (made .2))
-
-  leaves : sharedOutput base input old ≡ written (8 + 64 * n) (formBytes one rs) old
-  leaves =
-      planned-buffer base input old own plan
-      ∙ (subst (λ (s : Setting). written (plan .setting .version .header + 64 * rowCount (plan .setting .version) input) (formBytes (plan .setting) (plan .out)) old ≡ written (s .version .header + 64 * rowCount (s .version) input) (formBytes s (plan .out)) old) is-one refl
-      ∙ ap (λ (l : List Row). written (8 + 64 * n) (formBytes one l) old) (sym (made .2)))
-
-  own-left : output base input old ≡ written (8 + 64 * n) (formBytes one own) old
-  own-left = output-one one input old ∙ (unfold outputAfter in rw e)
-
-  own-short : length (formBytes one own) ≤ 8 + 64 * n
-  own-short =
-      let R = readings base base-usual input old bs own e in
-      let s : R .setting ≡ one = one-setting one (R .setting) input (R .asked-for) in
-      let f : length own ≤ 4 * n = subst (λ (v : Setting). length own ≤ 4 * rowCount (v .version) input) s (R .four) in
-      omega (arith, form-length one own (able-1 .usual))
-
-  -- THE PROPOSAL over what the resolver left
-  pub answers-shared : (a : Answer) (l : List ℕ) → (a & l) ≡ proposeT input (output base input old) → length (output base input old) ≡ length old → (meaning a ≡ ruled (shared base input (length old))) × (l ≡ sharedOutput base input old)
-  answers-shared a l p same =
-      let S : Says version1 n (output base input old) (accepted rs) (a & l) = subst (Says version1 n (output base input old) (accepted rs)) (sym p) (says (output base input old) same) in
-      let over : outputAfter one (accepted rs) (8 + 64 * n) (output base input old) ≡ written (8 + 64 * n) (formBytes one rs) (output base input old) = unfold outputAfter in refl in (
-        S .0 ∙ ap ruled (sym shared-accepts),
-        S .1 ∙ (over ∙ (ap (written (8 + 64 * n) (formBytes one rs)) own-left ∙ (over-written (8 + 64 * n) (formBytes one rs) (formBytes one own) old own-short ∙ sym leaves))),
-      )
-
-  -- ---- the check
-
-  -- in areas that are large enough
-  pub check-yes : (slots links : ℕ) → 2046 ≤ slots → 3070 ≤ links → checkAnswer base input (formBytes one rs) slots links ≡ yes
-  unfolding checkAnswer checkFor slotsOf linksOf if_then_else_
-  check-yes slots links a b =
-      let R = read-exactly one input (tree .0) .0 reads in
-      let v : verdict base input (formBytes one rs) ≡ yes = subst (λ (l : List Row). verdict base input (formBytes one l) ≡ yes) (sym (made .2)) (subst (λ (s : Setting). verdict base input (formBytes s (plan .out)) ≡ yes) is-one (plan .checked)) in
-      let p : ltb slots 2046 ≡ false = omega tests in
-      let q : ltb links 3070 ≡ false = omega tests in
-      rw (asks, R .counted, R .long, p, q) (judged input (formBytes one rs) one asks v)
-
-  -- what stands at the front
-  pub front-shared : (l : List ℕ) → l ≡ sharedOutput base input old → (rows : ℕ) → rows ≡ length rs → take (8 + 16 * rows) l ≡ formBytes one rs
-  front-shared l q rows c =
-      let f : length (formBytes one rs) ≡ 8 + 16 * length rs = form-length one rs (able-1 .usual) in
-      rw c (ap (take (8 + 16 * length rs)) (q ∙ leaves) ∙ take-written (8 + 64 * n) (8 + 16 * length rs) (formBytes one rs) old f)
-
-  -- how many rows are answered
-  pub rows-shared : ruled (shared base input (length old)) .plain .place ≡ length rs
-  rows-shared = rw shared-accepts
-
--- where there is no room nothing is accepted
-pub none-accepted : {X : Type 0} (input : List ℕ) (own : List Row) → answer base input 0 ≡ accepted own → X
-none-accepted input own e =
-    let t = admit-of one input 0 own e in
-    let room = admitted one input 0 (t .0) (t .1) .enough in
-    absurd (omega arith)
+pub said-yes : (v : Verdict) (w : checking.Verdict) (y : Bool) → checked.meaning v ≡ checked.ruled w → y ≡ saidYes (checked.meaning v) → y ≡ isYes w
+said-yes v w y e q = q ∙ (ap saidYes e ∙ ruled-yes w)

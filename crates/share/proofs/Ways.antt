@@ -4,7 +4,7 @@ use mathlib.Core.Bool.{Bool, true, false, _||_}
 use mathlib.Core.List.{List, [], _∷_, _++_}
 use native.Mathlib.Omega.{arith}
 use Prim.Native.Nat.{ℕ, _+_, _-_, _*_, _/_, _<_, _≤_}
-use lib.ListN.{length, getD, take, drop, replicate, length-drop}
+use lib.ListN.{length, getD, take, drop, replicate, length-drop, length-replicate}
 use lib.Dec.{ltb}
 use lib.Seq.{take-at, take-all, length-take-le}
 use borrow.Author.Tests.{ltb-false}
@@ -13,29 +13,29 @@ use mir.Val.{Fits}
 use Rattle.kit.specs.Out.{_&_}
 use Rattle.kit.proofs.Laws.{tests}
 use Rattle.rules.specs.Tools.{if_then_else_}
-use Rattle.rules.specs.Versions.{base}
-use Rattle.rules.specs.Rows.{Row}
+use Rattle.rules.specs.Versions.{version1, base}
+use Rattle.rules.specs.Tree.{flatten}
 use Rattle.rules.specs.Answer as rules
-use Rattle.rules.specs.Answer.{refused, accepted, answer, output}
+use Rattle.rules.specs.Answer.{refused, accepted, answer, rowsBytes, output}
+use Rattle.rules.specs.Laws.RowLaws.{Bytes}
 use Rattle.rules.specs.Laws.Demand3.{base-usual}
 use Rattle.read_form.specs.Laws.OutputLength.{output-length}
-use Rattle.checking.specs.Check as judged
 use Rattle.checking.specs.CheckAnswer.{slotsOf, linksOf, checkAnswer, cleared, tableAfter, indexAfter}
-use Rattle.sharing.specs.Sharing.{shared, sharedOutput}
+use Rattle.sharing.specs.Sharing.{mark, shared, sharedOutput}
 use Rattle.sharing.specs.Laws.SharedAccepted.{shared-refuses}
-use Rattle.sharing.specs.Laws.SharedBuffer.{refused-buffer}
 use Rattle.refusal.specs.declared.Refusal.{Refusal}
 use Rattle.limits.specs.Held.{setting}
 use Rattle.form.specs.Marked.{endsT}
 use Rattle.names.specs.Table.{Slot, emptySlot}
 use Rattle.index.specs.Indexed.{Holds}
 use Rattle.mark.specs.Marked.{markedT}
-use Rattle.resolver.specs.Meaning.{Said, meaning, ruled}
+use Rattle.resolver.specs.Meaning.{meaning, ruled}
 use Rattle.resolver.specs.Run.{Ran, noSlots, noEnds, walkT, fillT, before}
 use Rattle.resolver.specs.declared.run.Answer.{Answer}
 use Rattle.resolver.proofs.Bytes.{all-bytes}
 use Rattle.resolver.proofs.Starts.{served-start}
-use Rattle.moved.proofs.Agrees.{Counted, answer-counted}
+use Rattle.resolver.proofs.Root.{able-1}
+use Rattle.resolver.proofs.Laws.{rooms-1}
 use Rattle.claim_check.specs.Meaning as checked
 use Rattle.claim_check.proofs.Agrees.{table-cleared, index-cleared}
 use Rattle.claim_check.specs.declared.Verdict.{Verdict}
@@ -43,8 +43,8 @@ use Rattle.claim_check.specs.declared.Verdict.the-variants.{Yes, No, Refused as
 use Rattle.share.specs.Lent.{tooSmall, sharedWith, outputWith}
 use Rattle.share.specs.declared.Own.{Own}
 use Rattle.share.specs.Run as run
-use Rattle.share.specs.Run.{markT, walkedT, noRows, proposeT, Roomy, isYes, Large, Resolved}
-use Rattle.share.proofs.Agrees.{roomy, answers-shared, check-yes, front-shared, rows-shared, none-accepted}
+use Rattle.share.specs.Run.{proposeIn, markT, walkedT, noRows, proposeT, Roomy, isYes, saidYes, Large, Resolved}
+use Rattle.share.proofs.Agrees.{none-accepted, as-long, tree, roomy, marks, answers-shared, never-refused, own-resolved}
 
 -- ---- mark_form
 
@@ -74,36 +74,24 @@ proposed form out front r size e q =
 
 -- ---- front_of
 
-module _ (out : List ℕ) (rows : ℕ) where
-  pub front-all : length out < 8 + 16 * rows → out ≡ take (8 + 16 * rows) out
-  front-all h = sym (take-all (8 + 16 * rows) out (omega arith))
+module _ (out : List ℕ) (i header rows : ℕ) (e : header ≡ setting i .version .header) where
+  pub front-all : length out < header + 16 * rows → out ≡ take (setting i .version .header + 16 * rows) out
+  front-all h = sym (take-all (setting i .version .header + 16 * rows) out (omega arith))
 
--- ---- is_output
+  pub front-part : (l : List ℕ) → l ≡ take (header + 16 * rows) out → l ≡ take (setting i .version .header + 16 * rows) out
+  front-part l q = q ∙ ap (λ (n : ℕ). take (n + 16 * rows) out) e
 
-module _ (form claim : List ℕ) (slots links : ℕ) (v : Verdict) (e : checked.meaning v ≡ checked.ruled (checkAnswer base form claim slots links)) where
-  -- whether it says yes
-  abbrev says : checked.Said → Bool
-  says checked.yes = true
-  says (checked.no condition row) = false
-  says (checked.refused number place) = false
+-- ---- is_yes
 
-  ruled-yes : (w : judged.Verdict) → says (checked.ruled w) ≡ isYes w
-  unfolding isYes
-  ruled-yes judged.yes = refl
-  ruled-yes (judged.no condition row) = refl
-  ruled-yes (judged.refused number place carried) = refl
+module _ (v : Verdict) where
+  pub is-yes : v ≡ Yes → true ≡ saidYes (checked.meaning v)
+  is-yes q = rw q
 
-  told : says (checked.meaning v) ≡ isYes (checkAnswer base form claim slots links)
-  told = ap says e ∙ ruled-yes (checkAnswer base form claim slots links)
+  pub is-no : (condition row : ℕ) → v ≡ No condition row → false ≡ saidYes (checked.meaning v)
+  is-no condition row q = rw q
 
-  pub is-yes : v ≡ Yes → true ≡ isYes (checkAnswer base form claim slots links)
-  is-yes q = ap (λ (w : Verdict). says (checked.meaning w)) (sym q) ∙ told
-
-  pub is-no : (condition row : ℕ) → v ≡ No condition row → false ≡ isYes (checkAnswer base form claim slots links)
-  is-no condition row q = ap (λ (w : Verdict). says (checked.meaning w)) (sym q) ∙ told
-
-  pub is-refusal : (why : Refusal) → v ≡ NotJudged why → false ≡ isYes (checkAnswer base form claim slots links)
-  is-refusal why q = ap (λ (w : Verdict). says (checked.meaning w)) (sym q) ∙ told
+  pub is-refusal : (why : Refusal) → v ≡ NotJudged why → false ≡ saidYes (checked.meaning v)
+  is-refusal why q = rw q
 
 -- ---- is_small
 
@@ -149,7 +137,7 @@ module _ (input old : List ℕ) (slots links : ℕ) (b : Bool) (is : b ≡ tooSm
     where
       go : (a : rules.Answer) → answer base input 0 ≡ a → ruled (answer base input 0) ≡ ruled (shared base input 0)
       go (refused n z c) q = ap ruled (q ∙ sym (shared-refuses base input 0 n z c q))
-      go (accepted rs) q = none-accepted input rs q
+      go (accepted rs) q = none-accepted version1 able-1 input rs q
 
   pub small-answers : (r : Answer) → meaning r ≡ ruled (answer base input (length (take 0 old))) → meaning r ≡ ruled (sharedWith input (length old) slots links)
   unfolding sharedWith if_then_else_
@@ -163,70 +151,54 @@ module _ (input old : List ℕ) (slots links : ℕ) (b : Bool) (is : b ≡ tooSm
 
 -- ---- settle
 
-same : (input old : List ℕ) → length (output base input old) ≡ length old
-same input old = unfold output in output-length [] base base-usual input old
+-- the proposal of version 1, in tables that start empty
+in-version-1 : (form out : List ℕ) → proposeT form out ≡ proposeIn (setting 0) (markT (drop 8 form) (take (length (drop 8 form)) noRows)) noEnds noSlots noSlots form out
+unfolding proposeT walkedT walkT proposeIn
+in-version-1 form out = refl
 
-module _ (input now : List ℕ) (R : Resolved input now) (all : (i : ℕ) → Fits w8 (getD input i 0)) where
-  pub left-roomy : Roomy input now
-  left-roomy = roomy input (R .old) (all-bytes input all) (R .own) (R .accepts) now (ap length (R .left) ∙ same input (R .old))
+no-rows : length noRows ≡ 16368
+unfolding noRows
+no-rows = length-replicate {A = ℕ} 16368 0
+
+module _ (input now : List ℕ) (R : Resolved base input now) (all : (i : ℕ) → Fits w8 (getD input i 0)) where
+  bs : Bytes input
+  bs = all-bytes input all
+
+  pub left-roomy : Roomy (setting 0) input now
+  left-roomy = roomy version1 able-1 input (R .old) bs (R .own) (R .accepts) now (ap length (R .left) ∙ as-long version1 able-1 input (R .old))
+
+  marked-is : markT (drop 8 input) (take (length (drop 8 input)) noRows) ≡ rowsBytes (flatten (mark (tree version1 able-1 input (R .old) bs (R .own) (R .accepts) .0)))
+  unfolding markT run.rowsOf endsT
+  marked-is =
+      let a = rooms-1 .ends in
+      let b = rooms-1 .entered in
+      let d : length (drop 8 input) ≡ length input - 8 = length-drop 8 input in
+      let l : length (take (length (drop 8 input)) noRows) ≡ length (drop 8 input) = length-take-le (length (drop 8 input)) noRows (omega (arith, no-rows, d, left-roomy .long, left-roomy .few)) in
+      rw (marks version1 able-1 input (R .old) bs (R .own) (R .accepts) noEnds (take (length (drop 8 input)) noRows) noSlots a b l .answer)
 
   module _ (a : Answer) (l : List ℕ) (p : (a & l) ≡ proposeT input now) where
     pub shares : (meaning a ≡ ruled (shared base input (length (R .old)))) × (l ≡ sharedOutput base input (R .old))
-    shares = answers-shared input (R .old) (all-bytes input all) (R .own) (R .accepts) a l (p ∙ ap (proposeT input) (R .left)) (same input (R .old))
+    shares =
+        answers-shared version1 able-1 input (R .old) bs (R .own) (R .accepts) noEnds noSlots noSlots rooms-1 a l (markT (drop 8 input) (take (length (drop 8 input)) noRows)) marked-is
+        (p ∙ (in-version-1 input now ∙ ap (proposeIn (setting 0) (markT (drop 8 input) (take (length (drop 8 input)) noRows)) noEnds noSlots noSlots input) (R .left)))
 
     -- it is never refused
-    pub never-refused : (slots links : ℕ) → Large slots links → (rows : ℕ) (claim : List ℕ) (y : Bool) → rows ≡ meaning a .plain .place → claim ≡ take (8 + 16 * rows) l → y ≡ isYes (checkAnswer base input claim slots links) → y ≡ false → ⊥
-    unfolding isYes
-    never-refused slots links z rows claim y r c f e =
-        let bs = all-bytes input all in
-        let n = r ∙ (ap (λ (x : Said). x .plain .place) (shares .0) ∙ rows-shared input (R .old) bs (R .own) (R .accepts)) in
-        let t = check-yes input (R .old) bs (R .own) (R .accepts) slots links (z .slots-large) (z .links-large) in
-        let g : isYes (checkAnswer base input claim slots links) ≡ true = rw (c ∙ front-shared input (R .old) bs (R .own) (R .accepts) l (shares .1) rows n, t) in
-        let d : false ≡ true = sym e ∙ (f ∙ g) in
-        let u : _≡_ {A = ℕ} 0 1 = cc in
-        omega arith
+    pub refused-never : (slots links : ℕ) → Large slots links → (rows : ℕ) (claim : List ℕ) (y : Bool) → rows ≡ meaning a .plain .place → claim ≡ take (8 + 16 * rows) l → y ≡ isYes (checkAnswer base input claim slots links) → y ≡ false → ⊥
+    refused-never slots links z rows claim y r c f e =
+        never-refused version1 able-1 input (R .old) bs (R .own) (R .accepts) a l (shares .0) (shares .1) slots links (unfold slotsOf in z .slots-large) (unfold linksOf slotsOf in z .links-large) rows claim y r c f e
 
 -- ---- share_in
 
-module _ (input old now : List ℕ) (o : Own) (Q : run.Ran input old now o) where
-  -- the number is the rules'
-  number-is : (a : rules.Answer) → answer base input (length old) ≡ a → o .number ≡ ruled a .plain .number
-  number-is a q = Q .numbered ∙ ap (λ (x : Said). x .plain .number) (Q .answers ∙ ap ruled q)
+module _ (input old now : List ℕ) (o : Own) (Q : run.Ran base input old now o) (h : o .number ≡ 0) (all : (i : ℕ) → Fits w8 (getD input i 0)) (a : Answer) (l : List ℕ) (p : (a & l) ≡ proposeT input now) where
+  both : (meaning a ≡ ruled (shared base input (length old))) × (l ≡ sharedOutput base input old)
+  unfolding own-resolved
+  both = shares input now (own-resolved base input old now o Q h) all a l p
 
-  -- a refusal is the input's
-  refused-own : (o .number ≡ 0 → ⊥) → (n : ℕ) × (z : ℕ) × (c : List ℕ) × (answer base input (length old) ≡ refused n z c)
-  refused-own h = go (answer base input (length old)) refl
-    where
-      go : (a : rules.Answer) → answer base input (length old) ≡ a → (n : ℕ) × (z : ℕ) × (c : List ℕ) × (answer base input (length old) ≡ refused n z c)
-      go (refused n z c) q = (n, z, c, q)
-      go (accepted rs) q = absurd (h (number-is (accepted rs) q))
+  pub proposal-answers : meaning a ≡ ruled (shared base input (length old))
+  proposal-answers = both .0
 
-  pub own-answers : (o .number ≡ 0 → ⊥) → meaning (o .answer) ≡ ruled (shared base input (length old))
-  own-answers h = let q = refused-own h in Q .answers ∙ ap ruled (q .3 ∙ sym (shared-refuses base input (length old) (q .0) (q .1) (q .2) (q .3)))
-
-  pub own-leaves : (o .number ≡ 0 → ⊥) → now ≡ sharedOutput base input old
-  own-leaves h = let q = refused-own h in Q .leaves ∙ sym (refused-buffer base input old (q .0) (q .1) (q .2) (q .3))
-
-  -- and what is none has rows
-  accepted-own : o .number ≡ 0 → (rs : List Row) × (answer base input (length old) ≡ accepted rs)
-  accepted-own h = go (answer base input (length old)) refl (answer-counted base input (length old))
-    where
-      go : (a : rules.Answer) → answer base input (length old) ≡ a → Counted a → (rs : List Row) × (answer base input (length old) ≡ accepted rs)
-      go (refused n z c) q some = let x = number-is (refused n z c) q in absurd (omega (arith, x, h, some))
-      go (accepted rs) q some = (rs, q)
-
-  module _ (h : o .number ≡ 0) where
-    pub own-resolved : Resolved input now
-    own-resolved = let a = accepted-own h in record { old = old; own = a .0; accepts = a .1; left = Q .leaves }
-
-    module _ (all : (i : ℕ) → Fits w8 (getD input i 0)) (a : Answer) (l : List ℕ) (p : (a & l) ≡ proposeT input now) where
-      pub proposal-answers : meaning a ≡ ruled (shared base input (length old))
-      unfolding own-resolved
-      proposal-answers = shares input now own-resolved all a l p .0
-
-      pub proposal-leaves : l ≡ sharedOutput base input old
-      unfolding own-resolved
-      proposal-leaves = shares input now own-resolved all a l p .1
+  pub proposal-leaves : l ≡ sharedOutput base input old
+  proposal-leaves = both .1
 
 -- ---- share, where they are not
 

@@ -13,6 +13,7 @@ use mark::mark_rows;
 use names::Slot;
 use resolver::run::Answer;
 use resolver::run::fill;
+use resolver::run::header_size;
 use resolver::run::resolve;
 ghost use mathlib.Core.Path.{_≡_};
 ghost use Prim.Native.Nat.{_+_, _*_, _≤_};
@@ -21,10 +22,12 @@ ghost use Rattle.kit.specs.Out.{_&_};
 ghost use Rattle.rules.specs.Versions.{base};
 ghost use Rattle.checking.specs.CheckAnswer.{checkAnswer, cleared, tableAfter, indexAfter};
 ghost use Rattle.sharing.specs.Sharing.{shared, sharedOutput};
+ghost use Rattle.limits.specs.Held.{setting};
 ghost use Rattle.names.specs.Table.{emptySlot};
 ghost use Rattle.resolver.specs.Meaning.{meaning, ruled};
+ghost use Rattle.claim_check.specs.Meaning.{meaning as checked};
 ghost use Rattle.share.specs.Lent.{tooSmall, sharedWith, outputWith};
-ghost use Rattle.share.specs.Run.{markT, walkedT, proposeT, Roomy, isYes, Large, Resolved, Ran};
+ghost use Rattle.share.specs.Run.{markT, walkedT, proposeT, Roomy, isYes, saidYes, Large, Resolved, Ran};
 
 // ---- the proposal
 
@@ -51,7 +54,7 @@ fn walk_marked(rows: &[u8], marked: &mut [u8], front: &mut [u8]) -> Answer
 
 // Writes the proposal over what the resolver left.
 fn propose(form: &[u8], out: &mut [u8]) -> Answer
-    requires { ⌜ Roomy (now form) (now out) ⌝ }
+    requires { ⌜ Roomy (setting 0) (now form) (now out) ⌝ }
     ensures { λ r. ⌜ (r & now (out .exit)) ≡ proposeT (now (form .entry)) (now (out .entry)) ⌝ }
 {
     let mut marked = [0u8; 16368];
@@ -62,22 +65,22 @@ fn propose(form: &[u8], out: &mut [u8]) -> Answer
 
 // ---- the check
 
-// The form of so many rows at the front of the output.
-fn front_of(out: &[u8], rows: u32) -> &[u8]
-    ensures { λ r. ⌜ now r ≡ take (8 + 16 * rows) (now (out .entry)) ⌝ }
+// The form of so many rows at the front of the output, under the setting at place i.
+pub fn front_of(out: &[u8], i: usize, rows: u32) -> &[u8]
+    ensures { λ r. ⌜ now r ≡ take (setting i .version .header + 16 * rows) (now (out .entry)) ⌝ }
 {
-    let size = HEADER + 16 * (rows as usize);
+    let size = header_size(i) + 16 * (rows as usize);
     if out.len() < size {
         return out;
     }
     &out[..size]
 }
 
-// Whether a claim is an output of the form. The areas are handed back empty.
-fn is_output(form: &[u8], claim: &[u8], table: &mut [Slot], index: &mut [u16]) -> bool
-    ensures { λ r. ⌜ (r ≡ isYes (checkAnswer base (now (form .entry)) (now (claim .entry)) (length (now (table .entry))) (length (now (index .entry))))) × (now (table .exit) ≡ tableAfter base (now (form .entry)) (now (table .entry))) × (now (index .exit) ≡ indexAfter base (now (form .entry)) (now (index .entry))) ⌝ }
+// Whether a verdict accepts.
+pub fn is_yes(verdict: Verdict) -> bool
+    ensures { λ r. ⌜ r ≡ saidYes (checked verdict) ⌝ }
 {
-    match check(form, claim, table, index) {
+    match verdict {
         Verdict::Yes => true,
         Verdict::No {
             condition: _,
@@ -85,6 +88,13 @@ fn is_output(form: &[u8], claim: &[u8], table: &mut [Slot], index: &mut [u16]) -
         } => false,
         Verdict::Refused(_) => false,
     }
+}
+
+// Whether a claim is an output of the form. The areas are handed back empty.
+fn is_output(form: &[u8], claim: &[u8], table: &mut [Slot], index: &mut [u16]) -> bool
+    ensures { λ r. ⌜ (r ≡ isYes (checkAnswer base (now (form .entry)) (now (claim .entry)) (length (now (table .entry))) (length (now (index .entry))))) × (now (table .exit) ≡ tableAfter base (now (form .entry)) (now (table .entry))) × (now (index .exit) ≡ indexAfter base (now (form .entry)) (now (index .entry))) ⌝ }
+{
+    is_yes(check(form, claim, table, index))
 }
 
 // ---- the areas
@@ -112,7 +122,7 @@ fn clear(table: &mut [Slot], index: &mut [u16])
 // ---- the run
 
 // The number of a refusal, and 0 of none.
-fn number_of(answer: Answer) -> u32
+pub fn number_of(answer: Answer) -> u32
     ensures { λ r. ⌜ r ≡ meaning answer .plain .number ⌝ }
 {
     match answer {
@@ -122,7 +132,7 @@ fn number_of(answer: Answer) -> u32
 }
 
 // How many rows were written; a refusal's place.
-fn rows_of(answer: Answer) -> u32
+pub fn rows_of(answer: Answer) -> u32
     ensures { λ r. ⌜ r ≡ meaning answer .plain .place ⌝ }
 {
     match answer {
@@ -133,25 +143,25 @@ fn rows_of(answer: Answer) -> u32
 
 // The proposal, once it is seen to be an output of the form.
 fn settle(form: &[u8], out: &mut [u8], table: &mut [Slot], index: &mut [u16]) -> Answer
-    requires { ⌜ Resolved (now form) (now out) × Large (length (now table)) (length (now index)) ⌝ }
+    requires { ⌜ Resolved base (now form) (now out) × Large (length (now table)) (length (now index)) ⌝ }
     ensures { λ r. ⌜ ((r & now (out .exit)) ≡ proposeT (now (form .entry)) (now (out .entry))) × (now (table .exit) ≡ tableAfter base (now (form .entry)) (now (table .entry))) × (now (index .exit) ≡ indexAfter base (now (form .entry)) (now (index .entry))) ⌝ }
 {
     let proposed = propose(form, out);
-    if is_output(form, front_of(out, rows_of(proposed)), table, index) {
+    if is_output(form, front_of(out, 0, rows_of(proposed)), table, index) {
         return proposed;
     }
     resolve(form, out)
 }
 
 // What the resolver answers: the number of its refusal, 0 of none.
-struct Own {
-    number: u32,
-    answer: Answer,
+pub struct Own {
+    pub number: u32,
+    pub answer: Answer,
 }
 
 // The resolver's own run.
 fn resolve_own(form: &[u8], out: &mut [u8]) -> Own
-    ensures { λ r. ⌜ Ran (now (form .entry)) (now (out .entry)) (now (out .exit)) r ⌝ }
+    ensures { λ r. ⌜ Ran base (now (form .entry)) (now (out .entry)) (now (out .exit)) r ⌝ }
 {
     let answer = resolve(form, out);
     let number = number_of(answer);

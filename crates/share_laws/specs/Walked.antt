@@ -1,6 +1,7 @@
 -- The walk over the marked rows of a form writes what the rules' steps make of the marked tree: under any version that the walk is able
 -- to take, in tables of any size that is enough.
 use mathlib.Core.Path.{_≡_, refl, sym, ap₂, _∙_}
+use mathlib.Core.Bool.{false}
 use mathlib.Core.Option.{some}
 use mathlib.Core.List.{List, [], map, append-nil}
 use native.Mathlib.Omega.{arith}
@@ -12,7 +13,7 @@ use Rattle.rules.specs.Good.{GoodScope, height}
 use Rattle.rules.specs.Readings.{fieldsOf}
 use Rattle.rules.specs.Rules.{resolve}
 use Rattle.rules.specs.Answer.{rowsBytes, rowsOf}
-use Rattle.rules.specs.Laws.ToolLaws.{All}
+use Rattle.rules.specs.Laws.ToolLaws.{All, false-not}
 use Rattle.rules.specs.Laws.RowLaws.{Written}
 use Rattle.rules.specs.Laws.Meaning.Names.{LowScope, low-scope}
 use Rattle.rules.specs.Laws.Output.OutFits.{outName}
@@ -33,7 +34,7 @@ use Rattle.agree.specs.RootAgrees.{inside-agrees, begun-alone}
 use Rattle.resolver.specs.Run.{walkIn}
 use Rattle.resolver.proofs.Root.{under, Able, Walks, Rooms, seen}
 
-module _ (v : Version) (able : Able v) (ends : List ℕ) (entered names : List Slot) (rooms : Rooms v ends entered names) where
+module _ (v : Version) (able : Able (under v)) (ends : List ℕ) (entered names : List Slot) (rooms : Rooms v ends entered names) where
   sizes : Sizes
   sizes = record { entered = length entered; names = length names; scopes = v .scopes }
 
@@ -87,5 +88,5 @@ module _ (v : Version) (able : Able v) (ends : List ℕ) (entered names : List S
     marked-walks out room =
         let L = marked-like t in
         seen (propose today t) out _
-        (inside-agrees sizes rows (endsTo (v .scopes) rows ends) (mark t) fits stands ends-in (Marks.like-well _ today t (mark t) L good) (Marks.like-declared _ t (mark t) L (low-scope t low)) [] (v .scopes) 0 0 entered names (replicate (v .scopes) noScope) deep
-        (begun-alone sizes rows (endsTo (v .scopes) rows ends) (mark t) fits (omega (arith, rooms .names, marked-count)) deep entered names (replicate (v .scopes) noScope) sized stands) out (omega (arith, many)))
+        (inside-agrees today (able .heap) sizes rows (endsTo (v .scopes) rows ends) (mark t) fits stands ends-in (Marks.like-well _ today t (mark t) L good) (Marks.like-declared _ t (mark t) L (low-scope t low)) (λ e. false-not e) [] (v .scopes) 0 0 entered names (replicate (v .scopes) noScope) deep
+        (begun-alone sizes rows (endsTo (v .scopes) rows ends) (mark t) fits (omega (arith, rooms .names, marked-count)) deep entered names (replicate (v .scopes) noScope) sized false stands) out (omega (arith, many)))

@@ -18,23 +18,23 @@ use Rattle.rules.specs.Versions.{base}
 use Rattle.stores.specs.Zeros.{zeroFrom}
 use Rattle.limits.specs.declared.Limits.{Limits}
 use Rattle.limits.specs.Held.{settingIn, limitsOf, setting}
-use Rattle.limits.proofs.Laws.{stand-for}
+use Rattle.limits.proofs.Laws.{few-rows, stand-for}
 use Rattle.names.specs.Table.{Slot, emptySlot}
 use Rattle.index.specs.Indexed.{Holds}
 use Rattle.index.proofs.Storey.{holds-none}
 use Rattle.checking.specs.CheckAnswer.{cleared}
 use Rattle.claim_rows.specs.Left.{rowsAt}
-use Rattle.back_notes.specs.Note.{Note, noNote}
+use Rattle.back_notes.specs.Note.{Note}
 use Rattle.back_notes.specs.Number.{notesT}
 use Rattle.back_notes.specs.Names.{namesT}
 use Rattle.back_rows.specs.Below.{below}
 use Rattle.back_rows.specs.Write.{startT, backT}
 use Rattle.resolver.specs.declared.run.Answer.{Answer}
 use Rattle.resolver.specs.declared.run.Answer.the-variants.{Accepted}
-use Rattle.unresolve.specs.Restored.{noNotes, notedT, rowsT, headedT, restoreT}
+use Rattle.unresolve.specs.Restored.{notedT, rowsT, headedT, restoreT}
 use Rattle.unresolve.specs.Run.{refusedT, giveT}
 
--- ---- restore_rows
+-- ---- restore_rows, restore_first
 
 pub empty-holds : Holds (replicate 1024 emptySlot) (replicate 2048 0) 0
 empty-holds =
@@ -42,14 +42,19 @@ empty-holds =
     let n : 2048 ≡ 1024 + length (replicate 1024 emptySlot) = omega arith in
     subst (λ (k : ℕ). Holds (replicate 1024 emptySlot) (replicate k 0) 0) (sym n) (holds-none (replicate 1024 emptySlot) (replicate 2048 0) (omega arith))
 
-pub rows-restored : (rows out o : List ℕ) (n₁ n₂ : List Note) (r : ℕ) → n₁ ≡ sets (replicate 4092 noNote) 0 (notesT 0 [] [] (rowsAt rows 0)) → n₂ ≡ namesT (length (replicate 1024 emptySlot)) rows n₁
-    → (r & o) ≡ backT (below rows n₂ (length rows / 16)) (startT (length out / 16)) out → (r & o) ≡ rowsT rows out
+pub rows-restored : (slots : ℕ) (rows out o : List ℕ) (n₀ n₁ n₂ : List Note) (r : ℕ) → n₁ ≡ sets n₀ 0 (notesT 0 [] [] (rowsAt rows 0)) → n₂ ≡ namesT slots rows n₁
+    → (r & o) ≡ backT (below rows n₂ (length rows / 16)) (startT (length out / 16)) out → (r & o) ≡ rowsT slots n₀ rows out
 unfolding rowsT notedT
-rows-restored rows out o n₁ n₂ r p q w =
-    let e : length (replicate 1024 emptySlot) ≡ 1024 = length-replicate 1024 emptySlot in
-    rw (q, p, e) at w
+rows-restored slots rows out o n₀ n₁ n₂ r p q w = rw (q, p) at w
 
--- ---- restore
+-- ---- most_rows, restore
+
+module _ (i : ℕ) (l : Limits) (e : l ≡ limitsOf (setting i)) where
+  pub rows-are : l .rows ≡ setting i .version .rows
+  rows-are = ap (λ (x : Limits). x .rows) e
+
+  pub rows-few : l .rows ≤ 16383
+  rows-few = omega (arith, rows-are, few-rows i)
 
 behind : (k : ℕ) (l : List ℕ) → take (length l - k) (drop k l) ≡ drop k l
 behind k l = take-all (length l - k) (drop k l) (simp length-drop (omega arith))
@@ -64,23 +69,24 @@ put-back k front body = take k front ++ (body ++ drop (length front - k) (drop k
 put-back-is : (k : ℕ) (front body : List ℕ) → put-back k front body ≡ take k front ++ body
 put-back-is k front body = rw (nothing-behind k front, append-nil)
 
-headed : (front : List ℕ) (to : ℕ) (body o : List ℕ) (count at : ℕ) → count ≡ 1023 - to → at ≡ 16 * (1023 - count) → o ≡ sets (drop at (front ++ body)) 0 (headerBytes (setting 0) count)
-    → (at & take at (front ++ body) ++ o) ≡ headedT front (to & body)
+headed : (i : ℕ) (front : List ℕ) (to : ℕ) (body o : List ℕ) (most count at : ℕ) → most ≡ setting i .version .rows → count ≡ most - to → at ≡ 16 * (most - count)
+    → o ≡ sets (drop at (front ++ body)) 0 (headerBytes (setting i) count) → (at & take at (front ++ body) ++ o) ≡ headedT i front (to & body)
 unfolding headedT
-headed front to body o count at c a e = rw (e, a, c)
+headed i front to body o most count at m c a e = rw (e, a, c, m)
 
-pub restored-whole : (rows area body o : List ℕ) (to count : ℕ) (l : Limits) → (to & body) ≡ rowsT rows (take (length area - 8) (drop 8 area)) → count ≡ 1023 - to → l ≡ limitsOf (setting 0)
-    → o ≡ sets (take (length (put-back 8 area body) - 16 * (1023 - count)) (drop (16 * (1023 - count)) (put-back 8 area body))) 0 (headerBytes (settingIn l) count)
-    → (16 * (1023 - count) & put-back (16 * (1023 - count)) (put-back 8 area body) o) ≡ restoreT rows area
-unfolding restoreT
-restored-whole rows area body o to count l w c e p =
-    let at = 16 * (1023 - count) in
-    let a = put-back 8 area body in
-    let is = put-back-is 8 area body in
-    let o-is : o ≡ sets (drop at (take 8 area ++ body)) 0 (headerBytes (setting 0) count) = p ∙ rw (behind at a, is, e, stand-for 0) in
-    let w′ : (to & body) ≡ rowsT rows (drop 8 area) = w ∙ ap (rowsT rows) (behind 8 area) in
-    let put : (at & put-back at a o) ≡ headedT (take 8 area) (to & body) = rw (put-back-is at a o, is) (headed (take 8 area) to body o count at c refl o-is) in
-    put ∙ ap (headedT (take 8 area)) w′
+module _ (i slots : ℕ) (noted : List Note) (rows area body o : List ℕ) (header most to count : ℕ) (l : Limits) (is-header : header ≡ setting i .version .header) (is-most : most ≡ setting i .version .rows) where
+  pub restored-whole : (to & body) ≡ rowsT slots noted rows (take (length area - header) (drop header area)) → count ≡ most - to → l ≡ limitsOf (setting i)
+      → o ≡ sets (take (length (put-back header area body) - 16 * (most - count)) (drop (16 * (most - count)) (put-back header area body))) 0 (headerBytes (settingIn l) count)
+      → (16 * (most - count) & put-back (16 * (most - count)) (put-back header area body) o) ≡ restoreT i slots noted rows area
+  unfolding restoreT
+  restored-whole w c e p =
+      let at = 16 * (most - count) in
+      let a = put-back header area body in
+      let is = put-back-is header area body in
+      let o-is : o ≡ sets (drop at (take header area ++ body)) 0 (headerBytes (setting i) count) = p ∙ rw (behind at a, is, e, stand-for i) in
+      let w′ : (to & body) ≡ rowsT slots noted rows (drop header area) = w ∙ ap (rowsT slots noted rows) (behind header area) in
+      let put : (at & put-back at a o) ≡ headedT i (take header area) (to & body) = rw (put-back-is at a o, is) (headed i (take header area) to body o most count at is-most c refl o-is) in
+      put ∙ ap (headedT i (take header area)) w′ ∙ ap (λ (h : ℕ). headedT i (take h area) (rowsT slots noted rows (drop h area))) is-header
 
 pub ruleset restoring = (rows-restored, restored-whole, needs)
 
@@ -131,14 +137,14 @@ resolves-said input claim again a₁ a₂ r p q e = rw (q, p) at e
 pub unmark-none : (l : List ℕ) → length l ≤ 0 → l ≡ set l 0 0
 unmark-none l h = sym (set-out l 0 0 h)
 
-module _ (input out : List ℕ) where
-  pub give-short : (r : Answer) → length out < length input → r ≡ refusedT 3 → (r & out) ≡ giveT input out
+module _ (i : ℕ) (input out : List ℕ) where
+  pub give-short : (r : Answer) → length out < length input → r ≡ refusedT 3 → (r & out) ≡ giveT i input out
   unfolding giveT pick
   give-short r h e = rw (e, lt-ltb (length out) (length input) h)
 
-  pub give-all : (o : List ℕ) → length input ≤ length out → o ≡ sets out 0 input → (Accepted (length input / 16) & o) ≡ giveT input out
+  pub give-all : (header : ℕ) (o : List ℕ) → header ≡ setting i .version .header → length input ≤ length out → o ≡ sets out 0 input → (Accepted ((length input - header) / 16) & o) ≡ giveT i input out
   unfolding giveT pick
-  give-all o h e = rw (e, le-ltb (length out) (length input) h)
+  give-all header o q h e = rw (e, q, le-ltb (length out) (length input) h)
 
 pub ruleset giving = (give-short, give-all, unmark-none, needs)
 

@@ -1,4 +1,4 @@
--- The restored form, as the code puts it.
+-- The restored form of the setting at place i, as the code puts it: in notes that are lent, with a table of so many slots.
 use mathlib.Core.List.{List, [], _++_}
 use Prim.Native.Nat.{ℕ, _-_, _*_, _/_}
 use lib.ListN.{length, take, drop, replicate}
@@ -14,21 +14,24 @@ use Rattle.back_rows.specs.Below.{below}
 use Rattle.back_rows.specs.Restore.{Wrote}
 use Rattle.back_rows.specs.Write.{startT, backT}
 
+-- those of version 1, which start empty
 abbrev pub noNotes : List Note
 noNotes = replicate 4092 noNote
 
 -- the notes after both passes
-unfoldable pub notedT : (rows : List ℕ) → List Note
-notedT rows = namesT 1024 rows (sets noNotes 0 (notesT 0 [] [] (rowsAt rows 0)))
+unfoldable pub notedT : (slots : ℕ) (noted : List Note) (rows : List ℕ) → List Note
+notedT slots noted rows = namesT slots rows (sets noted 0 (notesT 0 [] [] (rowsAt rows 0)))
 
-unfoldable pub rowsT : (rows out : List ℕ) → Wrote
-rowsT rows out = backT (below rows (notedT rows) (length rows / 16)) (startT (length out / 16)) out
+unfoldable pub rowsT : (slots : ℕ) (noted : List Note) (rows out : List ℕ) → Wrote
+rowsT slots noted rows out = backT (below rows (notedT slots noted rows) (length rows / 16)) (startT (length out / 16)) out
 
 -- `front` is what stands before the rows: the header overwrites the last of it
-unfoldable pub headedT : (front : List ℕ) → Wrote → Out ℕ (List ℕ)
-headedT front (to & body) =
-    let at = 16 * (1023 - (1023 - to)) in
-    at & take at (front ++ body) ++ sets (drop at (front ++ body)) 0 (headerBytes (setting 0) (1023 - to))
+unfoldable pub headedT : (i : ℕ) (front : List ℕ) → Wrote → Out ℕ (List ℕ)
+headedT i front (to & body) =
+    let count = setting i .version .rows - to in
+    let at = 16 * (setting i .version .rows - count) in
+    at & take at (front ++ body) ++ sets (drop at (front ++ body)) 0 (headerBytes (setting i) count)
 
-unfoldable pub restoreT : (rows area : List ℕ) → Out ℕ (List ℕ)
-restoreT rows area = headedT (take 8 area) (rowsT rows (drop 8 area))
+unfoldable pub restoreT : (i slots : ℕ) (noted : List Note) (rows area : List ℕ) → Out ℕ (List ℕ)
+restoreT i slots noted rows area =
+    headedT i (take (setting i .version .header) area) (rowsT slots noted rows (drop (setting i .version .header) area))

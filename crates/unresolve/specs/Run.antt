@@ -1,16 +1,17 @@
--- The way back as the code goes.
+-- The way back as the code goes, under the setting at place i.
 use mathlib.Core.Path.{_≡_}
 use mathlib.Core.Option.{none, some}
-use mathlib.Core.List.{List}
-use Prim.Native.Nat.{ℕ, _/_, _≤_}
+use mathlib.Core.List.{List, [], _∷_}
+use Prim.Native.Nat.{ℕ, _+_, _-_, _*_, _/_, _≤_}
 use lib.Dec.{ltb}
 use lib.ListN.{length, drop}
 use lib.Seq.{sets}
 use Rattle.kit.specs.Pick.{pick}
 use Rattle.kit.specs.Out.{Out, _&_}
-use Rattle.rules.specs.Versions.{base}
+use Rattle.rules.specs.Versions.{Setting}
 use Rattle.unresolving.specs.BackAnswer.{back}
 use Rattle.refusal.specs.Refusals.{refusalAt, untold}
+use Rattle.limits.specs.Held.{setting}
 use Rattle.resolver.specs.declared.run.Answer.{Answer}
 use Rattle.resolver.specs.declared.run.Answer.the-variants.{Accepted, Refused}
 use Rattle.unresolve.specs.declared.run.Back.{Back}
@@ -19,13 +20,20 @@ use Rattle.unresolve.specs.declared.run.Back.the-variants.{Nothing, From
 abbrev pub refusedT : (number : ℕ) → Answer
 refusedT number = Refused (refusalAt number 0) untold
 
--- what was found is what the rules give
-unfoldable pub Came : Back → (claim area : List ℕ) → Type 0
-Came Nothing claim area = back base claim ≡ none
-Came (From at) claim area = (back base claim ≡ some (drop at area)) × (at ≤ 16368) × (length area ≡ 16376)
+-- that setting, and no other
+abbrev pub alone : (i : ℕ) → List Setting
+alone i = setting i ∷ []
 
-unfoldable pub giveT : (input out : List ℕ) → Out Answer (List ℕ)
-giveT input out = pick (ltb (length out) (length input)) (refusedT 3 & out) (Accepted (length input / 16) & sets out 0 input)
+-- what was found is what the rules give
+unfoldable pub Came : (i : ℕ) → Back → (claim area : List ℕ) → Type 0
+Came i Nothing claim area = back (alone i) claim ≡ none
+Came i (From at) claim area =
+    (back (alone i) claim ≡ some (drop at area)) × (at ≤ 16 * setting i .version .rows) × (length area ≡ setting i .version .header + 16 * setting i .version .rows)
+
+unfoldable pub giveT : (i : ℕ) (input out : List ℕ) → Out Answer (List ℕ)
+giveT i input out =
+    pick (ltb (length out) (length input)) (refusedT 3 & out)
+    (Accepted ((length input - setting i .version .header) / 16) & sets out 0 input)
 
 -- an area behind its front: the front is worked in, and the rest stays
 pub record Kept (size : ℕ) (old new : List ℕ) : Type 0 where

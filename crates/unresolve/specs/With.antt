@@ -11,10 +11,10 @@ use Rattle.unresolving.specs.BackAnswer.{Returned, refused, backAnswer, over}
 
 -- ---- their fixed sizes: an input of the most rows, and the share of the output that it has
 
-unfoldable pub inputSize : Version → ℕ
+abbrev pub inputSize : Version → ℕ
 inputSize v = v .header + 16 * v .rows
 
-unfoldable pub outputSize : Version → ℕ
+abbrev pub outputSize : Version → ℕ
 outputSize v = v .header + 64 * v .rows
 
 -- ---- the answer: an area that is too small is refusal 3, ahead of all else

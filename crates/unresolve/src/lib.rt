@@ -1,3 +1,3 @@
 // Gives an input form back for a resolved form of version 1.
-mod restore;
+pub mod restore;
 pub mod run;

@@ -1,5 +1,5 @@
 // The whole way back: what is restored is given only if it resolves to the very bytes of the resolved form.
-use crate::restore::restore;
+use crate::restore::restore_first;
 use copy::copy;
 use form::header::HEADER;
 use refusal::ROOM;
@@ -8,6 +8,7 @@ use refusal::Told;
 use resolver::run::Answer;
 use resolver::run::resolve;
 use stores::zero_from;
+use whole_form::header::header_at;
 use whole_form::read::Form;
 use whole_form::read::read_claim;
 ghost use mathlib.Core.Path.{_≡_};
@@ -19,16 +20,17 @@ ghost use Rattle.rules.specs.Versions.{base};
 ghost use Rattle.rules.specs.Laws.RowLaws.{Bytes};
 ghost use Rattle.checking.specs.CheckAnswer.{cleared};
 ghost use Rattle.unresolving.specs.BackAnswer.{backAnswer, backOutput};
+ghost use Rattle.limits.specs.Held.{setting};
 ghost use Rattle.resolver.specs.Meaning.{meaning};
 ghost use Rattle.unresolve.specs.Meaning.{returned};
-ghost use Rattle.unresolve.specs.With.{inputSize, outputSize, backWith, outWith, restoredAfter, againAfter};
+ghost use Rattle.unresolve.specs.With.{backWith, outWith, restoredAfter, againAfter};
 ghost use Rattle.unresolve.specs.Run.{refusedT, Came, giveT, Kept};
 
 // The setting in force.
 const FIRST: usize = 0;
 
 // The refusal of bytes that are no input's output.
-const NO_INPUT: u32 = 14;
+pub const NO_INPUT: u32 = 14;
 
 // How many bytes an input of the most rows has, and the output that it may have.
 const RESTORED: usize = 16376;
@@ -38,7 +40,7 @@ const AGAIN: usize = 65480;
 // ---- held to the resolver
 
 // Whether the bytes begin with these.
-fn begins_with(bytes: &[u8], front: &[u8]) -> bool
+pub fn begins_with(bytes: &[u8], front: &[u8]) -> bool
     ensures { λ r. ⌜ r ≡ sameNumbers (take (length (now (front .entry))) (now (bytes .entry))) (now (front .entry)) ⌝ }
 {
     if bytes.len() < front.len() {
@@ -55,7 +57,7 @@ fn begins_with(bytes: &[u8], front: &[u8]) -> bool
 }
 
 // Takes the mark of a form away.
-fn unmark(area: &mut [u8])
+pub fn unmark(area: &mut [u8])
     ensures { λ _. ⌜ now (area .exit) ≡ set (now (area .entry)) 0 0 ⌝ }
 {
     if 0 < area.len() {
@@ -82,12 +84,12 @@ pub enum Back {
 // Restores an input in the area, and says whether it is one.
 fn find_input(form: &[u8], restored: &mut [u8], again: &mut [u8]) -> Back
     requires { ⌜ (length (now restored) ≡ 16376) × (length (now again) ≡ 65480) ⌝ }
-    ensures { λ r. ⌜ Came r (now (form .entry)) (now (restored .exit)) ⌝ }
+    ensures { λ r. ⌜ Came 0 r (now (form .entry)) (now (restored .exit)) ⌝ }
 {
     match read_claim(form, FIRST) {
         Form::Refused(_) => Back::Nothing,
         Form::Whole(_) => {
-            let at = restore(&form[HEADER..], restored);
+            let at = restore_first(&form[HEADER..], restored);
             if resolves_to(&restored[at..], form, again) {
                 return Back::From(at);
             }
@@ -99,22 +101,23 @@ fn find_input(form: &[u8], restored: &mut [u8], again: &mut [u8]) -> Back
 // ---- the answer
 
 // A refusal at place 0.
-fn refused(number: u32) -> Answer
+pub fn refused(number: u32) -> Answer
     ensures { λ r. ⌜ r ≡ refusedT number ⌝ }
 {
     Answer::Refused(Refusal { number, place: 0 }, Told { space: 0, first: 0 })
 }
 
-// Writes the input to the front of the output, if there is room for it.
-fn give(input: &[u8], out: &mut [u8]) -> Answer
-    requires { ⌜ length (now input) ≤ 16376 ⌝ }
-    ensures { λ r. ⌜ (r & now (out .exit)) ≡ giveT (now (input .entry)) (now (out .entry)) ⌝ }
+// Writes an input of the setting at place i to the front of the output, if there is room for it.
+pub fn give(i: usize, input: &[u8], out: &mut [u8]) -> Answer
+    requires { ⌜ (setting i .version .header ≤ length (now input)) × (length (now input) ≤ 262144) ⌝ }
+    ensures { λ r. ⌜ (r & now (out .exit)) ≡ giveT i (now (input .entry)) (now (out .entry)) ⌝ }
 {
     if out.len() < input.len() {
         return refused(ROOM);
     }
+    let rows = (input.len() - header_at(i)) / 16;
     copy(input, out, 0);
-    Answer::Accepted((input.len() / 16) as u32)
+    Answer::Accepted(rows as u32)
 }
 
 // The way back in areas of these sizes.
@@ -124,7 +127,7 @@ fn run_in(form: &[u8], out: &mut [u8], restored: &mut [u8], again: &mut [u8]) ->
 {
     match find_input(form, restored, again) {
         Back::Nothing => refused(NO_INPUT),
-        Back::From(at) => give(&restored[at..], out),
+        Back::From(at) => give(FIRST, &restored[at..], out),
     }
 }
 
@@ -142,7 +145,7 @@ fn decide(form: &[u8], out: &mut [u8], restored: &mut [u8], again: &mut [u8]) ->
 }
 
 // The front of an area becomes zero, all of it where it is shorter.
-fn clear(area: &mut [u8], size: usize)
+pub fn clear(area: &mut [u8], size: usize)
     ensures { λ _. ⌜ now (area .exit) ≡ cleared size 0 (now (area .entry)) ⌝ }
 {
     if area.len() < size {

@@ -9,14 +9,16 @@ pub const FILLING: u8 = 165;
 // Every buffer of bytes is the front of one as long as this.
 pub type Buffer = [u8; 65536];
 
+// What a byte is that is not written, by whether it is cleared.
+fn byte_at(i: usize, cleared: usize) -> u8 {
+    if i < cleared { 0 } else { FILLING }
+}
+
 // Whether a buffer has the first `long` of the bytes that are written, zeros up to `cleared`, and is as it was beyond.
 fn holds(held: &Buffer, written: &Buffer, long: usize, cleared: usize) -> bool {
     let mut i = 0;
     while i < 65536 {
-        let mut byte = FILLING;
-        if i < cleared {
-            byte = 0;
-        }
+        let mut byte = byte_at(i, cleared);
         if i < long {
             byte = written[i];
         }

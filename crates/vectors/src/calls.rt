@@ -1,17 +1,21 @@
 // Each function is called as its vector says, and held to what the vector states.
+use crate::areas::numbers_in;
 use crate::buffers::FILLING;
 use crate::buffers::is_left;
 use crate::head;
 use crate::head::Head;
 use crate::head::is_answer;
+use crate::head::number_in;
 use crate::head::word;
 use crate::lent::check;
 use crate::lent::resolve_told;
-use crate::lent::resolve_with;
+use crate::lent::share;
+use crate::steps::resolve_with;
 use ferhevok::back::wnt_unresolve;
 use ferhevok::bindings::wnt_sheet;
 use ferhevok::builds::wnt_compare;
 use ferhevok::in_place::wnt_mend;
+use ferhevok::members::wnt_batch;
 use ferhevok::members::wnt_meant;
 use ferhevok::members::wnt_member;
 use ferhevok::numbers::wnt_moved;
@@ -81,21 +85,52 @@ fn with_two(head: &Head, first: &[u8], second: &[u8], third: &[u8]) -> bool {
     is_left(head, head::FIRST, &out) & is_left(head, head::SECOND, &other) & is_answer(head, answer)
 }
 
+// The lengths of members that an input states, one more than there may be.
+fn lengths_in(stated: &[u8]) -> [u32; 9] {
+    [
+        number_in(stated, 0),
+        number_in(stated, 4),
+        number_in(stated, 8),
+        number_in(stated, 12),
+        number_in(stated, 16),
+        number_in(stated, 20),
+        number_in(stated, 24),
+        number_in(stated, 28),
+        number_in(stated, 32),
+    ]
+}
+
+fn call_batch(
+    prelude: &[u8],
+    members: &[u8],
+    stated: &[u8],
+    out: &mut [u8],
+    other: &mut [u8],
+    last: &mut [u8],
+) -> u64 {
+    let lengths = lengths_in(stated);
+    let count = numbers_in((stated.len() / 4) as u64, &lengths);
+    wnt_batch(prelude, members, &lengths[..count], out, other, last)
+}
+
 // Calls a function that is lent three.
 fn call_with_three(
     head: &Head,
-    form: &[u8],
+    first: &[u8],
+    second: &[u8],
+    third: &[u8],
     out: &mut [u8],
     other: &mut [u8],
     last: &mut [u8],
 ) -> u64 {
     match word(head, head::FUNCTION) {
-        4 => wnt_moved(form, out, other, last),
-        _ => wnt_unresolve(form, out, other, last),
+        4 => wnt_moved(first, out, other, last),
+        8 => wnt_unresolve(first, out, other, last),
+        _ => call_batch(first, second, third, out, other, last),
     }
 }
 
-fn with_three(head: &Head, form: &[u8]) -> bool {
+fn with_three(head: &Head, first: &[u8], second: &[u8], third: &[u8]) -> bool {
     let mut out = [FILLING; 65536];
     let mut other = [FILLING; 65536];
     let mut last = [FILLING; 65536];
@@ -104,7 +139,9 @@ fn with_three(head: &Head, form: &[u8]) -> bool {
     let three = io::count(word(head, head::THIRD) as isize, &last);
     let answer = call_with_three(
         head,
-        form,
+        first,
+        second,
+        third,
         &mut out[..one],
         &mut other[..two],
         &mut last[..three],
@@ -120,10 +157,11 @@ fn call(head: &Head, first: &[u8], second: &[u8], third: &[u8]) -> bool {
     match word(head, head::FUNCTION) {
         0 | 3 | 7 => with_one(head, first, second),
         5 | 9 | 10 => with_two(head, first, second, third),
-        4 | 8 => with_three(head, first),
+        4 | 8 | 13 => with_three(head, first, second, third),
         1 => resolve_told(head, first),
         2 => resolve_with(head, first),
         6 => check(head, first, second),
+        12 => share(head, first),
         11 => is_answer(
             head,
             wnt_meant(first, second, word(head, head::NUMBER) as u32),

@@ -49,6 +49,20 @@ pub fn word(head: &Head, a: usize) -> u64
         + wide(head[a + 3]) * 16777216
 }
 
+// The number that begins at byte `a` of an input, 0 where there is none.
+pub fn number_in(bytes: &[u8], a: usize) -> u32
+    requires { ⌜ a ≤ 32 ⌝ }
+{
+    if a + 4 > bytes.len() {
+        return 0;
+    }
+    let number = wide(bytes[a])
+        + wide(bytes[a + 1]) * 256
+        + wide(bytes[a + 2]) * 65536
+        + wide(bytes[a + 3]) * 16777216;
+    number as u32
+}
+
 // How much of a buffer is written, and how much written or cleared, by where its words begin.
 pub fn written_at(head: &Head, at: usize) -> u64
     requires { ⌜ at + 12 ≤ 100 ⌝ }

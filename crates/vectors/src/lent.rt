@@ -1,12 +1,9 @@
-// The calls that are lent areas of slots and numbers.
+// The calls that are lent numbers, or a table and its index.
 use crate::areas::FILLED_LINK;
 use crate::areas::FILLED_NUMBER;
-use crate::areas::Links;
 use crate::areas::Numbers;
 use crate::areas::Slots;
-use crate::areas::has_links;
-use crate::areas::has_numbers;
-use crate::areas::has_slots;
+use crate::areas::is_emptied;
 use crate::areas::links_in;
 use crate::areas::numbers_in;
 use crate::areas::slots_in;
@@ -14,12 +11,11 @@ use crate::buffers::FILLING;
 use crate::buffers::is_left;
 use crate::head;
 use crate::head::Head;
-use crate::head::cleared_at;
 use crate::head::is_answer;
 use crate::head::word;
 use crate::head::written_at;
 use ferhevok::claims::wnt_check;
-use ferhevok::lent::wnt_resolve_with;
+use ferhevok::fewer::wnt_share;
 use ferhevok::told::wnt_resolve_told;
 
 fn wide(number: u32) -> u64 {
@@ -43,7 +39,7 @@ fn is_told(head: &Head, told: &Numbers) -> bool {
 
 pub fn resolve_told(head: &Head, form: &[u8]) -> bool {
     let mut out = [FILLING; 65536];
-    let mut told = [FILLED_NUMBER; 16400];
+    let mut told = [FILLED_NUMBER; 32800];
     let room = io::count(word(head, head::FIRST) as isize, &out);
     let numbers = numbers_in(word(head, head::SECOND), &told);
     let answer = wnt_resolve_told(form, &mut out[..room], &mut told[..numbers]);
@@ -51,54 +47,28 @@ pub fn resolve_told(head: &Head, form: &[u8]) -> bool {
 }
 
 pub fn check(head: &Head, form: &[u8], claim: &[u8]) -> bool {
-    let mut table: Slots = [[FILLED_NUMBER; 6]; 16400];
+    let mut table: Slots = [[FILLED_NUMBER; 6]; 32800];
     let mut index = [FILLED_LINK; 32800];
     let slots = slots_in(word(head, head::FIRST), &table);
     let links = links_in(word(head, head::SECOND), &index);
     let answer = wnt_check(form, claim, &mut table[..slots], &mut index[..links]);
-    is_answer(head, answer)
-        & has_slots(&table, cleared_at(head, head::FIRST))
-        & has_links(&index, cleared_at(head, head::SECOND))
+    is_answer(head, answer) & is_emptied(head, head::FIRST, &table, &index)
 }
 
-// Whether the five areas of resolving are cleared as stated.
-fn are_cleared(
-    head: &Head,
-    entered: &Slots,
-    names: &Slots,
-    known: &Links,
-    chains: &Links,
-    ends: &Numbers,
-) -> bool {
-    has_slots(entered, cleared_at(head, head::SECOND))
-        & has_slots(names, cleared_at(head, head::THIRD))
-        & has_links(known, cleared_at(head, head::FOURTH))
-        & has_links(chains, cleared_at(head, head::FIFTH))
-        & has_numbers(ends, cleared_at(head, head::SIXTH))
-}
-
-pub fn resolve_with(head: &Head, form: &[u8]) -> bool {
+pub fn share(head: &Head, form: &[u8]) -> bool {
     let mut out = [FILLING; 65536];
-    let mut entered: Slots = [[FILLED_NUMBER; 6]; 16400];
-    let mut names: Slots = [[FILLED_NUMBER; 6]; 16400];
-    let mut known = [FILLED_LINK; 32800];
-    let mut chains = [FILLED_LINK; 32800];
-    let mut ends = [FILLED_NUMBER; 16400];
+    let mut table: Slots = [[FILLED_NUMBER; 6]; 32800];
+    let mut index = [FILLED_LINK; 32800];
     let room = io::count(word(head, head::FIRST) as isize, &out);
-    let one = slots_in(word(head, head::SECOND), &entered);
-    let two = slots_in(word(head, head::THIRD), &names);
-    let three = links_in(word(head, head::FOURTH), &known);
-    let four = links_in(word(head, head::FIFTH), &chains);
-    let five = numbers_in(word(head, head::SIXTH), &ends);
-    let answer = wnt_resolve_with(
+    let slots = slots_in(word(head, head::SECOND), &table);
+    let links = links_in(word(head, head::THIRD), &index);
+    let answer = wnt_share(
         form,
         &mut out[..room],
-        &mut entered[..one],
-        &mut names[..two],
-        &mut known[..three],
-        &mut chains[..four],
-        &mut ends[..five],
+        &mut table[..slots],
+        &mut index[..links],
     );
-    let cleared = are_cleared(head, &entered, &names, &known, &chains, &ends);
-    is_left(head, head::FIRST, &out) & is_answer(head, answer) & cleared
+    is_left(head, head::FIRST, &out)
+        & is_answer(head, answer)
+        & is_emptied(head, head::SECOND, &table, &index)
 }

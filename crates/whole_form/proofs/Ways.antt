@@ -138,22 +138,24 @@ held-rows : (l : Limits) → settingIn l .version .rows ≡ l .rows
 unfolding settingIn
 held-rows l = refl
 
+-- so many rows
+module _ (rows : List ℕ) (l : Limits) (count : ℕ) (r : Reading) (e : r ≡ readTo l rows) where
+  pub rows-broken : (row : ℕ) (v : Form) → r ≡ reading.Broken row → v ≡ refusedT 4 (row % 4294967296) → v ≡ readT (readTo l rows) count
+  unfolding readT
+  rows-broken row v q w = rw (← e, q) w
+
+  pub rows-deep : (row : ℕ) (v : Form) → r ≡ reading.Deep row → v ≡ refusedT 5 (row % 4294967296) → v ≡ readT (readTo l rows) count
+  unfolding readT
+  rows-deep row v q w = rw (← e, q) w
+
+  pub rows-whole : r ≡ reading.Whole → Whole count ≡ readT (readTo l rows) count
+  unfolding readT
+  rows-whole q = rw (← e, q)
+
 module _ (l : Limits) (input : List ℕ) where
-  module _ (rows h : ℕ) (is : h ≡ l .header) (r : Reading) (e : r ≡ readTo l (take (length input - h) (drop h input))) where
-    reads : r ≡ readTo l (drop (l .header) input)
-    reads = let whole = take-all (length input - h) (drop h input) (omega (arith, length-drop h input)) in rw (whole, is) at e
-
-    pub body-broken : (row : ℕ) (v : Form) → r ≡ reading.Broken row → v ≡ refusedT 4 (row % 4294967296) → v ≡ bodyT l rows input
-    unfolding bodyT readT
-    body-broken row v q w = rw (← reads, q) w
-
-    pub body-deep : (row : ℕ) (v : Form) → r ≡ reading.Deep row → v ≡ refusedT 5 (row % 4294967296) → v ≡ bodyT l rows input
-    unfolding bodyT readT
-    body-deep row v q w = rw (← reads, q) w
-
-    pub body-whole : r ≡ reading.Whole → Whole rows ≡ bodyT l rows input
-    unfolding bodyT readT
-    body-whole q = rw (← reads, q)
+  pub body-read : (rows h : ℕ) → h ≡ l .header → (v : Form) → v ≡ readT (readTo l (take (length input - h) (drop h input))) rows → v ≡ bodyT l rows input
+  unfolding bodyT
+  body-read rows h is v e = let whole = take-all (length input - h) (drop h input) (omega (arith, length-drop h input)) in rw (whole, is) at e
 
   -- the rows behind a header
   reading-is : (rows : ℕ) (rs : List (Option Row)) → length rs ≡ rows → rows < 4294967296 → (x : tree.Reading) → Right (settingIn l .rules) (settingIn l .version .scopes) rs x → readT (answerOf x) rows ≡ formOf (asAnswer x)
@@ -227,4 +229,4 @@ module _ (i : ℕ) (l : Limits) where
     pub claim-read : (input : List ℕ) (v : Form) → v ≡ formOf (readForm (settingIn l) input) → v ≡ formOf (readForm (asClaimed (setting i)) input)
     claim-read input v w = rw (e, stand-claimed i) at w
 
-pub ruleset read-ways = (body-broken, body-deep, body-whole, head-long, head-wrong, head-count, head-rows, input-rows, input-read, claim-rows, claim-read, needs)
+pub ruleset read-ways = (rows-broken, rows-deep, rows-whole, body-read, head-long, head-wrong, head-count, head-rows, input-rows, input-read, claim-rows, claim-read, needs)

@@ -17,7 +17,8 @@ ghost use lib.ListN.{length};
 ghost use Rattle.rules.specs.Versions.{asClaimed};
 ghost use Rattle.read_form.specs.ReadForm.{readForm};
 ghost use Rattle.limits.specs.Held.{settingIn, setting};
-ghost use Rattle.whole_form.specs.Whole.{formOf, refusedT, bodyT};
+ghost use Rattle.reader.specs.Readings.{readTo};
+ghost use Rattle.whole_form.specs.Whole.{formOf, refusedT, readT, bodyT};
 
 pub enum Form {
     // So many rows make a form.
@@ -39,17 +40,24 @@ fn wide(byte: u8) -> usize
     byte as usize
 }
 
-// Whether the rows behind the header, of which there are so many, are those of a form.
+// Whether so many rows are those of a form within the limits.
+pub fn read_rows(rows: &[u8], limits: Limits, count: usize) -> Form
+    ensures { λ r. ⌜ r ≡ readT (readTo limits (now (rows .entry))) count ⌝ }
+{
+    match read_to(rows, limits) {
+        Reading::Broken(row) => refused(BROKEN, (row % 4294967296) as u32),
+        Reading::Deep(row) => refused(DEEP, (row % 4294967296) as u32),
+        Reading::Whole => Form::Whole(count),
+    }
+}
+
+// The same of the rows behind the header.
 fn read_body(form: &[u8], limits: Limits, rows: usize) -> Form
     requires { ⌜ limits .header ≤ length (now form) ⌝ }
     ensures { λ r. ⌜ r ≡ bodyT limits rows (now (form .entry)) ⌝ }
 {
     let header = wide(limits.header);
-    match read_to(&form[header..], limits) {
-        Reading::Broken(row) => refused(BROKEN, (row % 4294967296) as u32),
-        Reading::Deep(row) => refused(DEEP, (row % 4294967296) as u32),
-        Reading::Whole => Form::Whole(rows),
-    }
+    read_rows(&form[header..], limits, rows)
 }
 
 // Whether the bytes are a form of these limits, by which a row's number has four bytes.

@@ -15,6 +15,6 @@ in-front-spec =
     (λ c. sym (length-take-le _ _ (omega arith)))  -- slice-aggregate-resolve-inside
     (λ c κs. search needs)  -- resolve-inside-requires
     (λ c κs. search needs)  -- said-requires
-    (λ c κs. search needs)  -- packed-requires
+    (λ c κs. search needs)  -- packed-refusal-requires
     (λ c. search needs)  -- same-length
     (λ c. search (fronted, needs)))  -- returns

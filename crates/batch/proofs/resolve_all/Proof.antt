@@ -10,12 +10,12 @@ resolve-all-spec =
     (tie.spec
     (λ c κs. search needs)  -- resolve-requires
     (λ c κs. search needs)  -- said-requires
-    (λ c κs. search needs)  -- packed-requires
+    (λ c κs. search needs)  -- packed-refusal-requires
     (λ c. search needs)  -- same-length
     (λ c. (search alls, (search alls, (search alls, search alls))))  -- returns
     (λ c κs. search needs)  -- rows-of-requires
     (λ c κs. search needs)  -- in-shares-requires
-    (λ c κs. search needs)  -- packed-requires-2
+    (λ c κs. search needs)  -- packed-refusal-requires-2
     (λ c. search needs)  -- same-length-2
     (λ c. search needs)  -- same-length-3
     (λ c. search needs)  -- same-length-4

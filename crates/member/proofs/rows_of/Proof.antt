@@ -8,6 +8,7 @@ pub rows-of-spec : {M : Type 1} → statement M
 rows-of-spec =
     tie.close
     (tie.spec
+    (λ c κs. search needs)  -- header-size-requires
     (λ c. search needs)  -- mul-least
     (λ c. search needs)  -- add-least
     (λ c κs. search needs)  -- least-requires

@@ -1,19 +1,20 @@
 -- `mend_read::read_rows` meets its contract. The invariant: what the rows from here on come to is what they come to from the start.
 use mathlib.Core.Path.{_≡_}
-use Prim.Native.Nat.{_+_, _-_}
+use Prim.Native.Nat.{_-_}
 use lib.ListN.{length}
 use borrow.Author.Needs.{needs}
+use Rattle.kit.specs.Out.{_&_}
 use Rattle.limits.specs.Held.{rulesOf}
-use Rattle.read_row.specs.Machine.{placeOf, inRoot}
-use Rattle.reader.specs.Machine.{rowsT}
+use Rattle.read_row.specs.Machine.{outcomeOf}
+use Rattle.reader.specs.Machine.{readOnT}
 use Rattle.mend_form.specs.Filled.{bodyT}
-use Rattle.reader.proofs.Steps.{rows-ways}
+use Rattle.mend_read.proofs.Ways.{next-ways}
 use Rattle.mend_read.proofs.read_rows.Statement.{statement}
 use Rattle.mend_read.proofs.read_rows.Tie as tie
 
 abbrev Inv-loop : tie.InvT-loop
 Inv-loop rows kept kinds₀ table allowed limits n s₀ i₀ kinds s i =
-    (rowsT (rulesOf (limits .rules)) (limits .names) (bodyT rows kept) i (n - i) (placeOf s) kinds ≡ rowsT (rulesOf (limits .rules)) (limits .names) (bodyT rows kept) 1 (kept .rows + kept .scopes - 1) inRoot kinds₀)
+    (readOnT (rulesOf (limits .rules)) (limits .names) (bodyT rows kept) i (n - i) (outcomeOf s & kinds) ≡ readOnT (rulesOf (limits .rules)) (limits .names) (bodyT rows kept) 1 (n - 1) (outcomeOf s₀ & kinds₀))
     × (length kinds ≡ length kinds₀)
 
 abbrev μ-loop : tie.MeasureT-loop
@@ -27,19 +28,14 @@ read-rows-spec =
     μ-loop
     (λ c. search needs)  -- add-n
     (λ c κs. search needs)  -- root-requires
-    (λ c. (search rows-ways, search needs))  -- loop-holds
-    (λ c. search needs)  -- add-behind
-    (λ c κs. search needs)  -- mended-parts-requires
-    (λ c κs. search needs)  -- step-requires
+    (λ c. (search next-ways, search needs))  -- loop-holds
+    (λ c κs. search needs)  -- reading-of-requires
     (λ c. search needs)  -- same-length
-    (λ c. search rows-ways)  -- returns
-    (λ c. search needs)  -- same-length-2
-    (λ c. search rows-ways)  -- returns-2
-    (λ c. search needs)  -- same-length-3
-    (λ c. search rows-ways)  -- returns-3
-    (λ c. search needs)  -- same-length-4
-    (λ c. search rows-ways)  -- returns-4
+    (λ c. search next-ways)  -- returns
+    (λ c. search needs)  -- add-behind
+    (λ c κs. search needs)  -- read-next-requires
     (λ c. search needs)  -- loop-less
-    (λ c. (search rows-ways, search needs))  -- loop-again
-    (λ c. search needs)  -- same-length-5
-    (λ c. search rows-ways))  -- returns-5
+    (λ c. (search next-ways, search needs))  -- loop-again
+    (λ c κs. search needs)  -- reading-of-requires-2
+    (λ c. search needs)  -- same-length-2
+    (λ c. search next-ways))  -- returns-2

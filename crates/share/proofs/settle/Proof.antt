@@ -1,6 +1,6 @@
 -- `share::settle` meets its contract. The check never refuses the proposal.
 use borrow.Author.Needs.{needs}
-use Rattle.share.proofs.Ways.{left-roomy, never-refused}
+use Rattle.share.proofs.Ways.{left-roomy, refused-never}
 use Rattle.share.proofs.settle.Statement.{statement}
 use Rattle.share.proofs.settle.Tie as tie
 
@@ -20,4 +20,4 @@ settle-spec =
     (λ c. search needs)  -- same-length-4
     (λ c. search needs)  -- same-length-5
     (λ c. search needs)  -- same-length-6
-    (λ c. absurd (search (never-refused, needs))))  -- returns-2
+    (λ c. absurd (search (refused-never, needs))))  -- returns-2

@@ -1,6 +1,7 @@
 -- `share::share_in` meets its contract.
 use borrow.Author.Needs.{needs}
-use Rattle.share.proofs.Ways.{table-empty, index-empty, own-answers, own-leaves, own-resolved, proposal-answers, proposal-leaves}
+use Rattle.share.proofs.Agrees.{own-answers, own-leaves, own-resolved}
+use Rattle.share.proofs.Ways.{table-empty, index-empty, proposal-answers, proposal-leaves}
 use Rattle.share.proofs.share_in.Statement.{statement}
 use Rattle.share.proofs.share_in.Tie as tie
 

@@ -16,10 +16,7 @@ packed-verdict-spec =
     (λ c. search needs)  -- cast-result-2
     (λ c. search needs)  -- add-result-2
     (λ c. search needs)  -- enum-known-refusal
-    (λ c. search needs)  -- cast-result-3
-    (λ c. search needs)  -- mul-result-2
-    (λ c. search needs)  -- cast-result-4
-    (λ c. search needs)  -- add-result-3
+    (λ c κs. search needs)  -- packed-refusal-requires
     (λ c. search verdicts)  -- returns
     (λ c. search verdicts)  -- returns-2
     (λ c. search verdicts))  -- returns-3

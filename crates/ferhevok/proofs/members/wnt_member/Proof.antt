@@ -9,7 +9,7 @@ wnt-member-spec =
     tie.close
     (tie.spec
     (λ c κs. search needs)  -- member-requires
-    (λ c κs. search needs)  -- packed-said-requires
+    (λ c κs. search needs)  -- packed-refusal-requires
     (λ c. search needs)  -- same-length
     (λ c. search needs)  -- same-length-2
     (λ c. (search members, (search members, search needs))))  -- returns

@@ -14,9 +14,6 @@ packed-lists-spec =
     (λ c. search needs)  -- cast-result-2
     (λ c. search needs)  -- add-result
     (λ c. search needs)  -- enum-known-answer-2
-    (λ c. search needs)  -- cast-result-3
-    (λ c. search needs)  -- mul-result-2
-    (λ c. search needs)  -- cast-result-4
-    (λ c. search needs)  -- add-result-2
+    (λ c κs. search needs)  -- packed-refusal-requires
     (λ c. search packs-lists)  -- returns
     (λ c. search packs-lists))  -- returns-2

@@ -14,10 +14,7 @@ telling-spec =
     (λ c. search needs)  -- cast-result
     (λ c. search needs)  -- enum-known-answer-2
     (λ c κs. search needs)  -- put-told-requires-2
-    (λ c. search needs)  -- cast-result-2
-    (λ c. search needs)  -- mul-result
-    (λ c. search needs)  -- cast-result-3
-    (λ c. search needs)  -- add-result
+    (λ c κs. search needs)  -- packed-refusal-requires
     (λ c. search needs)  -- same-length
     (λ c. (search packs, search tell-ways))  -- returns
     (λ c. search needs)  -- same-length-2

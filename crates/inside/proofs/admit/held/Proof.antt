@@ -7,5 +7,5 @@ use Rattle.inside.proofs.admit.held.Tie as tie
 pub held-spec : {M : Type 1} → statement M
 held-spec = tie.close (tie.spec
     (λ c κs. search needs)  -- of-input-requires
-    (λ c. search (held-less, needs))  -- sub-t2
+    (λ c. search (held-less, needs))  -- sub-t3
     (λ c. search (held-is, needs)))  -- returns

@@ -33,4 +33,4 @@ fill-in-spec =
     (λ c. omega (arith, c .before .before .before .before .before .before .before .before .before .before .before .before .before .before .entered .given, c .before .before .before .before .before .before .before .before .before .before .before .before .known .given, c .before .before .before .before .before .before .before .before .before .before .before .before .before .names .given, c .before .before .before .before .before .before .before .before .before .before .chains .given, c .before .before .before .before .before .before .before .before .ends .given, c .before .before .before .before .before .before .before .before .before .before .before .before .before .before .before .before .front .given, c .before .front3 .given))  -- same-length-10
     (λ c. omega (arith, c .before .before .before .before .before .before .before .before .before .before .before .before .before .before .entered .given, c .before .before .before .before .before .before .before .before .before .before .before .before .known .given, c .before .before .before .before .before .before .before .before .before .before .before .before .before .names .given, c .before .before .before .before .before .before .before .before .before .before .chains .given, c .before .before .before .before .before .before .before .before .ends .given, c .before .before .before .before .before .before .before .before .before .before .before .before .before .before .before .before .front .given, c .before .front3 .given))  -- same-length-11
     (λ c. omega (arith, c .before .before .before .before .before .before .before .before .before .before .before .before .before .before .entered .given, c .before .before .before .before .before .before .before .before .before .before .before .before .known .given, c .before .before .before .before .before .before .before .before .before .before .before .before .before .names .given, c .before .before .before .before .before .before .before .before .before .before .chains .given, c .before .before .before .before .before .before .before .before .ends .given, c .before .before .before .before .before .before .before .before .before .before .before .before .before .before .before .before .front .given, c .before .front3 .given))  -- same-length-12
-    (λ c. search ways))  -- returns-3
+    (λ c. search (fill-done, c .before .before .before .before .before .before .before .before .before .before .before .before .before .before .before .before .before .before .before .before .before .before .before .before .before .header-size .ensures .0, c .before .before .before .before .before .before .before .before .before .before .before .before .before .before .before .before .before .before .before .before .before .before .before .before .if1 .left, c .before .before .before .before .before .before .before .before .before .before .before .before .before .before .before .before .before .walk-in .ensures, needs)))  -- returns-3

@@ -9,7 +9,7 @@ pub run-cleared-spec : {M : Type 1} → statement M
 run-cleared-spec =
     tie.close
     (tie.spec
-    (λ c κs. c .before .before .before .before .before .before .before .before .before .before .before .pre)  -- run-in-requires
+    (λ c κs. search needs)  -- run-in-requires
     (λ c. search needs)  -- enum-known-rows
     (λ c κs. search needs)  -- clear-requires
     (λ c. search needs)  -- enum-known-why

@@ -8,6 +8,8 @@ pub restore-spec : {M : Type 1} → statement M
 restore-spec =
     tie.close
     (tie.spec
+    (λ c κs. search needs)  -- header-at-requires
+    (λ c κs. search needs)  -- most-rows-requires
     (λ c. search needs)  -- sub-restore-rows
     (λ c. search needs)  -- part-restore-rows-start
     (λ c. search needs)  -- part-restore-rows-end
@@ -21,4 +23,7 @@ restore-spec =
     (λ c κs. search needs)  -- of-input-requires
     (λ c κs. search needs)  -- put-header-requires
     (λ c. search needs)  -- same-length
+    (λ c. search needs)  -- same-length-2
+    (λ c. search needs)  -- same-length-3
+    (λ c. search needs)  -- same-length-4
     (λ c. (search restoring, search needs)))  -- returns

@@ -15,7 +15,7 @@ run-in-spec =
     (λ c. search running)  -- sub-give
     (λ c. search running)  -- part-give-start
     (λ c. search needs)  -- part-give-end
-    (λ c κs. search needs)  -- give-requires
+    (λ c κs. (search running, search running))  -- give-requires
     (λ c. search needs)  -- same-length
     (λ c. search needs)  -- same-length-2
     (λ c. (search running, search running))  -- returns

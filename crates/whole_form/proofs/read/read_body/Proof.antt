@@ -9,17 +9,8 @@ read-body-spec =
     tie.close
     (tie.spec
     (λ c κs. search needs)  -- wide-requires
-    (λ c. search needs)  -- sub-read-to
-    (λ c. search needs)  -- part-read-to-start
-    (λ c. search needs)  -- part-read-to-end
-    (λ c κs. search needs)  -- read-to-requires
-    (λ c. search needs)  -- enum-known-row
-    (λ c. search needs)  -- cast-refused
-    (λ c κs. search needs)  -- refused-requires
-    (λ c. search needs)  -- enum-known-row-2
-    (λ c. search needs)  -- cast-refused-2
-    (λ c κs. search needs)  -- refused-requires-2
-    (λ c. search needs)  -- enum-told
-    (λ c. search read-ways)  -- returns
-    (λ c. search read-ways)  -- returns-2
-    (λ c. search read-ways))  -- returns-3
+    (λ c. search needs)  -- sub-read-rows
+    (λ c. search needs)  -- part-read-rows-start
+    (λ c. search needs)  -- part-read-rows-end
+    (λ c κs. search needs)  -- read-rows-requires
+    (λ c. search read-ways))  -- returns

@@ -1,0 +1,26 @@
+-- The tables for a form inside a root: of the names there are those of both.
+use mathlib.Core.Path.{_≡_}
+use mathlib.Core.List.{List}
+use Prim.Native.Nat.{ℕ, _+_, _<_}
+use lib.ListN.{length}
+use Rattle.rules.specs.Versions.{Version}
+use Rattle.limits.specs.Held.{setting}
+use Rattle.names.specs.Table.{Slot}
+use Rattle.resolver_with.specs.Areas.{slotsFor, linksFor}
+
+-- the slots of the table of names: the root has no more declarations than a form may have rows
+abbrev pub bothFor : Version → ℕ
+bothFor v = slotsFor v + slotsFor v
+
+-- the numbers of its index: as many heads of chains as that of a form by itself, and a link for each slot
+abbrev pub chainsFor : Version → ℕ
+chainsFor v = slotsFor v + bothFor v
+
+-- tables, indexes and ends for a form of the setting at place i, which is one of those in force
+pub record Suits (i : ℕ) (e n : List Slot) (k c m : List ℕ) : Type 0 where
+  pub served : i < 2
+  pub entered : length e ≡ slotsFor (setting i .version)
+  pub names : length n ≡ bothFor (setting i .version)
+  pub known : length k ≡ linksFor (setting i .version)
+  pub chains : length c ≡ chainsFor (setting i .version)
+  pub ends : length m ≡ slotsFor (setting i .version)

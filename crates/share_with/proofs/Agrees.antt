@@ -1,0 +1,195 @@
+-- Of an input that is accepted under one of the settings in force: the proposal is what the rules propose, and the check accepts it.
+use mathlib.Core.Path.{_≡_, refl, sym, ap, _∙_, subst}
+use mathlib.Core.Bool.{Bool, true, false}
+use mathlib.Core.Option.{Option, none, some}
+use mathlib.Core.List.{List, [], _∷_}
+use native.Mathlib.Omega.{arith}
+use Prim.Native.Nat.{ℕ, zero, suc, _+_, _-_, _*_, _/_, _%_, _≤_, _<_}
+use lib.Dec.{eqb, leb}
+use lib.ListN.{length, getD, set, take, drop, replicate, length-set, length-drop}
+use lib.Seq.{length-take-le}
+use Rattle.kit.specs.Out.{Out, _&_}
+use Rattle.kit.specs.Pick.{pick}
+use Rattle.rules.specs.Tools.{if_then_else_}
+use Rattle.rules.specs.Versions.{Version, Setting, version1, version2}
+use Rattle.rules.specs.Rows.{Row}
+use Rattle.rules.specs.Tree.{flatten}
+use Rattle.rules.specs.Answer as rules
+use Rattle.rules.specs.Answer.{refused, accepted, settingOf, rowCount, answer, rowsBytes, outputAfter, output}
+use Rattle.rules.specs.Laws.RowLaws.{Bytes}
+use Rattle.checking.specs.CheckAnswer.{slotsOf, linksOf, checkAnswer}
+use Rattle.sharing.specs.Sharing.{mark, proposed, sharedAfter, shared, sharedFor, sharedOutput}
+use Rattle.sharing.specs.Laws.SharedAccepted.{shared-refuses}
+use Rattle.limits.specs.Held.{setting}
+use Rattle.form.specs.Marked.{Noted, depthBefore, markT, withNoted, backT, endsIn, endsTo}
+use Rattle.names.specs.Table.{Slot}
+use Rattle.rows.specs.Taken.{codeAt}
+use Rattle.mark.specs.Marked.{markedT}
+use Rattle.resolver.specs.Meaning.{meaning, ruled}
+use Rattle.resolver.specs.Run.{Ran, fillT, walkIn, before}
+use Rattle.resolver.specs.declared.run.Answer.{Answer}
+use Rattle.resolver.proofs.Root.{under, Able, able-1, able-2, Rooms}
+use Rattle.resolver_with.specs.Areas.{slotsFor, Lent, roomy}
+use Rattle.resolver_with.specs.Served.{served, asked}
+use Rattle.resolver_with.proofs.Asked.{setting-asked, answer-asked, output-asked}
+use Rattle.check_with.specs.With.{checkWith}
+use Rattle.share.specs.Run.{proposeIn, Roomy, isYes, Resolved}
+use Rattle.share.proofs.Agrees as one
+use Rattle.share_with.specs.With.{bytesFor}
+use Rattle.share_with.specs.Run.{walkOver, walkedIn, proposeWith, Fit}
+
+-- ---- as many ends are noted as there is room for
+
+noted-long : (code i depth : ℕ) (ends bounds : List ℕ) → length (endsIn (markT code i depth ends bounds)) ≡ length ends
+unfolding markT endsIn pick
+noted-long code i depth ends bounds = go (leb (length bounds) depth) (eqb code 8) (eqb code 1) (leb (length ends) i)
+  where
+    go : (a b c d : Bool)
+        → length (endsIn (pick a (ends & bounds) (pick b (ends & set bounds depth i) (pick c (pick d (ends & bounds) (set ends i (getD bounds depth 0 % 4294967296) & set bounds depth i)) (ends & bounds))))) ≡ length ends
+    go true b c d = refl
+    go false true c d = refl
+    go false false true true = refl
+    go false false true false = length-set ends i _
+    go false false false d = refl
+
+back-long : (most : ℕ) (rows : List ℕ) (left depth : ℕ) (ends bounds : List ℕ) → length (endsIn (backT most rows left depth ends bounds)) ≡ length ends
+unfolding backT endsIn
+back-long most rows zero depth ends bounds = refl
+back-long most rows (suc i) depth ends bounds =
+    go (markT (codeAt rows i) i (depthBefore most (codeAt rows i) depth) ends bounds) (noted-long (codeAt rows i) i (depthBefore most (codeAt rows i) depth) ends bounds)
+    (λ e b. back-long most rows i (depthBefore most (codeAt rows i) depth) e b)
+  where
+    go : (x : Noted) → length (endsIn x) ≡ length ends → ((e b : List ℕ) → length (endsIn (backT most rows i (depthBefore most (codeAt rows i) depth) e b)) ≡ length e)
+        → length (endsIn (withNoted x (backT most rows i (depthBefore most (codeAt rows i) depth)))) ≡ length ends
+    go (e & b) q rest = unfold withNoted in (rest e b ∙ q)
+
+ends-as-long : (most : ℕ) (rows ends : List ℕ) → length (endsTo most rows ends) ≡ length ends
+unfolding endsTo
+ends-as-long most rows ends = back-long most rows (length rows / 16) 0 ends (replicate (most + 1) 0)
+
+-- ---- under one setting
+
+module _ (v : Version) (able : Able (under v)) (input old : List ℕ) (bs : Bytes input) (own : List Row) (e : answer (under v ∷ []) input (length old) ≡ accepted own) where
+  module _ (marked ends : List ℕ) (entered names : List Slot) (hm : bytesFor v ≤ length marked) (hs : slotsFor v ≤ length ends) (he : slotsFor v ≤ length entered) (hn : slotsFor v ≤ length names) where
+    abbrev body : List ℕ
+    body = drop (v .header) input
+
+    abbrev part : List ℕ
+    part = take (length body) (take (bytesFor v) marked)
+
+    abbrev noted : List ℕ
+    noted = endsTo (v .scopes) body (take (slotsFor v) ends)
+
+    part-long : length part ≡ length body
+    part-long =
+        let R = one.roomy v able input old bs own e old refl in
+        let a = length-take-le (bytesFor v) marked hm in
+        let d = length-drop (v .header) input in
+        length-take-le (length body) (take (bytesFor v) marked) (omega (arith, R .long, R .few))
+
+    shares-in : (a : Answer) (l : List ℕ) → (a & l) ≡ proposeWith (under v) input (output (under v ∷ []) input old) marked ends entered names
+        → (meaning a ≡ ruled (shared (under v ∷ []) input (length old))) × (l ≡ sharedOutput (under v ∷ []) input old)
+    unfolding proposeWith walkedIn walkOver proposeIn
+    shares-in a l p =
+        let few = able .few in
+        let s = length-take-le (slotsFor v) ends hs in
+        let t = length-take-le (slotsFor v) entered he in
+        let n = length-take-le (slotsFor v) names hn in
+        let long = ends-as-long (v .scopes) body (take (slotsFor v) ends) in
+        let M = one.marks v able input old bs own e (take (slotsFor v) ends) part (take (slotsFor v) entered) (omega arith) (omega arith) part-long in
+        let size = M .size in
+        let rooms : Rooms v noted (M .table) (take (slotsFor v) names) = record { ends = omega arith; entered = omega arith; names = omega arith; entered-narrow = omega arith; names-narrow = omega arith } in
+        one.answers-shared v able input old bs own e noted (M .table) (take (slotsFor v) names) rooms a l (rowsBytes (flatten (mark (one.tree v able input old bs own e .0)))) refl
+        (p ∙ rw (M .answer))
+
+-- ---- under each setting in force
+
+-- what is said of an input under the setting that it asks for is said under all in force
+module _ (input : List ℕ) where
+  shared-asked : (room : ℕ) → shared served input room ≡ shared (asked input ∷ []) input room
+  unfolding shared sharedAfter
+  shared-asked room = ap (λ (a : rules.Answer). sharedAfter a served input) (answer-asked served (asked input) input (setting-asked input) room) ∙ go (answer (asked input ∷ []) input room)
+    where
+      go : (a : rules.Answer) → sharedAfter a served input ≡ sharedAfter a (asked input ∷ []) input
+      go (refused n z c) = refl
+      go (accepted rs) = ap (λ (o : Option Setting). proposed o input) (setting-asked input)
+
+  output-shared : (old : List ℕ) → sharedOutput served input old ≡ sharedOutput (asked input ∷ []) input old
+  unfolding sharedOutput
+  output-shared old = ap (λ (o : Option Setting). sharedFor o served input old) (setting-asked input) ∙ go (settingOf (asked input ∷ []) input)
+    where
+      go : (o : Option Setting) → sharedFor o served input old ≡ sharedFor o (asked input ∷ []) input old
+      go none = unfold sharedFor in refl
+      go (some s) = unfold sharedFor in ap (λ (a : rules.Answer). outputAfter s a (s .version .header + 64 * rowCount (s .version) input) old) (shared-asked (length old))
+
+module _ (input now : List ℕ) (bs : Bytes input) where
+  roomy-at : (i : ℕ) → i < 2 → Resolved (setting i ∷ []) input now → Roomy (setting i) input now
+  roomy-at zero h R = one.roomy version1 able-1 input (R .old) bs (R .own) (R .accepts) now (ap length (R .left) ∙ one.as-long version1 able-1 input (R .old))
+  roomy-at (suc zero) h R = one.roomy version2 able-2 input (R .old) bs (R .own) (R .accepts) now (ap length (R .left) ∙ one.as-long version2 able-2 input (R .old))
+  roomy-at (suc (suc i)) h R = absurd (omega arith)
+
+  module _ (marked ends : List ℕ) (entered names : List Slot) (a : Answer) (l : List ℕ) where
+    shares-at : (i : ℕ) → i < 2 → (R : Resolved (setting i ∷ []) input now) → bytesFor (setting i .version) ≤ length marked → slotsFor (setting i .version) ≤ length ends → slotsFor (setting i .version) ≤ length entered → slotsFor (setting i .version) ≤ length names
+        → (a & l) ≡ proposeWith (setting i) input now marked ends entered names → (meaning a ≡ ruled (shared (setting i ∷ []) input (length (R .old)))) × (l ≡ sharedOutput (setting i ∷ []) input (R .old))
+    shares-at zero h R hm hs he hn p =
+        shares-in version1 able-1 input (R .old) bs (R .own) (R .accepts) marked ends entered names hm hs he hn a l (p ∙ ap (λ (x : List ℕ). proposeWith (under version1) input x marked ends entered names) (R .left))
+    shares-at (suc zero) h R hm hs he hn p =
+        shares-in version2 able-2 input (R .old) bs (R .own) (R .accepts) marked ends entered names hm hs he hn a l (p ∙ ap (λ (x : List ℕ). proposeWith (under version2) input x marked ends entered names) (R .left))
+    shares-at (suc (suc i)) h R hm hs he hn p = absurd (omega arith)
+
+    yes-at : (i : ℕ) → i < 2 → (R : Resolved (setting i ∷ []) input now) → (meaning a ≡ ruled (shared (setting i ∷ []) input (length (R .old)))) × (l ≡ sharedOutput (setting i ∷ []) input (R .old))
+        → (slots links : ℕ) → slotsOf (setting i .version) ≤ slots → linksOf (setting i .version) ≤ links → (rows : ℕ) (claim : List ℕ) (y : Bool) → rows ≡ meaning a .plain .place → claim ≡ take (setting i .version .header + 16 * rows) l
+        → y ≡ isYes (checkAnswer (setting i ∷ []) input claim slots links) → y ≡ false → ⊥
+    yes-at zero h R s = one.never-refused version1 able-1 input (R .old) bs (R .own) (R .accepts) a l (s .0) (s .1)
+    yes-at (suc zero) h R s = one.never-refused version2 able-2 input (R .old) bs (R .own) (R .accepts) a l (s .0) (s .1)
+    yes-at (suc (suc i)) h R s = absurd (omega arith)
+
+none-at : {X : Type 0} (i : ℕ) → i < 2 → (input : List ℕ) (own : List Row) → answer (setting i ∷ []) input 0 ≡ accepted own → X
+none-at zero h input own e = one.none-accepted version1 able-1 input own e
+none-at (suc zero) h input own e = one.none-accepted version2 able-2 input own e
+none-at (suc (suc i)) h input own e = absurd (omega arith)
+
+-- ---- under all
+
+module _ (i : ℕ) (h : i < 2) (input : List ℕ) (asks : setting i ≡ asked input) where
+  -- where there is no room nothing is accepted
+  pub none-shared : ruled (answer served input 0) ≡ ruled (shared served input 0)
+  none-shared = go (answer served input 0) refl
+    where
+      go : (a : rules.Answer) → answer served input 0 ≡ a → ruled (answer served input 0) ≡ ruled (shared served input 0)
+      go (refused n z c) q = ap ruled (q ∙ sym (shared-refuses served input 0 n z c q))
+      go (accepted rs) q = none-at i h input rs (ap (λ (s : Setting). answer (s ∷ []) input 0) asks ∙ (sym (answer-asked served (asked input) input (setting-asked input) 0) ∙ q))
+
+  module _ (now : List ℕ) (R : Resolved served input now) where
+    resolved : Resolved (setting i ∷ []) input now
+    resolved =
+        record {
+          old = R .old;
+          own = R .own;
+          accepts = ap (λ (s : Setting). answer (s ∷ []) input (length (R .old))) asks ∙ (sym (answer-asked served (asked input) input (setting-asked input) (length (R .old))) ∙ R .accepts);
+          left = R .left ∙ (output-asked served (asked input) input (setting-asked input) (R .old) ∙ ap (λ (s : Setting). output (s ∷ []) input (R .old)) (sym asks));
+        }
+
+    module _ (bs : Bytes input) where
+      pub left-roomy : Roomy (setting i) input now
+      left-roomy = roomy-at input now bs i h resolved
+
+      module _ (marked ends : List ℕ) (entered names : List Slot) (hm : bytesFor (setting i .version) ≤ length marked) (hs : slotsFor (setting i .version) ≤ length ends) (he : slotsFor (setting i .version) ≤ length entered) (hn : slotsFor (setting i .version) ≤ length names)
+          (a : Answer) (l : List ℕ) (p : (a & l) ≡ proposeWith (setting i) input now marked ends entered names) where
+        shares : (meaning a ≡ ruled (shared (setting i ∷ []) input (length (R .old)))) × (l ≡ sharedOutput (setting i ∷ []) input (R .old))
+        unfolding resolved
+        shares = shares-at input now bs marked ends entered names a l i h resolved hm hs he hn p
+
+        pub shares-served : (meaning a ≡ ruled (shared served input (length (R .old)))) × (l ≡ sharedOutput served input (R .old))
+        shares-served = (
+          shares .0 ∙ (ap (λ (s : Setting). ruled (shared (s ∷ []) input (length (R .old)))) asks ∙ ap ruled (sym (shared-asked input (length (R .old))))),
+          shares .1 ∙ (ap (λ (s : Setting). sharedOutput (s ∷ []) input (R .old)) asks ∙ sym (output-shared input (R .old))),
+        )
+
+        -- IT IS NEVER REFUSED
+        pub refused-never : (slots links : ℕ) (lent : Lent) → slotsOf (setting i .version) ≤ slots → linksOf (setting i .version) ≤ links → roomy (asked input .version) lent ≡ true
+            → (rows : ℕ) (claim : List ℕ) (y : Bool) → rows ≡ meaning a .plain .place → claim ≡ take (setting i .version .header + 16 * rows) l → y ≡ isYes (checkWith input claim slots links lent) → y ≡ false → ⊥
+        unfolding resolved checkWith if_then_else_
+        refused-never slots links lent hs hl fits rows claim y r c f e =
+            let w : checkAnswer served input claim slots links ≡ checkAnswer (setting i ∷ []) input claim slots links = unfold checkAnswer in rw (setting-asked input, asks) in
+            yes-at input now bs marked ends entered names a l i h resolved shares slots links hs hl rows claim y r c (f ∙ (rw (fits, w))) e
