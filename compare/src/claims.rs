@@ -130,7 +130,7 @@ impl<'r> Reading<'r> {
 /// Condition 1: the rows of the claim, held to the input's version with four times the rows.
 fn rows_of(version: Version, shapes: &Shapes, claim: &[u8]) -> Result<Vec<Row>, usize> {
     let claimed = Version { rows: 4 * version.rows, ..version };
-    if !claimed.begins(claim, 0) {
+    if !claimed.begins(claim) {
         return Err(0);
     }
     recognise::sized(claimed, claim).map_err(|(_, place)| place as usize)?;
@@ -320,7 +320,7 @@ pub fn verdict(comparison: &Comparison, case: &Case, claim: &[u8]) -> Verdict {
 /// The same where the input is read as one of this version.
 pub fn verdict_as(version: Version, comparison: &Comparison, case: &Case, claim: &[u8]) -> Verdict {
     match comparison.expected_as(version, case) {
-        Answer::Accepted(_) => conditions(version, &comparison.shapes, &version.decode(&case.form), claim),
+        Answer::Accepted(_) => conditions(version, comparison.shapes_of(version), &version.decode(&case.form), claim),
         Answer::Refused { number, place } => Verdict::Refused { number, place },
         Answer::Panicked => panic!("the crate panicked"),
     }

@@ -36,7 +36,7 @@ pub fn recognise(shapes: &Shapes, form: &[u8], out_len: usize) -> Result<Vec<Row
 
 /// The same for a form of this version.
 pub fn recognise_as(version: Version, shapes: &Shapes, form: &[u8], out_len: usize) -> Result<Vec<Row>, Refusal> {
-    if !version.begins(form, 0) {
+    if !version.begins(form) {
         return Err((1, 0));
     }
     let count = sized(version, form)?;

@@ -5,11 +5,10 @@ use crate::chance::Chance;
 use crate::claims::{Reading, Verdict, verdict_as};
 use crate::compare::{Case, Comparison};
 use crate::damage::damage_as;
-use crate::generate;
-use crate::lent::{self, Lender};
+use crate::lent::{self, Lender, Needs};
 use crate::library;
 use crate::partner::Partner;
-use crate::rows::{Answer, FIRST, HEADER, ROW, Row, SECOND, Version};
+use crate::rows::{Answer, FIRST, HEADER, ROW, Row, Version};
 use crate::vectors::{Function, Lent, Sample, Vector};
 use crate::wrong;
 use std::collections::BTreeMap;
@@ -82,10 +81,10 @@ fn ours(version: Version, form: &[u8]) -> Vec<u8> {
 /// What a resolver writes.
 type Writes<'a> = &'a dyn Fn(Version, &[u8]) -> Vec<u8>;
 
-/// An input with a claim, where areas are lent mostly of version 2. Of an input that is refused any bytes will do.
+/// An input with a claim. Of an input that is refused any bytes will do.
 fn pair(comparison: &Comparison, writes: Writes, chance: &mut Chance, lending: bool) -> Pair {
-    let version = if lending && chance.percent(80) { SECOND } else { FIRST };
-    let rows = generate::form_of(version, &comparison.shapes, chance.next());
+    let version = lent::version(lending, chance);
+    let rows = comparison.form_of(version, chance);
     let form = if chance.percent(3) { damage_as(version, &rows, chance) } else { version.encode(&rows) };
     let version = if lending { lent::asked_for(&form) } else { FIRST };
     let input = Case { out_len: usize::MAX, ..Case::exact(form, chance) };
@@ -118,7 +117,7 @@ fn claim(
         }
         Kind::Others if chance.percent(50) => form.to_vec(),
         Kind::Others => {
-            let other = generate::form_of(version, &comparison.shapes, chance.next());
+            let other = comparison.form_of(version, chance);
             writes(version, &version.encode(&other))
         }
     }
@@ -171,11 +170,11 @@ fn is_same(
     let (form, enough) = (&pair.input.form, are_enough(pair, slots, links));
     let (found, cleared, enough) = match lender {
         Some(lender) => {
-            let lengths = lent::lengths(pair.version, chance);
+            let (needs, lengths) = (Needs::of(pair.version), Needs::of(pair.version).lengths(chance));
             let call =
                 |areas: &mut library::Areas| library::check_with(form, &pair.claim, &mut table, &mut index, areas);
-            let (found, cleared) = lender.call(form, lengths, call);
-            (found, cleared, enough && lent::are_enough(pair.version, lengths))
+            let (found, cleared) = lender.call(needs, lengths, call);
+            (found, cleared, enough && needs.are_met(lengths))
         }
         None => (library::check(form, &pair.claim, &mut table, &mut index), true, enough),
     };
@@ -208,7 +207,7 @@ fn counted(verdict: Verdict) -> String {
 }
 
 /// Checks so many pairs, and prints a summary; answers whether there was no difference. Where areas are lent the inputs are of
-/// both versions.
+/// both versions and rule sets.
 pub fn run(comparison: &Comparison, seed: u64, pairs: u64, lending: bool) -> bool {
     let mut lender = lending.then(Lender::new);
     let mut tally: BTreeMap<(Kind, String), u64> = BTreeMap::new();

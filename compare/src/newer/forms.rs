@@ -5,7 +5,7 @@ use super::late::{Looked, Slip, Stands, instance_space, is_here_only, late};
 use super::outline::Outline;
 use crate::chance::Chance;
 use crate::generate;
-use crate::rows::{DECL, FIELD, OUTER, REF, Row, SECOND};
+use crate::rows::{DECL, FIELD, NEWER, OUTER, REF, Row};
 use crate::shapes::{COMPONENT, Shapes};
 use std::collections::HashMap;
 
@@ -22,7 +22,7 @@ fn names(rows: &[Row], outline: &Outline) -> Names {
 
 /// The rows of a form, well-formed under rule set 1 though it may be too long or too deep.
 pub fn form(shapes: &Shapes, chance: &mut Chance) -> Vec<Row> {
-    let mut rows = generate::form_of(SECOND, shapes, chance.next());
+    let mut rows = generate::form_of(NEWER, shapes, chance.next());
     let outline = Outline::of(&rows);
     let names = names(&rows, &outline);
     let turned = chance.pick(&[0, 10, 30, 60]);
@@ -31,14 +31,21 @@ pub fn form(shapes: &Shapes, chance: &mut Chance) -> Vec<Row> {
             turn(&mut rows, at, &outline, &names, chance);
         }
     }
+    tame(&mut rows, chance);
+    rows
+}
+
+/// Puts names that are in time, or numbers, for most of the late ones, so that a run comes further.
+pub fn tame(rows: &mut [Row], chance: &mut Chance) {
+    let outline = Outline::of(rows);
+    let names = names(rows, &outline);
     let left = chance.pick(&[0, 0, 2, 10, 40, 100]);
-    for late in late(&outline, &rows, Slip::None) {
+    for late in late(&outline, rows, Slip::None) {
         if !chance.percent(left) {
-            mend(&mut rows, late.row, &outline, &names, chance);
+            mend(rows, late.row, &outline, &names, chance);
         }
     }
-    number_heap_types(&mut rows, &outline);
-    rows
+    number_heap_types(rows, &outline);
 }
 
 /// Whether a field stands where it is wanted: before, in or behind the one in which a name lies.
