@@ -55,12 +55,7 @@ impl Mood {
     }
 }
 
-/// A well-formed form of version 1, though it may be too long or too deep.
-pub fn form(shapes: &Shapes, seed: u64) -> Vec<Row> {
-    form_of(FIRST, shapes, seed)
-}
-
-/// The same for this version.
+/// A well-formed form of this version, though it may be too long or too deep.
 pub fn form_of(version: Version, shapes: &Shapes, seed: u64) -> Vec<Row> {
     let mut chance = Chance::new(seed);
     let mood = if version == FIRST { Mood::of(&mut chance) } else { Mood::larger(&mut chance) };

@@ -119,10 +119,31 @@ const SLOT: Slot = [0xa5a5_0001; 6];
 const LINK: u16 = 0xa5a5;
 const END: u32 = 0xa5a5_0002;
 
-/// Whether the first `size` elements are zero, and those behind as they were filled.
-fn is_cleared<T: PartialEq>(area: &[T], size: usize, zero: T, filling: T) -> bool {
+/// Whether the first `size` elements are zero, and those behind as they were filled. Whole parts are looked at in one go, since
+/// the areas of version 2 are long.
+pub fn is_cleared<T: PartialEq>(area: &[T], size: usize, zero: T, filling: T) -> bool {
     let (front, behind) = area.split_at(size.min(area.len()));
-    front.iter().all(|one| *one == zero) && behind.iter().all(|one| *one == filling)
+    let is_all =
+        |part: &[T], held: &T| part.chunks(1024).all(|some| some.iter().fold(true, |same, one| same & (one == held)));
+    is_all(front, &zero) && is_all(behind, &filling)
+}
+
+/// The length of an area: mostly its size, else longer or too short.
+pub fn length(size: usize, chance: &mut Chance) -> usize {
+    match chance.below(40) {
+        0 => size - 1,
+        1 => chance.below(size),
+        2..=8 => size + chance.below(MORE),
+        _ => size,
+    }
+}
+
+/// What the library resolves a form of this version into: by `wnt_resolve`, or in areas where they are lent.
+pub fn resolve(lender: Option<&mut Lender>, version: Version, form: &[u8], out: &mut [u8]) -> u64 {
+    match lender {
+        Some(lender) => library::resolve_with(form, out, &mut lender.areas_of(version)),
+        None => library::resolve(form, out),
+    }
 }
 
 impl Lender {
@@ -150,6 +171,11 @@ impl Lender {
             chains: &mut more[..chains],
             ends: &mut self.ends[..ends],
         }
+    }
+
+    /// Calls the library in areas that are just large enough.
+    pub fn call_exactly(&mut self, needs: Needs, call: impl FnOnce(&mut Areas) -> u64) -> (u64, bool) {
+        self.call(needs, needs.sizes(), call)
     }
 
     /// Calls the library in areas of these lengths, which are filled before; answers whether they are cleared after.

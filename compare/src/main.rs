@@ -76,18 +76,22 @@ compare --convert N [--seed S]                 convert N forms, and compare with
 compare --mend N [--seed S]                    mend N spoilt forms, and compare with a mender written for it
 compare --meant N [--seed S]                   ask what the names of N members mean, and compare with a second reading
 compare --moved N [--seed S]                   list the moved numbers of N forms, and compare with a second reading
-compare --moved-with N [--seed S]              the same for forms of both versions, in working areas that are lent
+compare --moved-with N [--seed S]              the same for forms of both versions and rule sets, in areas that are lent
 compare --sheet N [--seed S]                   hold a binding sheet against N forms, and compare with a second reading
-compare --sheet-with N [--seed S]              the same for forms of both versions, in working areas that are lent
+compare --sheet-with N [--seed S]              the same for forms of both versions and rule sets, in areas that are lent
 compare --check N [--seed S]                   check N claimed outputs, and compare with a checker written for it
-compare --check-with N [--seed S]              the same for inputs of both versions, in working areas that are lent
+compare --check-with N [--seed S]              the same for inputs of both versions and rule sets, in areas that are lent
 compare --check-bench N                        time checking beside resolving, the shortest of N calls each
 compare --moved-bench N                        time listing moved numbers beside resolving, the shortest of N calls each
 compare --share N [--seed S]                   resolve N forms with fewer aliases, and check and count them
+compare --share-with N [--seed S]              the same for forms of both versions and rule sets, in areas that are lent
 compare --told N [--seed S]                    compare on N forms what refusals tell besides
 compare --unresolve N [--seed S]               send N outputs of random forms back to names and round, and damaged ones
+compare --unresolve-with N [--seed S]          the same for outputs of both versions and rule sets, in areas that are lent
 compare --members N [--seed S]                 resolve N members inside preludes, and compare on trees that hold both
-compare --batches N [--seed S]                 the same for N batches, and each member again among other neighbours";
+compare --members-with N [--seed S]            the same for both versions and rule sets, in areas that are lent
+compare --batches N [--seed S]                 the same for N batches, and each member again among other neighbours
+compare --batches-with N [--seed S]            the same for both versions and rule sets, in areas that are lent";
 
 /// The value after `--name`, read as a number.
 fn number(arguments: &[String], name: &str) -> Option<u64> {
@@ -223,15 +227,23 @@ fn main() -> ExitCode {
     } else if let Some(pairs) = number(&arguments, "--check-with") {
         verify::run(&comparison(), number(&arguments, "--seed").unwrap_or(1), pairs, true)
     } else if let Some(outputs) = number(&arguments, "--unresolve") {
-        names_back::run(&comparison(), number(&arguments, "--seed").unwrap_or(1), outputs)
+        names_back::run(&comparison(), number(&arguments, "--seed").unwrap_or(1), outputs, false)
+    } else if let Some(outputs) = number(&arguments, "--unresolve-with") {
+        names_back::run(&comparison(), number(&arguments, "--seed").unwrap_or(1), outputs, true)
     } else if let Some(forms) = number(&arguments, "--share") {
-        share::run(&comparison(), number(&arguments, "--seed").unwrap_or(1), forms)
+        share::run(&comparison(), number(&arguments, "--seed").unwrap_or(1), forms, false)
+    } else if let Some(forms) = number(&arguments, "--share-with") {
+        share::run(&comparison(), number(&arguments, "--seed").unwrap_or(1), forms, true)
     } else if let Some(forms) = number(&arguments, "--told") {
         told::run(&comparison(), number(&arguments, "--seed").unwrap_or(1), forms)
     } else if let Some(pairs) = number(&arguments, "--members") {
-        members::run(&comparison(), number(&arguments, "--seed").unwrap_or(1), pairs)
+        members::run(&comparison(), number(&arguments, "--seed").unwrap_or(1), pairs, false)
+    } else if let Some(pairs) = number(&arguments, "--members-with") {
+        members::run(&comparison(), number(&arguments, "--seed").unwrap_or(1), pairs, true)
     } else if let Some(batches) = number(&arguments, "--batches") {
-        batches::run(&comparison(), number(&arguments, "--seed").unwrap_or(1), batches)
+        batches::run(&comparison(), number(&arguments, "--seed").unwrap_or(1), batches, false)
+    } else if let Some(batches) = number(&arguments, "--batches-with") {
+        batches::run(&comparison(), number(&arguments, "--seed").unwrap_or(1), batches, true)
     } else if let Some(pairs) = number(&arguments, "--builds") {
         builds::run(pairs, number(&arguments, "--seed").unwrap_or(1))
     } else if has("--sensitivity") {

@@ -16,7 +16,6 @@ pub const EXPORT: u8 = 9;
 pub const FIRST_INSERTED: u32 = 1 << 31;
 pub const HEADER: usize = 8;
 pub const ROW: usize = 16;
-pub const MOST_ROWS: usize = FIRST.rows;
 
 /// A version of the row form under a rule set: their numbers, the length of the header and of the row count in it, the limits.
 #[derive(Clone, Copy, Debug, PartialEq, Eq)]
@@ -77,12 +76,12 @@ impl Version {
     }
 
     /// The bytes of a form of this many rows.
-    pub fn form_size(self, rows: usize) -> usize {
+    pub const fn form_size(self, rows: usize) -> usize {
         self.header + ROW * rows
     }
 
     /// How long an output must be for a form of this many rows.
-    pub fn output_size(self, rows: usize) -> usize {
+    pub const fn output_size(self, rows: usize) -> usize {
         self.header + 4 * ROW * rows
     }
 

@@ -2,7 +2,7 @@
 
 use crate::chance::Chance;
 use crate::compare::Comparison;
-use crate::lent::{self, Lender, Lengths, Needs};
+use crate::lent::{self, Lender, Lengths, Needs, is_cleared};
 use crate::library;
 use crate::moved::{Scopes, numbered, places};
 use crate::rows::{DECL, FIELD, FIRST, FIRST_INSERTED, OUTER, REF, Row, Version};
@@ -265,8 +265,7 @@ fn one(
     };
     let (wanted, written) = case.wanted();
     counts.count(wanted, &written);
-    let zeroed = work.len().min(area(case.version));
-    let clean = work[..zeroed].iter().all(|byte| *byte == 0) && work[zeroed..].iter().all(|byte| *byte == FILLED);
+    let clean = is_cleared(&work, area(case.version), 0, FILLED);
     if got == wanted && answers == held(&written, case.room) && clean && cleared {
         return Ok(());
     }

@@ -5,7 +5,7 @@ use crate::chance::Chance;
 use crate::claims::{Reading, Verdict, verdict_as};
 use crate::compare::{Case, Comparison};
 use crate::damage::damage_as;
-use crate::lent::{self, Lender, Needs};
+use crate::lent::{self, Lender, Needs, is_cleared};
 use crate::library;
 use crate::partner::Partner;
 use crate::rows::{Answer, FIRST, HEADER, ROW, Row, Version};
@@ -18,7 +18,7 @@ pub const SLOTS: usize = 2046;
 pub const LINKS: usize = 3070;
 
 /// Their sizes for a version.
-fn sizes(version: Version) -> (usize, usize) {
+pub fn sizes(version: Version) -> (usize, usize) {
     (2 * version.rows, 1024 + 2 * version.rows)
 }
 
@@ -129,7 +129,7 @@ pub fn areas(chance: &mut Chance) -> (usize, usize) {
 }
 
 /// The same for an input of this version.
-fn areas_of(version: Version, chance: &mut Chance) -> (usize, usize) {
+pub fn areas_of(version: Version, chance: &mut Chance) -> (usize, usize) {
     let (slots, links) = sizes(version);
     match chance.below(40) {
         0 => (slots - 1, links),
@@ -140,11 +140,6 @@ fn areas_of(version: Version, chance: &mut Chance) -> (usize, usize) {
     }
 }
 
-/// What an area holds after the call: zeros up to its size, and behind that what it held.
-pub fn left<T: Copy>(length: usize, size: usize, zero: T, held: T) -> Vec<T> {
-    (0..length).map(|at| if at < size { zero } else { held }).collect()
-}
-
 /// The verdict by the text where the areas are long enough or not: refusal 3 comes behind 1 and 2.
 fn expected(comparison: &Comparison, pair: &Pair, enough: bool) -> Verdict {
     let verdict = verdict_as(pair.version, comparison, &pair.input, &pair.claim);
@@ -152,9 +147,9 @@ fn expected(comparison: &Comparison, pair: &Pair, enough: bool) -> Verdict {
     if before || enough { verdict } else { Verdict::Refused { number: 3, place: 0 } }
 }
 
-/// Whether areas of these lengths are long enough for the pair.
-fn are_enough(pair: &Pair, slots: usize, links: usize) -> bool {
-    let (least_slots, least_links) = sizes(pair.version);
+/// Whether areas of these lengths are long enough for an input of this version.
+pub fn are_enough(version: Version, slots: usize, links: usize) -> bool {
+    let (least_slots, least_links) = sizes(version);
     slots >= least_slots && links >= least_links
 }
 
@@ -167,7 +162,7 @@ fn is_same(
 ) -> (Verdict, u64, bool) {
     let (slots, links) = areas_of(pair.version, chance);
     let (mut table, mut index) = (vec![SLOT; slots], vec![LINK; links]);
-    let (form, enough) = (&pair.input.form, are_enough(pair, slots, links));
+    let (form, enough) = (&pair.input.form, are_enough(pair.version, slots, links));
     let (found, cleared, enough) = match lender {
         Some(lender) => {
             let (needs, lengths) = (Needs::of(pair.version), Needs::of(pair.version).lengths(chance));
@@ -180,7 +175,7 @@ fn is_same(
     };
     let wanted = expected(comparison, pair, enough);
     let (most, all) = sizes(pair.version);
-    let clean = cleared && table == left(slots, most, [0; 6], SLOT) && index == left(links, all, 0, LINK);
+    let clean = cleared && is_cleared(&table, most, [0; 6], SLOT) && is_cleared(&index, all, 0, LINK);
     (wanted, found, clean && found == wanted.packed())
 }
 
@@ -266,7 +261,7 @@ fn deep() -> Vec<Pair> {
 
 /// Takes a pair with areas of these lengths.
 fn offer(comparison: &Comparison, pair: Pair, (slots, links): (usize, usize), sample: &mut Sample) {
-    let verdict = expected(comparison, &pair, are_enough(&pair, slots, links));
+    let verdict = expected(comparison, &pair, are_enough(pair.version, slots, links));
     let vector = Vector {
         function: Function::Check,
         number: 0,
