@@ -13,7 +13,7 @@ use borrow.Author.Tests.{eqb-true, leb-true}
 use mir.Syntax.{w8}
 use mir.Val.{Fits}
 use Rattle.kit.specs.Out.{_&_}
-use Rattle.rules.specs.Versions.{Version, RuleSet, version1, version2, today, topName, asClaimed}
+use Rattle.rules.specs.Versions.{Version, RuleSet, Setting, topName, asClaimed}
 use Rattle.rules.specs.Tree.{Scope}
 use Rattle.rules.specs.Begins.{IsForm}
 use Rattle.rules.specs.Rules.{Result, ok, resolve}
@@ -40,11 +40,11 @@ use Rattle.resolver.specs.Steps.{stepsIn, stepsOf}
 use Rattle.resolver.specs.declared.steps.Steps.{Steps}
 use Rattle.resolver.specs.declared.steps.Steps.the-variants.{Pass, Refused}
 use Rattle.resolver.proofs.Bytes.{all-bytes}
-use Rattle.resolver.proofs.Root.{under, Able, able-1, able-2, Rooms, steps-refusal}
+use Rattle.resolver.proofs.Root.{Able, Rooms, steps-refusal}
 use Rattle.resolver_with.specs.Areas.{slotsFor, linksFor, lentOf, roomy, Cleared}
 use Rattle.resolver_with.specs.Areas as areas
 use Rattle.resolver_with.specs.Exact.{Suits}
-use Rattle.resolver_with.proofs.Runs.{rooms-in}
+use Rattle.resolver_with.proofs.Runs.{able-at, rooms-in}
 use Rattle.claim_check.specs.Run.{Fit, Kept, versionOf, bodyOf, claimBy, inputOf}
 use Rattle.claim_check.specs.declared.Verdict.{Verdict}
 use Rattle.claim_check.proofs.Runs.{kept-front}
@@ -84,34 +84,31 @@ unfolding refusedBy stepsOf
 of-rules (Result.refused why place) = refl
 of-rules (ok r) = refl
 
--- the steps in lent tables answer what the rules' steps answer, under any version that they are able to take
-module _ (v : Version) (able : Able (under v)) (ends : List ℕ) (entered names : List Slot) (rooms : Rooms v ends entered names) (form : List ℕ) (bytes : Bytes form) (s : Scope) (reads : readForm (under v) form ≡ accepted s) where
-  rows-are : (length (drop (v .header) form) / 16 ≤ v .rows) × (length (drop (v .header) form) / 16 ≡ rowCount v form)
+-- the steps in lent tables answer what the rules' steps answer, under any setting that they are able to take
+module _ (v : Setting) (able : Able v) (ends : List ℕ) (entered names : List Slot) (rooms : Rooms (v .version) ends entered names) (form : List ℕ) (bytes : Bytes form) (s : Scope) (reads : readForm v form ≡ accepted s) where
+  abbrev rows : List ℕ
+  rows = drop (v .version .header) form
+
+  rows-are : (length rows / 16 ≤ v .version .rows) × (length rows / 16 ≡ rowCount (v .version) form)
   rows-are =
-      let R = read-exactly (under v) form s .0 reads in
-      let n = rowCount v form in
-      let long = eqb-true (length form) (v .header + 16 * n) (R .long) in
-      let few = leb-true n (v .rows) (and-right (leb 1 n) (leb n (v .rows)) (R .counted)) in
-      let d = length-drop (v .header) form in
+      let R = read-exactly v form s .0 reads in
+      let n = rowCount (v .version) form in
+      let long = eqb-true (length form) (v .version .header + 16 * n) (R .long) in
+      let few = leb-true n (v .version .rows) (and-right (leb 1 n) (leb n (v .version .rows)) (R .counted)) in
+      let d = length-drop (v .version .header) form in
       (omega arith, omega arith)
 
-  is-form : IsForm today (rowsOf topName (length (drop (v .header) form) / 16) (drop (v .header) form)) s
+  is-form : IsForm (v .rules) (rowsOf topName (length rows / 16) rows) s
   is-form =
-      let R = read-exactly (under v) form s .0 reads in
-      subst (λ (n : ℕ). IsForm today (rowsOf topName n (drop (v .header) form)) s) (sym (rows-are .1))
-      (subst (λ (n : ℕ). IsForm today (rowsOf n (rowCount v form) (drop (v .header) form)) s) (able .top) (R .is-form))
+      let R = read-exactly v form s .0 reads in
+      subst (λ (n : ℕ). IsForm (v .rules) (rowsOf topName n rows) s) (sym (rows-are .1))
+      (subst (λ (n : ℕ). IsForm (v .rules) (rowsOf n (rowCount (v .version) form) rows) s) (able .top) (R .is-form))
 
-  steps-able : stepsIn (walkIn (under v) (drop (v .header) form) ends entered names (0 ∷ [])) ≡ stepsOf (resolve today s)
+  steps-able : stepsIn (walkIn v rows ends entered names (0 ∷ [])) ≡ stepsOf (resolve (v .rules) s)
   unfolding walkIn
   steps-able =
-      let R = read-exactly (under v) form s .0 reads in
-      of-walk _ ∙ (ap asSteps (steps-refusal (under v) able ends entered names rooms (drop (v .header) form) (bytes-drop (v .header) form bytes) (rows-are .0) s is-form (R .low) (0 ∷ [])) ∙ of-rules (resolve today s))
-
-steps-at : (i : ℕ) → i < 2 → (ends : List ℕ) (entered names : List Slot) → Rooms (setting i .version) ends entered names → (form : List ℕ) → Bytes form → (s : Scope) → readForm (setting i) form ≡ accepted s
-    → stepsIn (walkIn (setting i) (bodyOf i form) ends entered names (0 ∷ [])) ≡ stepsOf (resolve (setting i .rules) s)
-steps-at zero h ends entered names rooms form bytes s e = steps-able version1 able-1 ends entered names rooms form bytes s e
-steps-at (suc zero) h ends entered names rooms form bytes s e = steps-able version2 able-2 ends entered names rooms form bytes s e
-steps-at (suc (suc i)) h ends entered names rooms form bytes s e = absurd (omega arith)
+      let R = read-exactly v form s .0 reads in
+      of-walk _ ∙ (ap asSteps (steps-refusal v able ends entered names rooms rows (bytes-drop (v .version .header) form bytes) (rows-are .0) s is-form (R .low) (0 ∷ [])) ∙ of-rules (resolve (v .rules) s))
 
 -- the reading's refusal, or else what the steps answer
 abbrev triedBy : Form → Steps → Steps
@@ -128,7 +125,7 @@ module _ (form : List ℕ) (all : (j : ℕ) → Fits w8 (getD form j 0)) (i : �
   walks = stepsIn (walkIn (setting i) (bodyOf i form) ends entered names (0 ∷ []))
 
   tried : triedBy r walks ≡ inputOf (setting i .rules) (readForm (setting i) form)
-  tried = ap (λ (x : Form). triedBy x walks) e ∙ tried-is (setting i .rules) (readForm (setting i) form) walks (λ s q. steps-at i (suits .served) ends entered names (rooms-in i entered names known chains ends suits) form (all-bytes form all) s q)
+  tried = ap (λ (x : Form). triedBy x walks) e ∙ tried-is (setting i .rules) (readForm (setting i) form) walks (λ s q. steps-able (setting i) (able-at i) ends entered names (rooms-in i entered names known chains ends suits) form (all-bytes form all) s q)
 
   pub input-refused : (why : Refusal) → r ≡ read.Refused why → Refused why ≡ inputOf (setting i .rules) (readForm (setting i) form)
   input-refused why w = sym (ap (λ (x : Form). triedBy x walks) w) ∙ tried
@@ -159,7 +156,6 @@ module _ (i : ℕ) (e n : List Slot) (k c m : List ℕ) (large : Large i e n k c
       pub fronts-suit : Suits i (take slots e) (take slots n) (take links k) (take links c) (take slots m)
       fronts-suit =
           record {
-            served = large .served;
             entered = length-take-le slots e entered-long ∙ p;
             names = length-take-le slots n names-long ∙ p;
             known = length-take-le links k known-long ∙ q;

@@ -12,7 +12,7 @@ use borrow.Author.Tests.{eqb-true, leb-true, lt-ltb, ltb-false}
 use mir.Syntax.{w8}
 use mir.Val.{Fits}
 use Rattle.rules.specs.Tools.{if_then_else_, only, _orElse_}
-use Rattle.rules.specs.Versions.{Setting, version2, today, asClaimed}
+use Rattle.rules.specs.Versions.{Setting, asClaimed}
 use Rattle.rules.specs.Tree.{Scope}
 use Rattle.rules.specs.Answer.{AnswerOf, refused, accepted, hasHeader, settingOf}
 use Rattle.rules.specs.Laws.ToolLaws.{and-left, and-right}
@@ -27,8 +27,9 @@ use Rattle.resolver.specs.declared.steps.Steps.{Steps}
 use Rattle.resolver.specs.declared.steps.Steps.the-variants as steps
 use Rattle.resolver.proofs.Bytes.{all-bytes}
 use Rattle.resolver_with.specs.Areas.{slotsFor, linksFor, Lent, lentOf, roomy, Cleared}
-use Rattle.resolver_with.specs.Served.{first, served, askedIn, asked}
+use Rattle.resolver_with.specs.Served.{served, asked}
 use Rattle.resolver_with.proofs.Asked.{setting-asked}
+use Rattle.lent_areas.proofs.InForce.{first-asked}
 use Rattle.claim_check.specs.Meaning.{meaning, ruled}
 use Rattle.claim_check.specs.Run.{versionOf, claimBy, stepsBy, inputOf, smallT}
 use Rattle.claim_check.specs.declared.Verdict.{Verdict}
@@ -46,12 +47,11 @@ all-true a b c d e q =
     let s = and-right c (d && e) r in
     (and-left a (b && (c && (d && e))) q, and-left b (c && (d && e)) p, and-left c (d && e) r, and-left d e s, and-right d e s)
 
-pub large-in : (i : ℕ) → i < 2 → (e n : List Slot) (k c m : List ℕ) → roomy (setting i .version) (lentOf e n k c m) ≡ true → Large i e n k c m
+pub large-in : (i : ℕ) (e n : List Slot) (k c m : List ℕ) → roomy (setting i .version) (lentOf e n k c m) ≡ true → Large i e n k c m
 unfolding roomy
-large-in i h e n k c m q =
+large-in i e n k c m q =
     let p = all-true _ _ _ _ _ q in
     record {
-      served = h;
       entered = leb-true _ _ (p .0);
       names = leb-true _ _ (p .1);
       known = leb-true _ _ (p .2);
@@ -149,13 +149,8 @@ small-tests lent i table index slots links p q = rw (p, q)
 -- ---- the areas
 
 sized-asked : (form : List ℕ) → sizedBy served form ≡ some (asked form)
-unfolding sizedBy settingOf asked askedIn only _orElse_ if_then_else_
-sized-asked form = go (hasHeader first form) (hasHeader (record { version = version2; rules = today }) form)
-  where
-    go : (a b : Bool) → ((only a first orElse (only b (record { version = version2; rules = today }) orElse none)) orElse some first) ≡ some (if a then first else (if b then record { version = version2; rules = today } else first))
-    go true b = refl
-    go false true = refl
-    go false false = refl
+unfolding sizedBy
+sized-asked form = first-asked form
 
 module _ (form : List ℕ) (i : ℕ) (asks : setting i ≡ asked form) where
   sized : sizedBy served form ≡ some (setting i)

@@ -1,13 +1,12 @@
--- Areas that are large enough for the steps on a form of the setting at place i, which is one of those in force.
+-- Areas that are large enough for the steps on a form of the setting at place i.
 use mathlib.Core.List.{List}
-use Prim.Native.Nat.{ℕ, _≤_, _<_}
+use Prim.Native.Nat.{ℕ, _≤_}
 use lib.ListN.{length}
 use Rattle.limits.specs.Held.{setting}
 use Rattle.names.specs.Table.{Slot}
 use Rattle.resolver_with.specs.Areas.{slotsFor, linksFor}
 
 pub record Large (i : ℕ) (e n : List Slot) (k c m : List ℕ) : Type 0 where
-  pub served : i < 2
   pub entered : slotsFor (setting i .version) ≤ length e
   pub names : slotsFor (setting i .version) ≤ length n
   pub known : linksFor (setting i .version) ≤ length k

@@ -1,27 +1,34 @@
--- The settings in force are usual, their rows can be numbered in 16 bits, and the one that a header asks for is the one by which the areas go.
+-- The setting that a header asks for is the one by which the areas go.
 use mathlib.Core.Path.{_≡_, refl, ap, sym, _∙_}
 use mathlib.Core.Bool.{Bool, true, false}
 use mathlib.Core.Option.{Option, none, some}
 use mathlib.Core.List.{List, [], _∷_}
 use native.Mathlib.Omega.{arith}
 use Prim.Native.Nat.{ℕ, zero, suc, _≤_}
-use Rattle.rules.specs.Tools.{only, _orElse_}
+use Rattle.rules.specs.Tools.{if_then_else_, only, _orElse_}
 use Rattle.rules.specs.Versions.{Setting}
 use Rattle.rules.specs.Answer.{hasHeader, settingOf}
 use Rattle.rules.specs.Laws.Results.{some-same, no-option}
-use Rattle.rules.specs.Laws.Demand3.{AllUsual, all-usual}
-use Rattle.reading_laws.specs.OnBytes.{AllWithin, all-within}
 use Rattle.limits.specs.Held.{settingIn, limitsOf, setting}
 use Rattle.limits.proofs.Laws.{stand-for}
 use Rattle.form.specs.Header.{headerFor, headerTo}
-use Rattle.resolver_with.specs.Served.{served, asked}
+use Rattle.resolver_with.specs.Served.{first, served, askedIn, asked}
 use Rattle.resolver_with.proofs.Asked.{setting-asked}
 
-pub served-usual : AllUsual served
-served-usual = (all-usual .0, (all-usual .1 .0, tt))
+first-in : (ss : List Setting) (input : List ℕ) → (settingOf ss input orElse some first) ≡ some (askedIn ss input)
+unfolding settingOf askedIn _orElse_
+first-in [] input = refl
+first-in (s ∷ ss) input = go (hasHeader s input)
+  where
+    go : (b : Bool) → ((only b s orElse settingOf ss input) orElse some first) ≡ some (if b then s else askedIn ss input)
+    unfolding only _orElse_ if_then_else_
+    go true = refl
+    go false = first-in ss input
 
-pub served-within : AllWithin served
-served-within = (all-within .0, (all-within .1 .0, tt))
+-- it is the first one where a header asks for none
+pub first-asked : (input : List ℕ) → (settingOf served input orElse some first) ≡ some (asked input)
+unfolding asked
+first-asked input = first-in served input
 
 only-asked : (input : List ℕ) → settingOf served input ≡ (only (hasHeader (asked input) input) (asked input) orElse none)
 only-asked input = setting-asked input ∙ unfold settingOf in refl

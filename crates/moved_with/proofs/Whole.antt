@@ -17,6 +17,7 @@ use Rattle.rules.specs.Versions.{Setting}
 use Rattle.rules.specs.Rows.{Row}
 use Rattle.rules.specs.Answer.{AnswerOf, refused, accepted, settingOf, answer, output}
 use Rattle.rules.specs.Laws.RowLaws.{Bytes}
+use Rattle.rules.specs.Laws.Demand3.{all-usual}
 use Rattle.moving.specs.MovedAnswer.{MovedAnswer, movedAnswer, roomsOf, Buffers, buffers}
 use Rattle.limits.specs.Held.{setting}
 use Rattle.refusal.specs.declared.Refusal.{Refusal}
@@ -29,10 +30,10 @@ use Rattle.resolver_with.specs.Areas.{Lent, roomy, Cleared}
 use Rattle.resolver_with.specs.Served.{served}
 use Rattle.resolver_with.specs.Served as by
 use Rattle.resolver_with.specs.With.{answerWith, outputWith}
-use Rattle.lent_areas.proofs.InForce.{served-usual, served-within, asked-is, header-asked}
+use Rattle.lent_areas.proofs.InForce.{asked-is, header-asked}
 use Rattle.moved_list.specs.declared.Listed.{Listed}
 use Rattle.reading_laws.specs.OnBytes
-use Rattle.reading_laws.specs.OnBytes.{body}
+use Rattle.reading_laws.specs.OnBytes.{body, all-within}
 use Rattle.moved.specs.Meaning.{meaning, ruled, held}
 use Rattle.moved.specs.Run.{rowsOf, rowsAsked, frontsT}
 use Rattle.moved.specs.declared.run.Answer.the-variants.{Listed as ListedAnswer, Refused}
@@ -158,14 +159,14 @@ module _ (form o m a : List ℕ) (lent : Lent) (i rows : ℕ) (asks : setting i 
             go true q =
                 let Y = is-accepted (answer served form (length o)) (r .number) (r .place) (answer-counted served form (length o)) (told-roomy q) n in
                 let bs = all-bytes form all in
-                let T = OnBytes.trees served served-usual served-within form o bs (Y .0) (Y .1) in
+                let T = OnBytes.trees served all-usual all-within form o bs (Y .0) (Y .1) in
                 let same : setting i ≡ T .setting = asks ∙ asked-is form (T .setting) (T .asked-for) in
-                let made = accepts served form o m a served-usual served-within bs (long o) (Y .0) (Y .1) l m′ a′
+                let made = accepts served form o m a all-usual all-within bs (long o) (Y .0) (Y .1) l m′ a′
                 (lists ∙ (ap (λ (s : Setting). frontsT (body s form) (body s o′) m a rows) same ∙ (ap (λ (z : List ℕ). frontsT (body (T .setting) form) (body (T .setting) z) m a rows) (left-roomy q) ∙ ap (λ (k : ℕ). frontsT (body (T .setting) form) (body (T .setting) (output served form o)) m a k) (sym rows-asked)))) in
                 (made .0 ∙ ap ruled (sym (answers-roomy q)), ap (λ (z : List ℕ). held z m′ a′) (left-roomy q) ∙ (made .1 ∙ sym (leaves-roomy q)))
             go false q =
                 let Y = is-accepted (answer served form (length {A = ℕ} [])) (r .number) (r .place) (answer-counted served form 0) (told-small q) n in
-                no-room-refuses served served-usual served-within form (all-bytes form all) (Y .0) (Y .1)
+                no-room-refuses served all-usual all-within form (all-bytes form all) (Y .0) (Y .1)
 
 -- the areas, by the setting that the code goes by
 pub cleared-asked : (form : List ℕ) (s : Setting) → s ≡ by.asked form → (e e′ n n′ : List Slot) (k k′ c c′ l l′ : List ℕ) → Cleared (s .version) e e′ n n′ k k′ c c′ l l′ → Cleared (by.asked form .version) e e′ n n′ k k′ c c′ l l′

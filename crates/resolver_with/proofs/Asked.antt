@@ -6,10 +6,10 @@ use mathlib.Core.List.{List, [], _∷_}
 use native.Mathlib.Omega.{arith}
 use Prim.Native.Nat.{ℕ, zero, suc, _+_, _*_, _≤_, _<_}
 use lib.Dec.{eqb}
-use lib.ListN.{length, take, drop}
+use lib.ListN.{length, drop}
 use borrow.Author.Needs.{needs}
 use Rattle.rules.specs.Tools.{if_then_else_, between, only, _orElse_}
-use Rattle.rules.specs.Versions.{Setting, all}
+use Rattle.rules.specs.Versions.{Setting}
 use Rattle.rules.specs.Answer.{hasHeader, settingOf, rowCount, answerInside, answer, outputInside, output}
 use Rattle.limits.specs.declared.Limits.{Limits}
 use Rattle.limits.specs.Held.{settingIn, limitsOf, setting}
@@ -17,9 +17,9 @@ use Rattle.limits.proofs.Laws.{stand-for}
 use Rattle.form.specs.Header.{headerIn, headerFor, headerTo}
 use Rattle.form.specs.declared.header.Header.{Header}
 use Rattle.form.specs.declared.header.Header.the-variants.{Rows, Wrong, Count}
-use Rattle.resolver_with.specs.Served.{first, served, askedIn, asked, askedOfAll}
+use Rattle.resolver_with.specs.Served.{first, served, askedIn, asked}
 
--- ---- asked_among
+-- ---- asked_for
 
 -- a header that is not wrong is that of the setting
 some-rows : (s : Setting) (input : List ℕ) (b : Bool) (n : ℕ) → Rows n ≡ headerFor (only b s) input → b ≡ true
@@ -43,36 +43,22 @@ no-header s input true e =
     not-wrong (not (between 1 (s .version .rows) (rowCount (s .version) input)) || not (eqb (length input) (s .version .header + 16 * rowCount (s .version) input))) (rowCount (s .version) input) e
 no-header s input false e = refl
 
--- the setting at place i is the next of the first ones
-next-among : (most i : ℕ) → most ≤ 3 → i < most → drop i (take most all) ≡ setting i ∷ drop (i + 1) (take most all)
-next-among zero i few h = absurd (omega arith)
-next-among (suc zero) zero few h = refl
-next-among (suc zero) (suc i) few h = absurd (omega arith)
-next-among (suc (suc zero)) zero few h = refl
-next-among (suc (suc zero)) (suc zero) few h = refl
-next-among (suc (suc zero)) (suc (suc i)) few h = absurd (omega arith)
-next-among (suc (suc (suc zero))) zero few h = refl
-next-among (suc (suc (suc zero))) (suc zero) few h = refl
-next-among (suc (suc (suc zero))) (suc (suc zero)) few h = refl
-next-among (suc (suc (suc zero))) (suc (suc (suc i))) few h = absurd (omega arith)
-next-among (suc (suc (suc (suc most)))) i few h = absurd (omega arith)
+-- the setting at place i is the next one
+next-of : (i : ℕ) → i < 3 → drop i served ≡ setting i ∷ drop (i + 1) served
+next-of zero h = refl
+next-of (suc zero) h = refl
+next-of (suc (suc zero)) h = refl
+next-of (suc (suc (suc i))) h = absurd (omega arith)
 
-none-left : (most : ℕ) → most ≤ 3 → drop most (take most all) ≡ []
-none-left zero few = refl
-none-left (suc zero) few = refl
-none-left (suc (suc zero)) few = refl
-none-left (suc (suc (suc zero))) few = refl
-none-left (suc (suc (suc (suc most)))) few = absurd (omega arith)
-
-module _ (input : List ℕ) (most i : ℕ) (few : most ≤ 3) (T : Setting) (inv : askedIn (drop i (take most all)) input first ≡ T) where
-  module _ (h : i < most) (l : Limits) (limits : l ≡ limitsOf (setting i)) (said : Header) (got : said ≡ headerTo l input) where
+module _ (input : List ℕ) (i : ℕ) (T : Setting) (inv : askedIn (drop i served) input ≡ T) where
+  module _ (h : i < 3) (l : Limits) (limits : l ≡ limitsOf (setting i)) (said : Header) (got : said ≡ headerTo l input) where
     of-setting : said ≡ headerFor (only (hasHeader (setting i) input) (setting i)) input
     unfolding headerTo
     of-setting = rw (limits, stand-for i) at got
 
-    turn : (if hasHeader (setting i) input then setting i else askedIn (drop (i + 1) (take most all)) input first) ≡ T
+    turn : (if hasHeader (setting i) input then setting i else askedIn (drop (i + 1) served) input) ≡ T
     unfolding askedIn
-    turn = sym (ap (λ (ss : List Setting). askedIn ss input first) (next-among most i few h)) ∙ inv
+    turn = sym (ap (λ (ss : List Setting). askedIn ss input) (next-of i h)) ∙ inv
 
     hit : hasHeader (setting i) input ≡ true → setting i ≡ T
     unfolding if_then_else_
@@ -84,62 +70,47 @@ module _ (input : List ℕ) (most i : ℕ) (few : most ≤ 3) (T : Setting) (inv
     pub asked-count : said ≡ Count → setting i ≡ T
     asked-count e = hit (some-count (setting i) input (hasHeader (setting i) input) (sym e ∙ of-setting))
 
-    pub asked-on : said ≡ Wrong → askedIn (drop (i + 1) (take most all)) input first ≡ T
+    pub asked-on : said ≡ Wrong → askedIn (drop (i + 1) served) input ≡ T
     unfolding if_then_else_
     asked-on e = rw (no-header (setting i) input (hasHeader (setting i) input) (sym e ∙ of-setting)) at turn
 
-  pub asked-end : most ≤ i → i ≤ most → setting 0 ≡ T
+  pub asked-end : 3 ≤ i → i ≤ 3 → setting 0 ≡ T
   unfolding askedIn
-  asked-end h g = let e : i ≡ most = omega arith in sym (ap (λ (ss : List Setting). askedIn ss input first) (ap (λ (n : ℕ). drop n (take most all)) e ∙ none-left most few)) ∙ inv
+  asked-end h g = let e : i ≡ 3 = omega arith in sym (ap (λ (n : ℕ). askedIn (drop n served) input) e) ∙ inv
 
-pub ruleset ways = (asked-rows, asked-count, asked-on, asked-end, needs)
-
--- ---- asked_for, asked_of_all
-
-pub among-today : (input : List ℕ) → askedIn (take 2 all) input first ≡ asked input
+pub asked-first : (input : List ℕ) → askedIn (drop 0 served) input ≡ asked input
 unfolding asked
-among-today input = refl
+asked-first input = refl
 
-pub among-all : (input : List ℕ) → askedIn (take 3 all) input first ≡ askedOfAll input
-unfolding askedOfAll
-among-all input = refl
+pub ruleset ways = (asked-first, asked-rows, asked-count, asked-on, asked-end, needs)
 
 -- ---- the rules under the setting that is asked for
 
--- where a header that asks for none of them does not ask for the other either
-asked-same : (ss : List Setting) (input : List ℕ) (other : Setting) → (settingOf ss input ≡ none → hasHeader other input ≡ false) → settingOf ss input ≡ settingOf (askedIn ss input other ∷ []) input
+-- a header that asks for none of them does not ask for the first either
+asked-same : (ss : List Setting) (input : List ℕ) → (settingOf ss input ≡ none → hasHeader first input ≡ false) → settingOf ss input ≡ settingOf (askedIn ss input ∷ []) input
 unfolding settingOf askedIn
-asked-same [] input other f = rw (f refl) (unfold only _orElse_ in refl)
-asked-same (s ∷ ss) input other f = go (hasHeader s input) refl (λ g. asked-same ss input other g)
+asked-same [] input f = rw (f refl) (unfold only _orElse_ in refl)
+asked-same (s ∷ ss) input f = go (hasHeader s input) refl (λ g. asked-same ss input g)
   where
-    go : (b : Bool) → hasHeader s input ≡ b → ((settingOf ss input ≡ none → hasHeader other input ≡ false) → settingOf ss input ≡ (only (hasHeader (askedIn ss input other) input) (askedIn ss input other) orElse none))
-        → (only b s orElse settingOf ss input) ≡ (only (hasHeader (if b then s else askedIn ss input other) input) (if b then s else askedIn ss input other) orElse none)
+    go : (b : Bool) → hasHeader s input ≡ b → ((settingOf ss input ≡ none → hasHeader first input ≡ false) → settingOf ss input ≡ (only (hasHeader (askedIn ss input) input) (askedIn ss input) orElse none))
+        → (only b s orElse settingOf ss input) ≡ (only (hasHeader (if b then s else askedIn ss input) input) (if b then s else askedIn ss input) orElse none)
     go true e later = unfold if_then_else_ only _orElse_ in rw e
     go false e later = unfold if_then_else_ only _orElse_ in later (λ n. f (rw e (unfold only _orElse_ in n)))
 
-first-unasked : (ss : List Setting) (input : List ℕ) → settingOf (first ∷ ss) input ≡ none → hasHeader first input ≡ false
-unfolding settingOf
-first-unasked ss input e = go (hasHeader first input) e
-  where
-    go : (b : Bool) → (only b first orElse settingOf ss input) ≡ none → b ≡ false
-    go true q = unfold only _orElse_ in (let z : _≡_ {A = ℕ} 0 1 = cc in absurd (omega arith))
-    go false q = refl
+first-unasked : (b : Bool) (others : Option Setting) → (only b first orElse others) ≡ none → b ≡ false
+unfolding only _orElse_
+first-unasked true others e = let z : _≡_ {A = ℕ} 0 1 = cc in absurd (omega arith)
+first-unasked false others e = refl
 
 module _ (input : List ℕ) where
   pub setting-asked : settingOf served input ≡ settingOf (asked input ∷ []) input
-  unfolding asked
-  setting-asked = asked-same served input first (first-unasked _ input)
+  unfolding asked settingOf
+  setting-asked = asked-same served input (λ e. first-unasked (hasHeader first input) _ e)
 
-  pub setting-asked-of-all : settingOf all input ≡ settingOf (askedOfAll input ∷ []) input
-  unfolding askedOfAll
-  setting-asked-of-all = asked-same all input first (first-unasked _ input)
-
--- what asks for the same is answered the same
-module _ (ss : List Setting) (s : Setting) (input : List ℕ) (same : settingOf ss input ≡ settingOf (s ∷ []) input) where
-  pub answer-asked : (room : ℕ) → answer ss input room ≡ answer (s ∷ []) input room
+  pub answer-asked : (room : ℕ) → answer served input room ≡ answer (asked input ∷ []) input room
   unfolding answer answerInside
-  answer-asked room = rw same
+  answer-asked room = rw setting-asked
 
-  pub output-asked : (old : List ℕ) → output ss input old ≡ output (s ∷ []) input old
+  pub output-asked : (old : List ℕ) → output served input old ≡ output (asked input ∷ []) input old
   unfolding output outputInside
-  output-asked old = rw same
+  output-asked old = rw setting-asked

@@ -13,8 +13,8 @@ use mir.Syntax.{w8}
 use mir.Val.{Fits}
 use Rattle.kit.specs.Out.{_&_}
 use Rattle.rules.specs.Tools.{if_then_else_}
-use Rattle.rules.specs.Versions.{Version, Setting, version2, newer, all}
-use Rattle.rules.specs.Answer.{settingOf, answer, output}
+use Rattle.rules.specs.Versions.{Version, Setting, version2, newer}
+use Rattle.rules.specs.Answer.{answer, output}
 use Rattle.rules.specs.Laws.RowLaws.{Bytes}
 use Rattle.refusal.specs.declared.Refusal.{Refusal}
 use Rattle.limits.specs.declared.Limits.{Limits}
@@ -41,10 +41,10 @@ use Rattle.resolver.proofs.Starts.{served-new, stacked-start}
 use Rattle.resolver.proofs.Root.{Able, able-1, able-2, Rooms}
 use Rattle.resolver.proofs.Agrees.{answers-early, leaves-early, run-agrees}
 use Rattle.resolver_with.specs.Areas.{slotsFor, linksFor, Lent, lentOf, roomy, cleared, Cleared}
-use Rattle.resolver_with.specs.Exact.{exactly, CutTo, Suits, Zeroed}
-use Rattle.resolver_with.specs.Served.{served, asked, askedOfAll}
-use Rattle.resolver_with.specs.With.{answerBy, outputBy, answerWith, outputWith, answerOfAll, outputOfAll, Ran}
-use Rattle.resolver_with.proofs.Asked.{setting-asked, setting-asked-of-all, answer-asked, output-asked}
+use Rattle.resolver_with.specs.Exact.{exactly, Suits, Zeroed}
+use Rattle.resolver_with.specs.Served.{asked}
+use Rattle.resolver_with.specs.With.{answerWith, outputWith, Ran}
+use Rattle.resolver_with.proofs.Asked.{answer-asked, output-asked}
 use Rattle.resolver_with.proofs.Zeros.{exact-is, cleared-is}
 
 -- ---- what is in force
@@ -59,9 +59,6 @@ able-at zero = able-1
 able-at (suc zero) = able-2
 able-at (suc (suc zero)) = able-newer
 able-at (suc (suc (suc i))) = able-1
-
-pub few-in : (i : ℕ) → i < 2 → setting i .version .rows ≤ 16383
-few-in i h = few-rows i
 
 header-in : (i : ℕ) → 0 < setting i .version .header
 header-in i = omega (arith, able-at i .usual .header)
@@ -84,12 +81,12 @@ take-copies zero m z h = refl
 take-copies (suc n) zero z h = absurd (omega arith)
 take-copies (suc n) (suc m) z h = ap (λ (l : List _). z ∷ l) (take-copies n m z (omega arith))
 
-module _ (i : ℕ) (entered names : List Slot) (known chains ends : List ℕ) (cut : CutTo i entered names known chains ends) where
+module _ (i : ℕ) (entered names : List Slot) (known chains ends : List ℕ) (suits : Suits i entered names known chains ends) where
   -- the indexes start empty
   pub served-in : (k c : List ℕ) (used : ℕ) → k ≡ replicate (length known) 0 → c ≡ replicate (length chains) 0 → used ≡ 0 → Served entered k names c used
   served-in k c used p q u =
       let f = few-rows i in
-      rw (p, q) (served-new (slotsFor (setting i .version)) (omega arith) entered names (length known) (length chains) used (omega (arith, cut .2, cut .0)) (omega (arith, cut .3, cut .1)) (omega (arith, cut .0)) (omega (arith, cut .1)) u)
+      rw (p, q) (served-new (slotsFor (setting i .version)) (omega arith) entered names (length known) (length chains) used (omega (arith, suits .known, suits .entered)) (omega (arith, suits .chains, suits .names)) (omega (arith, suits .entered)) (omega (arith, suits .names)) u)
 
   module _ (l : Limits) (limits : l ≡ limitsOf (setting i)) (most : ℕ) (scopes-are : most ≡ l .scopes) where
     most-is : most ≡ setting i .version .scopes
@@ -139,11 +136,11 @@ exact-parts true true false d e q = let z : _≡_ {A = ℕ} 0 1 = cc in absurd (
 exact-parts true false c d e q = let z : _≡_ {A = ℕ} 0 1 = cc in absurd (omega arith)
 exact-parts false b c d e q = let z : _≡_ {A = ℕ} 0 1 = cc in absurd (omega arith)
 
-pub cut-exact : (i : ℕ) (entered names : List Slot) (known chains ends : List ℕ) → exactly (setting i .version) (lentOf entered names known chains ends) ≡ true → CutTo i entered names known chains ends
+pub suits-exact : (i : ℕ) (entered names : List Slot) (known chains ends : List ℕ) → exactly (setting i .version) (lentOf entered names known chains ends) ≡ true → Suits i entered names known chains ends
 unfolding exactly
-cut-exact i entered names known chains ends e =
+suits-exact i entered names known chains ends e =
     let p = exact-parts _ _ _ _ _ e in
-    (eqb-true _ _ (p .0), eqb-true _ _ (p .1), eqb-true _ _ (p .2), eqb-true _ _ (p .3), eqb-true _ _ (p .4))
+    record { entered = eqb-true _ _ (p .0); names = eqb-true _ _ (p .1); known = eqb-true _ _ (p .2); chains = eqb-true _ _ (p .3); ends = eqb-true _ _ (p .4) }
 
 -- what is admitted has room, so the areas were not too small
 enough-true : (enough : Bool) (room low : ℕ) → 0 < low → low ≤ (if enough then room else 0) → enough ≡ true
@@ -155,16 +152,13 @@ enough-true false room low p h = absurd (omega arith)
 all-behind : (k : ℕ) (l : List ℕ) → take (length l - k) (drop k l) ≡ drop k l
 all-behind k l = take-all (length l - k) (drop k l) (simp length-drop (omega arith))
 
-rooms-at : (i : ℕ) (entered names : List Slot) (known chains ends : List ℕ) → CutTo i entered names known chains ends → Rooms (setting i .version) ends entered names
-rooms-at i entered names known chains ends cut =
-    let f = few-rows i in
-    let a = cut .0 in
-    let b = cut .1 in
-    let c = cut .4 in
-    record { ends = omega arith; entered = omega arith; names = omega arith; entered-narrow = omega arith; names-narrow = omega arith }
-
 pub rooms-in : (i : ℕ) (entered names : List Slot) (known chains ends : List ℕ) → Suits i entered names known chains ends → Rooms (setting i .version) ends entered names
-rooms-in i entered names known chains ends suits = rooms-at i entered names known chains ends (suits .entered, suits .names, suits .known, suits .chains, suits .ends)
+rooms-in i entered names known chains ends suits =
+    let f = few-rows i in
+    let a = suits .entered in
+    let b = suits .names in
+    let c = suits .ends in
+    record { ends = omega arith; entered = omega arith; names = omega arith; entered-narrow = omega arith; names-narrow = omega arith }
 
 module _ (i : ℕ) (input old : List ℕ) (entered names : List Slot) (known chains ends : List ℕ) (enough : Bool) (exact : enough ≡ exactly (setting i .version) (lentOf entered names known chains ends)) (room : ℕ) (roomy : room ≡ (if enough then length old else 0)) (f : Form) (said : f ≡ formOf (admit (setting i) input room)) where
   pub refuses-in : (why : Refusal) → f ≡ NotWhole why → Ran (setting i) (exactly (setting i .version) (lentOf entered names known chains ends)) input old old (Refused why untold)
@@ -188,8 +182,8 @@ module _ (i : ℕ) (input old : List ℕ) (entered names : List Slot) (known cha
     unfolding if_then_else_
     is-room = rw is-enough at roomy
 
-    pub has-cut : CutTo i entered names known chains ends
-    has-cut = cut-exact i entered names known chains ends (sym exact ∙ is-enough)
+    pub has-suits : Suits i entered names known chains ends
+    has-suits = suits-exact i entered names known chains ends (sym exact ∙ is-enough)
 
     pub has-few : rows ≤ 16383
     has-few = omega (arith, facts .2, few-rows i)
@@ -208,7 +202,7 @@ module _ (i : ℕ) (input old : List ℕ) (entered names : List Slot) (known cha
         let w′ : a & k ≡ fillT (setting i) (walkIn (setting i) (drop (setting i .version .header) input) ends entered names) (take (setting i .version .header + 64 * rows) old) =
         subst (λ (n : ℕ). a & k ≡ fillT (setting i) (walkIn (setting i) (drop n input) ends entered names) (take (n + 64 * rows) old)) q (rw (all-behind header input) at w) in
         let whole : Whole rows ≡ formOf (admit (setting i) input (length old)) = rw is-room at (sym e ∙ said) in
-        let g = run-agrees (setting i) (able-at i) input old (all-bytes input all) rows whole ends entered names (rooms-at i entered names known chains ends has-cut) a k w′ in
+        let g = run-agrees (setting i) (able-at i) input old (all-bytes input all) rows whole ends entered names (rooms-in i entered names known chains ends has-suits) a k w′ in
         let left : k ++ drop (header + 64 * rows) old ≡ output (setting i ∷ []) input old = subst (λ (n : ℕ). k ++ drop (n + 64 * rows) old ≡ output (setting i ∷ []) input old) (sym q) (g .1) in
         subst (λ (b : Bool). Ran (setting i) b input old (k ++ drop (header + 64 * rows) old) a) (sym is-enough ∙ exact)
         (record { answers = g .0; leaves = left })
@@ -252,40 +246,19 @@ module _ (input old : List ℕ) (e n : List Slot) (k c m : List ℕ) (s : Settin
         ends = cleared-is slots g m eg 0 m′ (z .ends) ∙ ap (λ (x : ℕ). cleared 0 x m) ps;
       }
 
--- ---- resolve_with, resolve_of_all
+-- ---- resolve_with
 
-module _ (ss : List Setting) (input old new : List ℕ) (lent : Lent) (r : Answer) where
-  by-answers : (s : Setting) → settingOf ss input ≡ settingOf (s ∷ []) input → Ran s (roomy (s .version) lent) input old new r → meaning r ≡ ruled (answerBy ss s input (length old) lent)
-  by-answers s same ran = ran .answers ∙ ap ruled (sym (answer-asked ss s input same (if roomy (s .version) lent then length old else 0)))
-
-  by-leaves : (s : Setting) → settingOf ss input ≡ settingOf (s ∷ []) input → Ran s (roomy (s .version) lent) input old new r → new ≡ outputBy ss s input old lent
-  by-leaves s same ran = ran .leaves ∙ ap (λ (x : List ℕ). if roomy (s .version) lent then x else old) (sym (output-asked ss s input same old))
-
--- with rule set 0
 module _ (input old new : List ℕ) (lent : Lent) (r : Answer) (s : Setting) (asks : s ≡ asked input) (ran : Ran s (roomy (s .version) lent) input old new r) where
   ran-asked : Ran (asked input) (roomy (asked input .version) lent) input old new r
   ran-asked = subst (λ (x : Setting). Ran x (roomy (x .version) lent) input old new r) asks ran
 
   pub with-answers : meaning r ≡ ruled (answerWith input (length old) lent)
   unfolding answerWith
-  with-answers = by-answers served input old new lent r (asked input) (setting-asked input) ran-asked
+  with-answers = ran-asked .answers ∙ ap ruled (sym (answer-asked input (if roomy (asked input .version) lent then length old else 0)))
 
   pub with-leaves : new ≡ outputWith input old lent
   unfolding outputWith
-  with-leaves = by-leaves served input old new lent r (asked input) (setting-asked input) ran-asked
-
--- with the rule set that is asked for
-module _ (input old new : List ℕ) (lent : Lent) (r : Answer) (s : Setting) (asks : s ≡ askedOfAll input) (ran : Ran s (roomy (s .version) lent) input old new r) where
-  ran-asked-of-all : Ran (askedOfAll input) (roomy (askedOfAll input .version) lent) input old new r
-  ran-asked-of-all = subst (λ (x : Setting). Ran x (roomy (x .version) lent) input old new r) asks ran
-
-  pub of-all-answers : meaning r ≡ ruled (answerOfAll input (length old) lent)
-  unfolding answerOfAll
-  of-all-answers = by-answers all input old new lent r (askedOfAll input) (setting-asked-of-all input) ran-asked-of-all
-
-  pub of-all-leaves : new ≡ outputOfAll input old lent
-  unfolding outputOfAll
-  of-all-leaves = by-leaves all input old new lent r (askedOfAll input) (setting-asked-of-all input) ran-asked-of-all
+  with-leaves = ran-asked .leaves ∙ ap (λ (x : List ℕ). if roomy (asked input .version) lent then x else old) (sym (output-asked input old))
 
 -- the areas go by what is asked for
 pub clears-as : (s t : Setting) → s ≡ t → (e e′ n n′ : List Slot) (k k′ c c′ m m′ : List ℕ) → Cleared (s .version) e e′ n n′ k k′ c c′ m m′ → Cleared (t .version) e e′ n n′ k k′ c c′ m m′

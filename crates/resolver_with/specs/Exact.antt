@@ -2,7 +2,7 @@
 use mathlib.Core.Path.{_≡_}
 use mathlib.Core.Bool.{Bool, _&&_}
 use mathlib.Core.List.{List}
-use Prim.Native.Nat.{ℕ, _<_}
+use Prim.Native.Nat.{ℕ}
 use lib.Dec.{eqb}
 use lib.ListN.{length, replicate}
 use Rattle.rules.specs.Versions.{Version}
@@ -15,13 +15,7 @@ exactly v l =
     eqb (l .entered) (slotsFor v) && (eqb (l .names) (slotsFor v) && (eqb (l .known) (linksFor v) && (eqb (l .chains) (linksFor v) && eqb (l .ends) (slotsFor v))))
 
 -- tables, indexes and ends for a form of the setting at place i
-abbrev pub CutTo : (i : ℕ) (e n : List Slot) (k c m : List ℕ) → Type 0
-CutTo i e n k c m =
-    (length e ≡ slotsFor (setting i .version)) × (length n ≡ slotsFor (setting i .version)) × (length k ≡ linksFor (setting i .version)) × (length c ≡ linksFor (setting i .version)) × (length m ≡ slotsFor (setting i .version))
-
--- the same, where the setting has rule set 0
 pub record Suits (i : ℕ) (e n : List Slot) (k c m : List ℕ) : Type 0 where
-  pub served : i < 2
   pub entered : length e ≡ slotsFor (setting i .version)
   pub names : length n ≡ slotsFor (setting i .version)
   pub known : length k ≡ linksFor (setting i .version)

@@ -25,31 +25,26 @@ use walk::walk::starting;
 use whole_form::read::Form;
 use write::alias::Walked;
 ghost use mathlib.Core.Path.{_≡_};
-ghost use Prim.Native.Nat.{_≤_, _<_};
-ghost use lib.ListN.{length, take};
+ghost use lib.ListN.{length};
 ghost use Rattle.kit.specs.Out.{_&_};
 ghost use Rattle.rules.specs.Tools.{if_then_else_};
-ghost use Rattle.rules.specs.Versions.{all};
 ghost use Rattle.limits.specs.Held.{setting};
 ghost use Rattle.resolver.specs.Meaning.{meaning, ruled};
 ghost use Rattle.resolver.specs.Run.{walkIn, fillT};
-ghost use Rattle.resolver_with.specs.Served.{first, askedIn, asked, askedOfAll};
+ghost use Rattle.resolver_with.specs.Served.{asked};
 ghost use Rattle.resolver_with.specs.Areas.{lentOf, roomy, Cleared};
-ghost use Rattle.resolver_with.specs.With.{answerWith, outputWith, answerOfAll, outputOfAll, Ran};
-ghost use Rattle.resolver_with.specs.Exact.{CutTo, exactly, Zeroed};
+ghost use Rattle.resolver_with.specs.With.{answerWith, outputWith, Ran};
+ghost use Rattle.resolver_with.specs.Exact.{Suits, exactly, Zeroed};
 
-// How many settings there are, and how many of them, the first ones, have rule set 0.
-const ALL: usize = 3;
+// How many settings there are.
+const SETTINGS: usize = 3;
 
-const TODAY: usize = 2;
-
-// The place of the setting that the header asks for, of the first ones, so many; the first where it asks for none of them.
-fn asked_among(form: &[u8], most: usize) -> usize
-    requires { ⌜ (0 < most) × (most ≤ 3) ⌝ }
-    ensures { λ r. ⌜ (setting r ≡ askedIn (take most all) (now (form .entry)) first) × (r < most) ⌝ }
+// The place of the setting that the header asks for; the first where it asks for none.
+pub fn asked_for(form: &[u8]) -> usize
+    ensures { λ r. ⌜ setting r ≡ asked (now (form .entry)) ⌝ }
 {
     let mut next = 0;
-    while next < most {
+    while next < SETTINGS {
         let i = next;
         next += 1;
         match header_to(form, of_input(i)) {
@@ -59,20 +54,6 @@ fn asked_among(form: &[u8], most: usize) -> usize
         }
     }
     0
-}
-
-// The same of those with rule set 0.
-pub fn asked_for(form: &[u8]) -> usize
-    ensures { λ r. ⌜ (setting r ≡ asked (now (form .entry))) × (r < 2) ⌝ }
-{
-    asked_among(form, TODAY)
-}
-
-// The same of all.
-pub fn asked_of_all(form: &[u8]) -> usize
-    ensures { λ r. ⌜ (setting r ≡ askedOfAll (now (form .entry))) × (r < 3) ⌝ }
-{
-    asked_among(form, ALL)
 }
 
 // Whether a name means only what an earlier field declares, under the setting at place i.
@@ -94,7 +75,7 @@ pub fn walk_in(
     chains: &mut [u16],
     ends: &mut [u32],
 ) -> Walked
-    requires { ⌜ CutTo i (now entered) (now names) (now known) (now chains) (now ends) ⌝ }
+    requires { ⌜ Suits i (now entered) (now names) (now known) (now chains) (now ends) ⌝ }
     ensures { λ r. ⌜ (r & now (out .exit)) ≡ walkIn (setting i) (now (rows .entry)) (now (ends .entry)) (now (entered .entry)) (now (names .entry)) (now (out .entry)) ⌝ }
 {
     let early = is_early(i);
@@ -116,19 +97,20 @@ pub fn walk_in(
     )
 }
 
-// Fills the form's share of the output.
+// Fills the share of the output of a form of the setting at place i; the steps go by the one at place j.
 pub fn fill_in(
     rows: &[u8],
     front: &mut [u8],
     i: usize,
+    j: usize,
     entered: &mut [Slot],
     names: &mut [Slot],
     known: &mut [u16],
     chains: &mut [u16],
     ends: &mut [u32],
 ) -> Answer
-    requires { ⌜ CutTo i (now entered) (now names) (now known) (now chains) (now ends) ⌝ }
-    ensures { λ r. ⌜ (r & now (front .exit)) ≡ fillT (setting i) (walkIn (setting i) (now (rows .entry)) (now (ends .entry)) (now (entered .entry)) (now (names .entry))) (now (front .entry)) ⌝ }
+    requires { ⌜ Suits j (now entered) (now names) (now known) (now chains) (now ends) ⌝ }
+    ensures { λ r. ⌜ (r & now (front .exit)) ≡ fillT (setting i) (walkIn (setting j) (now (rows .entry)) (now (ends .entry)) (now (entered .entry)) (now (names .entry))) (now (front .entry)) ⌝ }
 {
     let header = header_size(i);
     if front.len() < header {
@@ -143,7 +125,7 @@ pub fn fill_in(
     match walk_in(
         rows,
         &mut front[header..],
-        i,
+        j,
         entered,
         names,
         known,
@@ -208,6 +190,7 @@ pub fn run_in(
             fill_in(
                 &form[header..],
                 &mut out[..size],
+                i,
                 i,
                 entered,
                 names,
@@ -293,7 +276,7 @@ pub fn resolve_at(
     )
 }
 
-// Resolves a form of either version, under rule set 0: its names become numbers, in the form that `out` holds then. The working
+// Resolves a form of any setting in force: its names become numbers, in the form that `out` holds then. The working
 // areas are two tables, the index of each, and the ends of fields; their sizes go by the form's version.
 pub fn resolve_with(
     form: &[u8],
@@ -307,21 +290,5 @@ pub fn resolve_with(
     ensures { λ r. ⌜ (meaning r ≡ ruled (answerWith (now (form .entry)) (length (now (out .entry))) (lentOf (now (entered .entry)) (now (names .entry)) (now (known .entry)) (now (chains .entry)) (now (ends .entry))))) × (now (out .exit) ≡ outputWith (now (form .entry)) (now (out .entry)) (lentOf (now (entered .entry)) (now (names .entry)) (now (known .entry)) (now (chains .entry)) (now (ends .entry)))) × Cleared (asked (now (form .entry)) .version) (now (entered .entry)) (now (entered .exit)) (now (names .entry)) (now (names .exit)) (now (known .entry)) (now (known .exit)) (now (chains .entry)) (now (chains .exit)) (now (ends .entry)) (now (ends .exit)) ⌝ }
 {
     let i = asked_for(form);
-    resolve_at(form, out, i, entered, names, known, chains, ends)
-}
-
-// The same under the rule set that the form asks for.
-pub fn resolve_of_all(
-    form: &[u8],
-    out: &mut [u8],
-    entered: &mut [Slot],
-    names: &mut [Slot],
-    known: &mut [u16],
-    chains: &mut [u16],
-    ends: &mut [u32],
-) -> Answer
-    ensures { λ r. ⌜ (meaning r ≡ ruled (answerOfAll (now (form .entry)) (length (now (out .entry))) (lentOf (now (entered .entry)) (now (names .entry)) (now (known .entry)) (now (chains .entry)) (now (ends .entry))))) × (now (out .exit) ≡ outputOfAll (now (form .entry)) (now (out .entry)) (lentOf (now (entered .entry)) (now (names .entry)) (now (known .entry)) (now (chains .entry)) (now (ends .entry)))) × Cleared (askedOfAll (now (form .entry)) .version) (now (entered .entry)) (now (entered .exit)) (now (names .entry)) (now (names .exit)) (now (known .entry)) (now (known .exit)) (now (chains .entry)) (now (chains .exit)) (now (ends .entry)) (now (ends .exit)) ⌝ }
-{
-    let i = asked_of_all(form);
     resolve_at(form, out, i, entered, names, known, chains, ends)
 }

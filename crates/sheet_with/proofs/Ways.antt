@@ -12,9 +12,9 @@ use borrow.Author.Needs.{needs}
 use Rattle.kit.specs.Out.{_&_}
 use Rattle.kit.specs.Pick.{pick}
 use Rattle.kit.proofs.Laws.{lt-or-le}
-use Rattle.rules.specs.Tools.{if_then_else_, only, _orElse_}
-use Rattle.rules.specs.Versions.{Setting, version2, today}
-use Rattle.rules.specs.Answer.{hasHeader, settingOf, answer, output}
+use Rattle.rules.specs.Tools.{if_then_else_}
+use Rattle.rules.specs.Versions.{Setting}
+use Rattle.rules.specs.Answer.{settingOf, answer, output}
 use Rattle.limits.specs.declared.Limits.{Limits}
 use Rattle.limits.specs.Held.{limitsOf, setting}
 use Rattle.limits.proofs.Laws.{few-rows}
@@ -24,9 +24,9 @@ use Rattle.slots.specs.Slots.{answered}
 use Rattle.resolver.specs.Meaning.{meaning, ruled}
 use Rattle.resolver.specs.declared.run.Answer.{Answer as Resolved}
 use Rattle.resolver_with.specs.Areas.{Lent, roomy}
-use Rattle.resolver_with.specs.Served.{first, served, askedIn, asked}
+use Rattle.resolver_with.specs.Served.{served, asked}
 use Rattle.resolver_with.specs.With.{answerWith, outputWith}
-use Rattle.lent_areas.proofs.InForce.{asked-is, header-long}
+use Rattle.lent_areas.proofs.InForce.{asked-is, first-asked, header-long}
 use Rattle.sheet_with.specs.With.{areaFor, earlyT}
 
 -- ---- sizes
@@ -46,13 +46,8 @@ module _ (i : ℕ) (l : Limits) (e : l ≡ limitsOf (setting i)) (size : ℕ) (h
 
 -- the area goes by the setting that the header asks for
 pub work-asked : (form : List ℕ) → workSize served form ≡ areaFor (asked form)
-unfolding workSize areaOf firstOf settingOf asked askedIn only _orElse_ if_then_else_
-work-asked form = go (hasHeader first form) (hasHeader (record { version = version2; rules = today }) form)
-  where
-    go : (a b : Bool) → areaOf ((only a first orElse (only b (record { version = version2; rules = today }) orElse none)) orElse some first) ≡ areaFor (if a then first else (if b then record { version = version2; rules = today } else first))
-    go true b = refl
-    go false true = refl
-    go false false = refl
+unfolding workSize areaOf firstOf
+work-asked form = ap areaOf (first-asked form)
 
 module _ (form : List ℕ) (i : ℕ) (asks : setting i ≡ asked form) where
   pub area-is : workSize served form ≡ areaFor (setting i)

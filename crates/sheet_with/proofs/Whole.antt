@@ -15,13 +15,14 @@ use Rattle.kit.specs.Pick.{pick}
 use Rattle.rules.specs.Tools.{if_then_else_}
 use Rattle.rules.specs.Versions.{Setting}
 use Rattle.limits.specs.Held.{setting}
-use Rattle.reading_laws.specs.OnBytes.{body}
+use Rattle.rules.specs.Laws.Demand3.{all-usual}
+use Rattle.reading_laws.specs.OnBytes.{body, all-within}
 use Rattle.binding.specs.Sheet.{SheetAnswer, runOf, soundSheet, sheetAnswer, answersAfter, workSize, workAfter}
 use Rattle.slots.specs.Slots.{answered}
 use Rattle.names.specs.Table.{Slot}
 use Rattle.resolver_with.specs.Areas.{Lent, roomy, Cleared}
 use Rattle.resolver_with.specs.Served.{served, asked}
-use Rattle.lent_areas.proofs.InForce.{served-usual, served-within, header-long}
+use Rattle.lent_areas.proofs.InForce.{header-long}
 use Rattle.sheet.specs.Meaning.{meaning, ruled}
 use Rattle.sheet.specs.Run.{refusedT, isOutput, cleared}
 use Rattle.sheet.specs.declared.Answer.{Answer}
@@ -128,8 +129,8 @@ module _ (form resolved sheet answers : List ℕ) (work : ℕ) (lent : Lent) (i 
 
           pub answered-returns : all ≤ length answers → ((j : ℕ) → Fits w8 (getD form j 0)) → (n : ℕ) (new : List ℕ) → (n & new) ≡ answered (body (setting i) resolved) sheet answers → Says (Answered n) new
           answered-returns room bytes n new w =
-              says (Answered n) new (answered-says served form size area resolved sheet answers told (soundSheet sheet) refl so (told-large is-enough) s same its all count room served-usual served-within (setting i .version .header) (heads form i asks _ refl) bytes n new w)
-              (answered-leaves served form size area resolved sheet answers told (soundSheet sheet) refl so (told-large is-enough) s same its all count room served-usual served-within (setting i .version .header) (heads form i asks _ refl) bytes n new w)
+              says (Answered n) new (answered-says served form size area resolved sheet answers told (soundSheet sheet) refl so (told-large is-enough) s same its all count room all-usual all-within (setting i .version .header) (heads form i asks _ refl) bytes n new w)
+              (answered-leaves served form size area resolved sheet answers told (soundSheet sheet) refl so (told-large is-enough) s same its all count room all-usual all-within (setting i .version .header) (heads form i asks _ refl) bytes n new w)
 
   -- the working area
   module _ (old new : List ℕ) where

@@ -205,7 +205,7 @@ module _ (i : ℕ) (F : Fit (setting i)) where
 -- ---- of version 1
 
 first-fits : Fit (setting 0)
-first-fits = fit-in 0 (omega arith)
+first-fits = fit-in 0
 
 module _ (form : List ℕ) (f : Form) (said : f ≡ formOf (readForm (asClaimed (setting 0)) form)) where
   pub first-unread : (area : List ℕ) (why : Refusal) → f ≡ NotWhole why → Came 0 Nothing form area

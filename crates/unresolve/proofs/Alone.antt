@@ -42,18 +42,21 @@ alone-settled one U names has =
       asks = λ x v e rs. subst (λ (s : Setting). settingOf (one ∷ []) (formBytes s rs) ≡ some s) (alone-one one x v e) (rw (has rs));
     }
 
--- a header of version 2
-abbrev second : List ℕ
-second = 87 ∷ 78 ∷ 84 ∷ 2 ∷ replicate 12 0
+-- a header of version 2 with a rule set
+abbrev larger : ℕ → List ℕ
+larger rules = 87 ∷ 78 ∷ 84 ∷ 2 ∷ 0 ∷ rules ∷ replicate 10 0
 
-second-asks : settingOf all second ≡ some (setting 1)
+-- what is written for a setting that some header asks for has its header
+has-own : (i : ℕ) (x : List ℕ) → settingOf all x ≡ some (setting i) → (rs : List Row) → hasHeader (setting i) (formBytes (setting i) rs) ≡ true
+has-own i x e rs = asked-has all (formBytes (setting i) rs) (setting i) (all-settled .asks x (setting i) e rs)
+
+larger-asks : (settingOf all (larger 0) ≡ some (setting 1)) × (settingOf all (larger 1) ≡ some (setting 2))
 unfolding hasHeader Answer.mark bytes sameNumbers settingOf only _orElse_
-second-asks = refl
+larger-asks = (refl, refl)
 
-second-has : (rs : List Row) → hasHeader (setting 1) (formBytes (setting 1) rs) ≡ true
-second-has rs = asked-has all (formBytes (setting 1) rs) (setting 1) (all-settled .asks second (setting 1) second-asks rs)
-
-pub fit-in : (i : ℕ) → i < 2 → Fit (setting i)
-fit-in zero h = record { settled = base-settled; few = omega arith; deep = omega arith; short = omega arith }
-fit-in (suc zero) h = record { settled = alone-settled (setting 1) (all-usual .1 .0) refl second-has; few = omega arith; deep = omega arith; short = omega arith }
-fit-in (suc (suc i)) h = absurd (omega arith)
+pub fit-in : (i : ℕ) → Fit (setting i)
+fit-in zero = record { settled = base-settled; few = omega arith; deep = omega arith; short = omega arith }
+fit-in (suc zero) = record { settled = alone-settled (setting 1) (all-usual .1 .0) refl (has-own 1 (larger 0) (larger-asks .0)); few = omega arith; deep = omega arith; short = omega arith }
+fit-in (suc (suc zero)) =
+    record { settled = alone-settled (setting 2) (all-usual .1 .1 .0) refl (has-own 2 (larger 1) (larger-asks .1)); few = omega arith; deep = omega arith; short = omega arith }
+fit-in (suc (suc (suc i))) = fit-in zero

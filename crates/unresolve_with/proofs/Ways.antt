@@ -96,13 +96,13 @@ module _ (i : ℕ) (e n : List Slot) (k c m : List ℕ) (suits : Suits i e n k c
 
 -- ---- find_input
 
-module _ (i : ℕ) (h : i < 2) (form : List ℕ) (f : Form) (said : f ≡ formOf (readForm (asClaimed (setting i)) form)) where
+module _ (i : ℕ) (form : List ℕ) (f : Form) (said : f ≡ formOf (readForm (asClaimed (setting i)) form)) where
   pub lent-unread : (area : List ℕ) (why : Refusal) → f ≡ NotWhole why → Came i Nothing form area
-  lent-unread area why e = found-unread i (fit-in i h) form f said area why e
+  lent-unread area why e = found-unread i (fit-in i) form f said area why e
 
   module _ (rows : ℕ) (e : f ≡ Whole rows) where
     pub lent-header : setting i .version .header ≤ length form
-    lent-header = found-header i (fit-in i h) form f said rows e
+    lent-header = found-header i (fit-in i) form f said rows e
 
     module _ (area again : List ℕ) (noted : List Note) (sized : Sized i area again noted) (a : List ℕ) (at : ℕ)
         (w : (at & a) ≡ restoreT i (slotsFor (setting i .version)) noted (drop (setting i .version .header) form) area) (same : Bool)
@@ -112,39 +112,39 @@ module _ (i : ℕ) (h : i < 2) (form : List ℕ) (f : Form) (said : f ≡ formOf
 
       pub lent-from : same ≡ true → at ≤ 16 * setting i .version .rows → length a ≡ length area → Came i (From at) form a
       lent-from t low long =
-          found-from i (fit-in i h) form f said rows e (slotsFor (setting i .version)) noted (omega arith) (omega (arith, sized .noted)) area a again at (sized .restored) (sized .again) w′ same compared bytes t low (long ∙ sized .restored)
+          found-from i (fit-in i) form f said rows e (slotsFor (setting i .version)) noted (omega arith) (omega (arith, sized .noted)) area a again at (sized .restored) (sized .again) w′ same compared bytes t low (long ∙ sized .restored)
 
       pub lent-not : same ≡ false → Came i Nothing form a
       lent-not t =
-          found-not i (fit-in i h) form f said rows e (slotsFor (setting i .version)) noted (omega arith) (omega (arith, sized .noted)) area a again at (sized .restored) (sized .again) w′ same compared bytes t
+          found-not i (fit-in i) form f said rows e (slotsFor (setting i .version)) noted (omega arith) (omega (arith, sized .noted)) area a again at (sized .restored) (sized .again) w′ same compared bytes t
 
 pub ruleset finding = (lent-unread, lent-header, needs)
 
 -- ---- give_found
 
-module _ (i : ℕ) (h : i < 2) (form a : List ℕ) (b : Back) (k : Came i b form a) where
+module _ (i : ℕ) (form a : List ℕ) (b : Back) (k : Came i b form a) where
   pub nothing-answered : b ≡ Nothing → (out : List ℕ) (r : Answer) → r ≡ refusedT 14 → meaning r ≡ returnedIn (setting i .version) (backAnswer (alone i) form (length out))
-  nothing-answered e out r q = nothing-said i (fit-in i h) form out a b k e r q
+  nothing-answered e out r q = nothing-said i (fit-in i) form out a b k e r q
 
   pub nothing-written : b ≡ Nothing → (out : List ℕ) → out ≡ backOutput (alone i) form out
-  nothing-written e out = nothing-left i (fit-in i h) form out a b k e
+  nothing-written e out = nothing-left i (fit-in i) form out a b k e
 
   module _ (at : ℕ) (e : b ≡ From at) where
     pub found-long : at ≤ length a
-    found-long = area-long i (fit-in i h) form a at b k e
+    found-long = area-long i (fit-in i) form a at b k e
 
     pub found-headed : setting i .version .header ≤ length (take (length a - at) (drop at a))
-    found-headed = part-headed i (fit-in i h) form a at b k e
+    found-headed = part-headed i (fit-in i) form a at b k e
 
     pub found-few : length (take (length a - at) (drop at a)) ≤ 262144
-    found-few = part-few i (fit-in i h) form a at b k e
+    found-few = part-few i (fit-in i) form a at b k e
 
     module _ (out o : List ℕ) (r : Answer) (w : (r & o) ≡ giveT i (take (length a - at) (drop at a)) out) where
       pub found-answered : meaning r ≡ returnedIn (setting i .version) (backAnswer (alone i) form (length out))
-      found-answered = area-said i (fit-in i h) form a at b k e out o r w
+      found-answered = area-said i (fit-in i) form a at b k e out o r w
 
       pub found-written : o ≡ backOutput (alone i) form out
-      found-written = area-left i (fit-in i h) form a at b k e out o r w
+      found-written = area-left i (fit-in i) form a at b k e out o r w
 
 pub ruleset giving = (nothing-answered, nothing-written, found-long, found-headed, found-few, found-answered, found-written, needs)
 

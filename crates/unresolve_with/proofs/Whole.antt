@@ -78,8 +78,8 @@ module _ (form out : List ℕ) (i : ℕ) (asks : setting i ≡ asked form) (r a 
     pub is-roomy : Roomy i r a n
     is-roomy = record { restored = ltb-false _ _ (parts .1); again = ltb-false _ _ (parts .2); noted = ltb-false _ _ (parts .3) }
 
-    pub is-large : i < 2 → Large i e s k c m
-    is-large h = large-in i h e s k c m (sym f ∙ parts .0)
+    pub is-large : Large i e s k c m
+    is-large = large-in i e s k c m (sym f ∙ parts .0)
 
     large-answer : backLent form (length out) lengths ≡ backAnswer (alone i) form (length out)
     unfolding if_then_else_

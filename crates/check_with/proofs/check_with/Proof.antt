@@ -29,14 +29,14 @@ check-with-spec =
     let tested = c .before .before .before .before .before .before .before .before .before .before .before .before .before .before .before .before .before .before .before .before .before .before in
     let start = asked .before .before .before .before .before .before .before in
     let args = start .args in
-    let asks = asked .asked-for .ensures .0 in
+    let asks = asked .asked-for .ensures in
     (small-returns (now (args .form)) (c .before .before .before .before .before .before .before .before .before .before .before .before .before .before .before .before .before .before .before .before .before .before .before .before .before .before .before .before .before .before .shared-slice-known .given) (now (args .claim)) (length (now (args .table))) (length (now (args .index))) (lentOf (now (args .entered)) (now (args .names)) (now (args .known)) (now (args .chains)) (now (args .ends))) (asked .asked-for .result) asks _ (tested .before .are-roomy .ensures) _ (tested .is-small .ensures) (c .before .before .before .before .before .before .before .before .before .before .before .before .before .before .before .before .before .before .before .before .before .if1 .taken) _ (c .refuse-small .ensures), ((table-after (now (args .form)) (asked .asked-for .result) asks _ _ (c .before .before .before .before .before .before .before .before .before .before .before .before .before .before .before .before .before .before .clear .ensures .0), index-after (now (args .form)) (asked .asked-for .result) asks _ _ (c .before .before .before .before .before .before .before .before .before .before .before .before .before .before .before .before .before .before .clear .ensures .1)), areas-after (now (args .form)) (asked .asked-for .result) asks _ _ _ _ _ _ _ _ _ _ (c .before .before .before .before .before .before .before .before .before .clear-areas .ensures))))  -- returns
     (λ c κs.
     let asked = c .before .before .before .before .before .before .before .before in
     let tested = c .before .before .before .before .before .before in
     let start = asked .before .before .before .before .before .before .before in
     let args = start .args in
-    large-in (asked .asked-for .result) (asked .asked-for .ensures .1) (now (args .entered)) (now (args .names)) (now (args .known)) (now (args .chains)) (now (args .ends)) (is-roomy (asked .asked-for .result) (length (now (args .table))) (length (now (args .index))) (lentOf (now (args .entered)) (now (args .names)) (now (args .known)) (now (args .chains)) (now (args .ends))) _ (tested .before .are-roomy .ensures) _ (tested .is-small .ensures) (c .before .before .before .before .before .if1 .left)))  -- try-lent-requires
+    large-in (asked .asked-for .result) (now (args .entered)) (now (args .names)) (now (args .known)) (now (args .chains)) (now (args .ends)) (is-roomy (asked .asked-for .result) (length (now (args .table))) (length (now (args .index))) (lentOf (now (args .entered)) (now (args .names)) (now (args .known)) (now (args .chains)) (now (args .ends))) _ (tested .before .are-roomy .ensures) _ (tested .is-small .ensures) (c .before .before .before .before .before .if1 .left)))  -- try-lent-requires
     (λ c. search needs)  -- enum-told
     (λ c κs.
     let asked = c .before .before .before .before .before .before .before .before .before .before .before .before .before .before .before .before .before .before .before .before .before in
@@ -58,7 +58,7 @@ check-with-spec =
     let tested = c .before .before .before .before .before .before .before .before .before .before .before .before .before .before .before .before .before .before .before .before .before .before .before in
     let start = asked .before .before .before .before .before .before .before in
     let args = start .args in
-    let asks = asked .asked-for .ensures .0 in
+    let asks = asked .asked-for .ensures in
     (judged-returns (now (args .form)) (c .before .before .before .before .before .before .before .before .before .before .before .before .before .before .before .before .before .before .before .before .before .before .before .before .before .before .before .before .before .before .before .shared-slice-known .given) (now (args .claim)) (length (now (args .table))) (length (now (args .index))) (lentOf (now (args .entered)) (now (args .names)) (now (args .known)) (now (args .chains)) (now (args .ends))) (asked .asked-for .result) asks _ (tested .before .are-roomy .ensures) _ (tested .is-small .ensures) (c .before .before .before .before .before .before .before .before .before .before .before .before .before .before .before .before .before .before .before .before .before .before .if1 .left) _ (c .before .before .before .before .before .before .before .before .before .before .before .before .before .before .before .before .try-lent .ensures .0) (c .before .before .before .before .before .before .enum-told .given .1) _ (c .before .before .before .judge-lent .ensures .0), ((table-after (now (args .form)) (asked .asked-for .result) asks _ _ (c .before .before .before .judge-lent .ensures .1 .0), index-after (now (args .form)) (asked .asked-for .result) asks _ _ (c .before .before .before .judge-lent .ensures .1 .1)), areas-after (now (args .form)) (asked .asked-for .result) asks _ _ _ _ _ _ _ _ _ _ (c .before .before .before .before .before .before .before .before .before .before .before .before .before .before .before .before .try-lent .ensures .1))))  -- returns-2
     (λ c. search needs)  -- same-length-15
     (λ c. search needs)  -- same-length-16
@@ -72,5 +72,5 @@ check-with-spec =
     let tested = c .before .before .before .before .before .before .before .before .before .before .before .before .before .before .before .before .before .before .before .before .before .before .before .before in
     let start = asked .before .before .before .before .before .before .before in
     let args = start .args in
-    let asks = asked .asked-for .ensures .0 in
+    let asks = asked .asked-for .ensures in
     (refused-returns (now (args .form)) (c .before .before .before .before .before .before .before .before .before .before .before .before .before .before .before .before .before .before .before .before .before .before .before .before .before .before .before .before .before .before .before .before .shared-slice-known .given) (now (args .claim)) (length (now (args .table))) (length (now (args .index))) (lentOf (now (args .entered)) (now (args .names)) (now (args .known)) (now (args .chains)) (now (args .ends))) (asked .asked-for .result) asks _ (tested .before .are-roomy .ensures) _ (tested .is-small .ensures) (c .before .before .before .before .before .before .before .before .before .before .before .before .before .before .before .before .before .before .before .before .before .before .before .if1 .left) _ (c .before .before .before .before .before .before .before .before .before .before .before .before .before .before .before .before .before .try-lent .ensures .0) _ (c .before .before .before .before .before .before .before .why .given .1), ((table-after (now (args .form)) (asked .asked-for .result) asks _ _ (c .before .before .before .clear2 .ensures .0), index-after (now (args .form)) (asked .asked-for .result) asks _ _ (c .before .before .before .clear2 .ensures .1)), areas-after (now (args .form)) (asked .asked-for .result) asks _ _ _ _ _ _ _ _ _ _ (c .before .before .before .before .before .before .before .before .before .before .before .before .before .before .before .before .before .try-lent .ensures .1)))))  -- returns-3

@@ -24,7 +24,7 @@ moved-with-spec =
     let tested = cleared .before .before .before .before .before .before in
     let found = tested .before .before .before in
     let args = found .before .before .before .before .before .before .before .before .args in
-    let asks = found .asked-for .ensures .0 in
+    let asks = found .asked-for .ensures in
     let are = tested .before .before .rows-asked .ensures .0 in (
       short-answers _ (now (args .out)) (now (args .moved)) (now (args .apart)) _ _ _ asks are _ (tested .before .are-short .ensures) (tested .if1 .taken),
       (
@@ -46,7 +46,7 @@ moved-with-spec =
     let tested = ran .before .before .before .before .before .before .before in
     let found = tested .before .before .before in
     let args = found .before .before .before .before .before .before .before .before .args in
-    let asks = found .asked-for .ensures .0 in
+    let asks = found .asked-for .ensures in
     let are = tested .before .before .rows-asked .ensures .0 in
     let is = tested .before .are-short .ensures in (
       refused-answers _ (now (args .out)) (now (args .moved)) (now (args .apart)) _ _ _ asks are _ is (tested .if1 .left) (ran .resolve-with .result) _ (ran .resolve-with .ensures .0) (ran .resolve-with .ensures .1) _ (told .refusal-in .ensures) (c .if2 .taken),
@@ -59,7 +59,7 @@ moved-with-spec =
     let tested = c .before .before .before .before .before .before .before .before .before .before .before .before .before .before .before .before .before .before .before .before .before .before .before in
     let found = tested .before .before .before in
     let args = found .before .before .before .before .before .before .before .before .args in
-    let asks = found .asked-for .ensures .0 in
+    let asks = found .asked-for .ensures in
     let are = tested .before .before .rows-asked .ensures .0 in
     let is = tested .before .are-short .ensures in (
       tested .before .before .rows-asked .ensures .1,
@@ -82,7 +82,7 @@ moved-with-spec =
     let found = tested .before .before .before in
     let known = found .before .before .before .before .before .before .before in
     let args = known .before .args in
-    let asks = found .asked-for .ensures .0 in
+    let asks = found .asked-for .ensures in
     let are = tested .before .before .rows-asked .ensures .0 in
     let is = tested .before .are-short .ensures in
     let made = listed-returns _ (now (args .out)) (now (args .moved)) (now (args .apart)) (lentOf (now (args .entered)) (now (args .names)) (now (args .known)) (now (args .chains)) (now (args .ends))) _ _ asks are _ is (tested .if1 .left) (ran .resolve-with .result) _ (ran .resolve-with .ensures .0) (ran .resolve-with .ensures .1) _ (told .refusal-in .ensures)

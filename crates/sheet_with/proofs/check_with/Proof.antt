@@ -30,7 +30,7 @@ check-with-spec =
     (λ c.
     let early = c .before .before .before .before .before .before .before .before .before .before .before .before .before .before .before .before .before .before .before .before in
     let args = early .before .before .before .before .before .before .before .before .before .before .before .before .args in
-    let asks = early .before .before .before .asked-for .ensures .0 in
+    let asks = early .before .before .before .asked-for .ensures in
     let sized = early .before .before .area-for .ensures .0 in
     let fits = early .before .are-roomy .ensures in
     let is = early .refused-early .ensures in
@@ -39,7 +39,7 @@ check-with-spec =
     (λ c.
     let early = c .before in
     let args = early .before .before .before .before .before .before .before .before .before .before .before .before .args in
-    let asks = early .before .before .before .asked-for .ensures .0 in
+    let asks = early .before .before .before .asked-for .ensures in
     let sized = early .before .before .area-for .ensures .0 in
     let fits = early .before .are-roomy .ensures in
     let is = early .refused-early .ensures in
@@ -48,7 +48,7 @@ check-with-spec =
     (λ c.
     let early = c .before .before in
     let args = early .before .before .before .before .before .before .before .before .before .before .before .before .args in
-    let asks = early .before .before .before .asked-for .ensures .0 in
+    let asks = early .before .before .before .asked-for .ensures in
     let sized = early .before .before .area-for .ensures .0 in
     let fits = early .before .are-roomy .ensures in
     let is = early .refused-early .ensures in
@@ -56,7 +56,7 @@ check-with-spec =
     (λ c κs.
     let early = c .before .before .before .before .before .before .before in
     let args = early .before .before .before .before .before .before .before .before .before .before .before .before .args in
-    let asks = early .before .before .before .asked-for .ensures .0 in
+    let asks = early .before .before .before .asked-for .ensures in
     let sized = early .before .before .area-for .ensures .0 in
     let fits = early .before .are-roomy .ensures in
     let is = early .refused-early .ensures in
@@ -73,7 +73,7 @@ check-with-spec =
     (λ c.
     let early = c .before .before .before .before .before .before .before .before .before .before .before .before .before .before .before .before .before .before .before .before in
     let args = early .before .before .before .before .before .before .before .before .before .before .before .before .args in
-    let asks = early .before .before .before .asked-for .ensures .0 in
+    let asks = early .before .before .before .asked-for .ensures in
     let sized = early .before .before .area-for .ensures .0 in
     let fits = early .before .are-roomy .ensures in
     let is = early .refused-early .ensures in
@@ -91,7 +91,7 @@ check-with-spec =
     (λ c.
     let early = c .before .before .before .before .before .before .before .before .before .before .before .before .before .before .before .before .before .before .before .before .before .before in
     let args = early .before .before .before .before .before .before .before .before .before .before .before .before .args in
-    let asks = early .before .before .before .asked-for .ensures .0 in
+    let asks = early .before .before .before .asked-for .ensures in
     let sized = early .before .before .area-for .ensures .0 in
     let fits = early .before .are-roomy .ensures in
     let is = early .refused-early .ensures in
@@ -109,7 +109,7 @@ check-with-spec =
     (λ c.
     let early = c .before .before .before .before .before .before .before .before .before .before .before .before .before .before .before .before .before .before .before .before .before .before .before .before .before in
     let args = early .before .before .before .before .before .before .before .before .before .before .before .before .args in
-    let asks = early .before .before .before .asked-for .ensures .0 in
+    let asks = early .before .before .before .asked-for .ensures in
     let sized = early .before .before .area-for .ensures .0 in
     let fits = early .before .are-roomy .ensures in
     let is = early .refused-early .ensures in

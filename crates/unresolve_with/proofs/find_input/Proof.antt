@@ -12,7 +12,7 @@ find-input-spec =
     (λ c κs. search needs)  -- read-claim-requires
     (λ c. search needs)  -- enum-told
     (λ c. search needs)  -- enum-told-2
-    (λ c κs. (lent-header _ (c .before .before .before .before .before .before .before .before .before .before .before .before .before .pre .1 .served) _ _ (c .before .before .before .before .before .before .read-claim .ensures) _ (c .before .before .before .before .enum-told2 .given .1), c .before .before .before .before .before .before .before .before .before .before .before .before .before .pre .0 .restored, c .before .before .before .before .before .before .before .before .before .before .before .before .before .pre .1 .names, c .before .before .before .before .before .before .before .before .before .before .before .before .before .pre .1 .chains))  -- restore-lent-requires
+    (λ c κs. (lent-header _ _ _ (c .before .before .before .before .before .before .read-claim .ensures) _ (c .before .before .before .before .enum-told2 .given .1), c .before .before .before .before .before .before .before .before .before .before .before .before .before .pre .0 .restored, c .before .before .before .before .before .before .before .before .before .before .before .before .before .pre .1 .names, c .before .before .before .before .before .before .before .before .before .before .before .before .before .pre .1 .chains))  -- restore-lent-requires
     (λ c. search needs)  -- sub-resolves-to
     (λ c. search needs)  -- part-resolves-to-start
     (λ c. search needs)  -- part-resolves-to-end
@@ -27,8 +27,8 @@ find-input-spec =
     (λ c. search needs)  -- same-length-8
     (λ c.
     let start = c .before .before .before .before .before .before .before .before .before .before .before .before .before .before .before .before .before .before .before .before .before .before .before .before .before .before .before .before .before .before .before .before .before .before .before .before .before .before .before .before in
-    lent-from _ (start .pre .1 .served) _ _ (c .before .before .before .before .before .before .before .before .before .before .before .before .before .before .before .before .before .before .before .before .before .before .before .before .before .before .before .before .before .before .before .before .before .read-claim .ensures) _ (c .before .before .before .before .before .before .before .before .before .before .before .before .before .before .before .before .before .before .before .before .before .before .before .before .before .before .before .before .before .before .before .enum-told2 .given .1) (start .args .restored .now) (start .args .again .now) (start .args .noted .now) (start .pre .0) _ _ (c .before .before .before .before .before .before .before .before .before .before .before .before .before .before .before .before .before .before .before .before .before .before .before .before .before .before .restore-lent .ensures .0) _ (c .before .before .before .before .before .before .before .before .before .before .before .resolves-to .ensures .0) (c .before .before .before .before .before .before .before .before .before .before .before .resolves-to .ensures .1) (c .if1 .taken) (c .before .before .before .before .before .before .before .before .before .before .before .before .before .before .before .before .before .before .before .before .before .before .before .before .before .before .restore-lent .ensures .1) (omega (arith, c .before .before .before .before .before .before .before .before .before .before .before .before .before .before .before .before .before .before .before .before .before .before .before .before .before .restored .given)))  -- returns
-    (λ c. search (lent-unread, c .before .before .before .before .before .before .before .before .before .pre .1 .served, needs))  -- returns-2
+    lent-from _ _ _ (c .before .before .before .before .before .before .before .before .before .before .before .before .before .before .before .before .before .before .before .before .before .before .before .before .before .before .before .before .before .before .before .before .before .read-claim .ensures) _ (c .before .before .before .before .before .before .before .before .before .before .before .before .before .before .before .before .before .before .before .before .before .before .before .before .before .before .before .before .before .before .before .enum-told2 .given .1) (start .args .restored .now) (start .args .again .now) (start .args .noted .now) (start .pre .0) _ _ (c .before .before .before .before .before .before .before .before .before .before .before .before .before .before .before .before .before .before .before .before .before .before .before .before .before .before .restore-lent .ensures .0) _ (c .before .before .before .before .before .before .before .before .before .before .before .resolves-to .ensures .0) (c .before .before .before .before .before .before .before .before .before .before .before .resolves-to .ensures .1) (c .if1 .taken) (c .before .before .before .before .before .before .before .before .before .before .before .before .before .before .before .before .before .before .before .before .before .before .before .before .before .before .restore-lent .ensures .1) (omega (arith, c .before .before .before .before .before .before .before .before .before .before .before .before .before .before .before .before .before .before .before .before .before .before .before .before .before .restored .given)))  -- returns
+    (λ c. search (lent-unread, needs))  -- returns-2
     (λ c. search needs)  -- same-length-9
     (λ c. search needs)  -- same-length-10
     (λ c. search needs)  -- same-length-11
@@ -39,4 +39,4 @@ find-input-spec =
     (λ c. search needs)  -- same-length-16
     (λ c.
     let start = c .before .before .before .before .before .before .before .before .before .before .before .before .before .before .before .before .before .before .before .before .before .before .before .before .before .before .before .before .before .before .before .before .before .before .before .before .before .before .before .before in
-    lent-not _ (start .pre .1 .served) _ _ (c .before .before .before .before .before .before .before .before .before .before .before .before .before .before .before .before .before .before .before .before .before .before .before .before .before .before .before .before .before .before .before .before .before .read-claim .ensures) _ (c .before .before .before .before .before .before .before .before .before .before .before .before .before .before .before .before .before .before .before .before .before .before .before .before .before .before .before .before .before .before .before .enum-told2 .given .1) (start .args .restored .now) (start .args .again .now) (start .args .noted .now) (start .pre .0) _ _ (c .before .before .before .before .before .before .before .before .before .before .before .before .before .before .before .before .before .before .before .before .before .before .before .before .before .before .restore-lent .ensures .0) _ (c .before .before .before .before .before .before .before .before .before .before .before .resolves-to .ensures .0) (c .before .before .before .before .before .before .before .before .before .before .before .resolves-to .ensures .1) (c .if1 .left)))  -- returns-3
+    lent-not _ _ _ (c .before .before .before .before .before .before .before .before .before .before .before .before .before .before .before .before .before .before .before .before .before .before .before .before .before .before .before .before .before .before .before .before .before .read-claim .ensures) _ (c .before .before .before .before .before .before .before .before .before .before .before .before .before .before .before .before .before .before .before .before .before .before .before .before .before .before .before .before .before .before .before .enum-told2 .given .1) (start .args .restored .now) (start .args .again .now) (start .args .noted .now) (start .pre .0) _ _ (c .before .before .before .before .before .before .before .before .before .before .before .before .before .before .before .before .before .before .before .before .before .before .before .before .before .before .restore-lent .ensures .0) _ (c .before .before .before .before .before .before .before .before .before .before .before .resolves-to .ensures .0) (c .before .before .before .before .before .before .before .before .before .before .before .resolves-to .ensures .1) (c .if1 .left)))  -- returns-3

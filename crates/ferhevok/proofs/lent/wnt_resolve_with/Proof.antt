@@ -8,7 +8,7 @@ pub wnt-resolve-with-spec : {M : Type 1} → statement M
 wnt-resolve-with-spec =
     tie.close
     (tie.spec
-    (λ c κs. search needs)  -- resolve-of-all-requires
+    (λ c κs. search needs)  -- resolve-with-requires
     (λ c κs. search needs)  -- packed-in-requires
     (λ c. search needs)  -- same-length
     (λ c. search needs)  -- same-length-2

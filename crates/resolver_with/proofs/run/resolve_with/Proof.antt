@@ -19,5 +19,5 @@ resolve-with-spec =
     (λ c. search needs)  -- same-length-6
     (λ c.
     let ran = c .before .before .before .before .before .before .before .before .before .before in
-    let asks = ran .before .before .before .before .before .before .before .asked-for .ensures .0 in
+    let asks = ran .before .before .before .before .before .before .before .asked-for .ensures in
     (with-answers _ _ _ _ _ _ asks (ran .resolve-at .ensures .0), with-leaves _ _ _ _ _ _ asks (ran .resolve-at .ensures .0), clears-as _ _ asks _ _ _ _ _ _ _ _ _ _ (ran .resolve-at .ensures .1))))  -- returns
