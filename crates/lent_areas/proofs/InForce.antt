@@ -16,14 +16,13 @@ use Rattle.resolver_with.specs.Served.{first, served, askedIn, asked}
 use Rattle.resolver_with.proofs.Asked.{setting-asked}
 
 first-in : (ss : List Setting) (input : List ℕ) → (settingOf ss input orElse some first) ≡ some (askedIn ss input)
-unfolding settingOf askedIn _orElse_
+unfolding settingOf askedIn only _orElse_ if_then_else_
 first-in [] input = refl
-first-in (s ∷ ss) input = go (hasHeader s input)
+first-in (s ∷ ss) input = go (hasHeader s input) (first-in ss input)
   where
-    go : (b : Bool) → ((only b s orElse settingOf ss input) orElse some first) ≡ some (if b then s else askedIn ss input)
-    unfolding only _orElse_ if_then_else_
-    go true = refl
-    go false = first-in ss input
+    go : (b : Bool) → (settingOf ss input orElse some first) ≡ some (askedIn ss input) → ((only b s orElse settingOf ss input) orElse some first) ≡ some (if b then s else askedIn ss input)
+    go true later = refl
+    go false later = later
 
 -- it is the first one where a header asks for none
 pub first-asked : (input : List ℕ) → (settingOf served input orElse some first) ≡ some (asked input)
