@@ -15,7 +15,7 @@ use Rattle.kit.specs.Out.{Out, _&_}
 use Rattle.kit.specs.Pick.{pick}
 use Rattle.kit.proofs.Laws.{copies-at}
 use Rattle.rules.specs.Tools.{only}
-use Rattle.rules.specs.Versions.{Version, Setting, version1, version2}
+use Rattle.rules.specs.Versions.{Setting}
 use Rattle.rules.specs.Tree.{Scope, flatten}
 use Rattle.rules.specs.Answer.{hasHeader}
 use Rattle.rules.specs.Laws.RowLaws.{Bytes}
@@ -53,12 +53,12 @@ use Rattle.resolver.specs.declared.run.Answer.{Answer}
 use Rattle.resolver.specs.declared.run.Answer.the-variants.{Refused}
 use Rattle.resolver.proofs.Bytes.{all-bytes}
 use Rattle.resolver.proofs.Starts.{served-new}
-use Rattle.resolver.proofs.Root.{under, Able, able-1, able-2}
+use Rattle.resolver.proofs.Root.{Able}
 use Rattle.resolver.proofs.Admits.{wrong-short, count-short, rows-short, admit-short, admit-read, admit-enough}
 use Rattle.resolver_with.specs.Areas.{slotsFor}
-use Rattle.resolver_with.proofs.Runs.{few-in}
+use Rattle.resolver_with.proofs.Runs.{able-at}
 use Rattle.member_laws.specs.Within.{inner, oneOpen, walkInside}
-use Rattle.member_laws.specs.RootEntered.{Around, root-entered}
+use Rattle.member_laws.specs.RootEntered.{Around, root-come, root-entered}
 use Rattle.member_laws.specs.Inside.{inside-early, inside-stays, inside-agrees-all}
 use Rattle.inside.specs.Areas.{bothFor, Suits}
 use Rattle.inside.specs.Run.{walkBehind, walkAround, RootIn, Resolves}
@@ -71,12 +71,6 @@ some-scope zero = omega arith
 some-scope (suc zero) = omega arith
 some-scope (suc (suc zero)) = omega arith
 some-scope (suc (suc (suc i))) = omega arith
-
--- those in force can be taken by the walk, and their names may mean what any field declares
-able-in : (i : ℕ) → i < 2 → Able (setting i) × (setting i .rules .early ≡ false)
-able-in zero h = (able-1, refl)
-able-in (suc zero) h = (able-2, refl)
-able-in (suc (suc i)) h = absurd (omega arith)
 
 -- limits with one scope fewer stand for their setting
 stands : (i : ℕ) → settingIn (limitsOf (inner (setting i))) ≡ inner (setting i)
@@ -167,10 +161,10 @@ front-set (suc n) m scope h g =
     ∙ (ap (λ (l : List (List ℕ)). take n l) (sym (replicate-append-replicate n (m - n) noScope)) ∙ take-at (replicate n noScope) (replicate (m - n) noScope) n (length-replicate n noScope)))
 
 -- one scope is open, of so many
-stacked : (most name used : ℕ) → 1 ≤ most → Stacked (set (replicate most noScope) 0 (scopeOf name 0 used 0)) (startIn used 1 false)
+stacked : (most name used : ℕ) (early : Bool) → 1 ≤ most → Stacked (set (replicate most noScope) 0 (scopeOf name 0 used 0)) (startIn used 1 early)
 unfolding Tiled
-stacked zero name used h = absurd (omega arith)
-stacked (suc most) name used h = record { tiled = (refl, omega arith, tt); end = refl; below = below }
+stacked zero name used early h = absurd (omega arith)
+stacked (suc most) name used early h = record { tiled = (refl, omega arith, tt); end = refl; below = below }
   where
     below : (k : ℕ) → pastOf (scopeAt (set (replicate (suc most) noScope) 0 (scopeOf name 0 used 0)) k) ≤ used
     below zero = omega arith
@@ -180,46 +174,46 @@ module _ (i : ℕ) (entered names : List Slot) (known chains ends : List ℕ) (s
   -- the tables may hold anything where their indexes start empty
   pub names-free : (c : List ℕ) → c ≡ replicate (length chains) 0 → Holds names c 0
   names-free c q =
-      let f = few-in i (suits .served) in
+      let f = limits.few-rows i in
       let n = suits .names in
       let k = suits .chains in
       rw q (served-new (slotsFor (setting i .version)) (omega arith) names names (length chains) (length chains) 0 (omega arith) (omega arith) (omega arith) (omega arith) refl .held)
 
   pub served-inside : (k : List ℕ) (used used′ : ℕ) → k ≡ replicate (length known) 0 → Holds names chains used → used′ ≡ used → Served entered k names chains used′
   served-inside k used used′ q h e =
-      let f = few-in i (suits .served) in
+      let f = limits.few-rows i in
       let n = suits .entered in
       let m = suits .known in
       rw (q, e) (record { free = served-new (slotsFor (setting i .version)) (omega arith) entered entered (length known) (length known) 0 (omega arith) (omega arith) (omega arith) (omega arith) refl .free; held = h })
 
   pub suits-kept : (n : List Slot) (c : List ℕ) → length n ≡ length names → length c ≡ length chains → Suits i entered n known c ends
   suits-kept n c p q =
-      record { served = suits .served; entered = suits .entered; names = p ∙ suits .names; known = suits .known; chains = q ∙ suits .chains; ends = suits .ends }
+      record { entered = suits .entered; names = p ∙ suits .names; known = suits .known; chains = q ∙ suits .chains; ends = suits .ends }
 
   module _ (l : Limits) (limits : l ≡ limitsOf (setting i)) (most : ℕ) (scopes-are : most ≡ l .scopes) where
     most-is : most ≡ setting i .version .scopes
     most-is = scopes-are ∙ ap (λ (x : Limits). x .scopes) limits
 
     pub most-few : most ≤ 64
-    most-few = omega (arith, most-is, able-in i (suits .served) .0 .shallow)
+    most-few = omega (arith, most-is, able-at i .shallow)
 
-    module _ (name used : ℕ) (scope : List ℕ) (is : scope ≡ scopeOf name 0 used 0) (s : State) (starts : s ≡ startIn used 1 false) where
+    module _ (name used : ℕ) (scope : List ℕ) (is : scope ≡ scopeOf name 0 used 0) (early : Bool) (s : State) (starts : s ≡ startIn used 1 early) where
       stack-is : take most (set (replicate 64 noScope) 0 scope) ≡ oneOpen (setting i .version .scopes) name used
       stack-is =
           front-set most 63 scope (omega (arith, most-is, some-scope i)) most-few ∙ (ap (λ (n : ℕ). set (replicate n noScope) 0 scope) most-is ∙ ap (λ (x : List ℕ). set (replicate (setting i .version .scopes) noScope) 0 x) is)
 
       pub stacked-inside : Stacked (take most (set (replicate 64 noScope) 0 scope)) s
-      stacked-inside = rw (stack-is, starts) (stacked (setting i .version .scopes) name used (some-scope i))
+      stacked-inside = rw (stack-is, starts) (stacked (setting i .version .scopes) name used early (some-scope i))
 
-      pub walk-behind : (rows noted out o : List ℕ) (e n : List Slot) (a : Walked) (by : Limits) → by ≡ limitsOf (setting i) → noted ≡ endsTo (by .scopes) rows ends
+      pub walk-behind : (rows noted out o : List ℕ) (e n : List Slot) (a : Walked) (by : Limits) → early ≡ setting i .rules .early → by ≡ limitsOf (setting i) → noted ≡ endsTo (by .scopes) rows ends
           → (a & e & n & o) ≡ scopeT rows noted (length (take most (set (replicate 64 noScope) 0 scope)) - s .depth) entered names (take most (set (replicate 64 noScope) 0 scope)) out s → a & o ≡ walkInside (setting i) name used rows ends entered names out
       unfolding walkInside seenOf
-      walk-behind rows noted out o e n a by limits₂ m w =
+      walk-behind rows noted out o e n a by asked limits₂ m w =
           let k : by .scopes ≡ setting i .version .scopes = ap (λ (x : Limits). x .scopes) limits₂ in
           let d : length (oneOpen (setting i .version .scopes) name used) - 1 ≡ setting i .version .scopes - 1 =
           ap (λ (n : ℕ). n - 1) (length-set (replicate (setting i .version .scopes) noScope) 0 (scopeOf name 0 used 0) ∙ length-replicate (setting i .version .scopes) noScope) in
-          let w′ : (a & e & n & o) ≡ scopeT rows (endsTo (setting i .version .scopes) rows ends) (setting i .version .scopes - 1) entered names (oneOpen (setting i .version .scopes) name used) out (startIn used 1 false) = rw (stack-is, starts, m, k, d) at w in
-          rw (able-in i (suits .served) .1, ← w′)
+          let w′ : (a & e & n & o) ≡ scopeT rows (endsTo (setting i .version .scopes) rows ends) (setting i .version .scopes - 1) entered names (oneOpen (setting i .version .scopes) name used) out (startIn used 1 early) = rw (stack-is, starts, m, k, d) at w in
+          rw (← asked, ← w′)
 
 pub walk-is : (i : ℕ) (root rows ends out : List ℕ) (entered names names′ : List Slot) (w : Wrote) (name used : ℕ) → (used & names′) ≡ rootT names (rowsAt root 0) → name ≡ partsAt root 0 .x
     → w ≡ walkInside (setting i) name used rows ends entered names′ out → w ≡ walkAround (setting i) root rows ends entered names out
@@ -233,22 +227,22 @@ fills-as : (s : Setting) (walk walk′ : List ℕ → Wrote) (front : List ℕ) 
 unfolding fillT
 fills-as s walk walk′ front e = rw e
 
--- under any version that the walk is able to take
-module _ (v : Version) (able : Able (under v)) (some-open : 1 ≤ v .scopes) (root input old ends : List ℕ) (entered names : List Slot) (en : length entered ≡ slotsFor v) (nn : length names ≡ bothFor v) (mn : length ends ≡ slotsFor v) where
-  resolves-by : Bytes input → (rows : ℕ) → Whole rows ≡ formOf (admit (inner (under v)) input (length old)) → (a : Answer) (k : List ℕ)
-      → a & k ≡ fillT (under v) (walkAround (under v) root (drop (v .header) input) ends entered names) (take (v .header + 64 * rows) old)
-      → Resolves (under v) root input old (k ++ drop (v .header + 64 * rows) old) a
+-- under any setting that the walk is able to take
+module _ (s : Setting) (able : Able s) (some-open : 1 ≤ s .version .scopes) (root input old ends : List ℕ) (entered names : List Slot) (en : length entered ≡ slotsFor (s .version)) (nn : length names ≡ bothFor (s .version)) (mn : length ends ≡ slotsFor (s .version)) where
+  resolves-by : Bytes input → (rows : ℕ) → Whole rows ≡ formOf (admit (inner s) input (length old)) → (a : Answer) (k : List ℕ)
+      → a & k ≡ fillT s (walkAround s root (drop (s .version .header) input) ends entered names) (take (s .version .header + 64 * rows) old)
+      → Resolves s root input old (k ++ drop (s .version .header + 64 * rows) old) a
   resolves-by all rows whole a k r t R = go (root-entered t names (R .spaces) (omega (arith, nn, able .few)) (omega (arith, nn, R .few)) (omega (arith, R .short, able .few)))
     where
       front : List ℕ
-      front = take (v .header + 64 * rows) old
+      front = take (s .version .header + 64 * rows) old
 
-      go : Around t names (rootT names (allParts (flatten t))) → (meaning a ≡ ruled (insideAnswer (under v) (rootOf t) input (length old))) × (k ++ drop (v .header + 64 * rows) old ≡ insideOutput (under v) (rootOf t) input old)
+      go : Around t names (rootT names (allParts (flatten t))) → (meaning a ≡ ruled (insideAnswer s (rootOf t) input (length old))) × (k ++ drop (s .version .header + 64 * rows) old ≡ insideOutput s (rootOf t) input old)
       go A =
-          let same : walkAround (under v) root (drop (v .header) input) ends entered names (drop (v .header) front) ≡ walkInside (under v) (partsAt root 0 .x) (A .used) (drop (v .header) input) ends entered (A .names′) (drop (v .header) front) =
+          let same : walkAround s root (drop (s .version .header) input) ends entered names (drop (s .version .header) front) ≡ walkInside s (partsAt root 0 .x) (A .used) (drop (s .version .header) input) ends entered (A .names′) (drop (s .version .header) front) =
           unfold walkAround walkBehind in rw (R .rows, A .is) in
-          inside-agrees-all v able some-open (rootOf t) (partsAt root 0 .x) (A .used) ends entered (A .names′)
-          (record { name-is = R .name; stands = A .stands; rows = A .rows })
+          inside-agrees-all s able some-open (rootOf t) (partsAt root 0 .x) (A .used) ends entered (A .names′)
+          (record { name-is = R .name; stands = A .stands; rows = A .rows; come = root-come t })
           (record {
             ends = omega (arith, mn);
             entered = omega (arith, en);
@@ -257,25 +251,11 @@ module _ (v : Version) (able : Able (under v)) (some-open : 1 ≤ v .scopes) (ro
             names-narrow = omega (arith, A .size, nn, able .few);
           })
           input old all rows whole a k
-          (r ∙ fills-as (under v) (walkAround (under v) root (drop (v .header) input) ends entered names) (walkInside (under v) (partsAt root 0 .x) (A .used) (drop (v .header) input) ends entered (A .names′)) front same)
-
--- under each setting in force
-resolves-in : (i : ℕ) (root input old : List ℕ) (entered names : List Slot) (known chains ends : List ℕ) → Suits i entered names known chains ends → Bytes input → (rows : ℕ)
-    → Whole rows ≡ formOf (admit (inner (setting i)) input (length old)) → (a : Answer) (k : List ℕ)
-    → a & k ≡ fillT (setting i) (walkAround (setting i) root (drop (setting i .version .header) input) ends entered names) (take (setting i .version .header + 64 * rows) old)
-    → Resolves (setting i) root input old (k ++ drop (setting i .version .header + 64 * rows) old) a
-resolves-in zero root input old entered names known chains ends s = resolves-by version1 able-1 (some-scope 0) root input old ends entered names (s .entered) (s .names) (s .ends)
-resolves-in (suc zero) root input old entered names known chains ends s = resolves-by version2 able-2 (some-scope 1) root input old ends entered names (s .entered) (s .names) (s .ends)
-resolves-in (suc (suc i)) root input old entered names known chains ends s = let h = s .served in absurd (omega arith)
-
-early-in : (i : ℕ) → i < 2 → (root input old : List ℕ) (why : Refusal) → NotWhole why ≡ formOf (admit (inner (setting i)) input (length old)) → Resolves (setting i) root input old old (Refused why untold)
-early-in zero h root input old why e t R = (inside-early version1 (rootOf t) input (length old) why e, inside-stays version1 (rootOf t) input (length old) why e old refl)
-early-in (suc zero) h root input old why e t R = (inside-early version2 (rootOf t) input (length old) why e, inside-stays version2 (rootOf t) input (length old) why e old refl)
-early-in (suc (suc i)) h root input old why e t R = absurd (omega arith)
+          (r ∙ fills-as s (walkAround s root (drop (s .version .header) input) ends entered names) (walkInside s (partsAt root 0 .x) (A .used) (drop (s .version .header) input) ends entered (A .names′)) front same)
 
 module _ (i : ℕ) (input old : List ℕ) (f : Form) (w : f ≡ formOf (admit (inner (setting i)) input (length old))) (entered names : List Slot) (known chains ends : List ℕ) (suits : Suits i entered names known chains ends) where
   pub resolves-early : (root : List ℕ) (why : Refusal) → f ≡ NotWhole why → Resolves (setting i) root input old old (Refused why untold)
-  resolves-early root why e = early-in i (suits .served) root input old why (sym e ∙ w)
+  resolves-early root why e t R = (inside-early (setting i) (rootOf t) input (length old) why (sym e ∙ w), inside-stays (setting i) (rootOf t) input (length old) why (sym e ∙ w) old refl)
 
   module _ (fine : Enough f (inner (setting i)) input (length old)) (rows : ℕ) (e : f ≡ Whole rows) where
     facts : (setting i .version .header ≤ length input) × (setting i .version .header + 64 * rows ≤ length old) × (rows ≤ setting i .version .rows)
@@ -296,5 +276,5 @@ module _ (i : ℕ) (input old : List ℕ) (f : Form) (w : f ≡ formOf (admit (i
           → Resolves (setting i) root input old (k ++ drop (header + 64 * rows) old) a
       resolves root all a k r =
           subst (λ (n : ℕ). Resolves (setting i) root input old (k ++ drop (n + 64 * rows) old) a) (sym size)
-          (resolves-in i root input old entered names known chains ends suits (all-bytes input all) rows (sym e ∙ w) a k
+          (resolves-by (setting i) (able-at i) (some-scope i) root input old ends entered names (suits .entered) (suits .names) (suits .ends) (all-bytes input all) rows (sym e ∙ w) a k
           (subst (λ (n : ℕ). a & k ≡ fillT (setting i) (walkAround (setting i) root (drop n input) ends entered names) (take (n + 64 * rows) old)) size (rw (all-behind header input) at r)))

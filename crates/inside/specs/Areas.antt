@@ -1,7 +1,7 @@
 -- The tables for a form inside a root: of the names there are those of both.
 use mathlib.Core.Path.{_≡_}
 use mathlib.Core.List.{List}
-use Prim.Native.Nat.{ℕ, _+_, _<_}
+use Prim.Native.Nat.{ℕ, _+_}
 use lib.ListN.{length}
 use Rattle.rules.specs.Versions.{Version}
 use Rattle.limits.specs.Held.{setting}
@@ -16,9 +16,8 @@ bothFor v = slotsFor v + slotsFor v
 abbrev pub chainsFor : Version → ℕ
 chainsFor v = slotsFor v + bothFor v
 
--- tables, indexes and ends for a form of the setting at place i, which is one of those in force
+-- tables, indexes and ends for a form of the setting at place i
 pub record Suits (i : ℕ) (e n : List Slot) (k c m : List ℕ) : Type 0 where
-  pub served : i < 2
   pub entered : length e ≡ slotsFor (setting i .version)
   pub names : length n ≡ bothFor (setting i .version)
   pub known : length k ≡ linksFor (setting i .version)

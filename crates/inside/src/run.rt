@@ -1,5 +1,4 @@
-// The walk inside a root whose rows are given, and the whole run. All but version 1's own tables is said for the setting at any place
-// that is in force.
+// The walk inside a root whose rows are given, and the whole run. All but version 1's own tables is said for the setting at any place.
 use crate::admit::admitted_inside;
 use areas::zero_links;
 use form::ends::mark_ends_to;
@@ -17,6 +16,7 @@ use resolver::run::Answer;
 use resolver::run::blank;
 use resolver::run::finish;
 use resolver::run::header_size;
+use resolver_with::run::is_early;
 use walk::walk::scope_walk;
 use walk::walk::starting;
 use whole_form::read::Form;
@@ -67,6 +67,7 @@ fn walk_behind(
     requires { ⌜ Suits i (now entered) (now names) (now known) (now chains) (now ends) × Holds (now names) (now chains) (root .used) ⌝ }
     ensures { λ r. ⌜ (r & now (out .exit)) ≡ walkInside (setting i) (root .name) (root .used) (now (rows .entry)) (now (ends .entry)) (now (entered .entry)) (now (names .entry)) (now (out .entry)) ⌝ }
 {
+    let early = is_early(i);
     mark_ends_to(rows, ends, of_input(i));
     zero_links(known);
     let mut scopes: [Scope; 64] = [[0usize; 4]; 64];
@@ -81,7 +82,7 @@ fn walk_behind(
         chains,
         &mut scopes[..most],
         out,
-        starting(root.used, 1, false),
+        starting(root.used, 1, early),
     )
 }
 

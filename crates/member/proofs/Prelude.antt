@@ -4,11 +4,11 @@ use mathlib.Core.Bool.{Bool, true, false}
 use mathlib.Core.Option.{Option, none, some}
 use mathlib.Core.List.{List, [], _∷_, _++_, append-assoc}
 use native.Mathlib.Omega.{arith}
-use Prim.Native.Nat.{ℕ, zero, suc, _+_, _*_, _/_, _≤_, _<_}
+use Prim.Native.Nat.{ℕ, _+_, _*_, _≤_}
 use lib.ListN.{length, take, drop}
 use lib.Seq.{take-at, drop-at}
 use Rattle.rules.specs.Tools.{only, _orElse_}
-use Rattle.rules.specs.Versions.{Version, Setting, version1, version2, today, asClaimed}
+use Rattle.rules.specs.Versions.{Setting, asClaimed}
 use Rattle.rules.specs.Rows.{Row, Open, encode}
 use Rattle.rules.specs.Tree.{Scope, scope, flatten}
 use Rattle.rules.specs.Good.{GoodScope}
@@ -23,7 +23,6 @@ use Rattle.read_form.specs.Laws.ReadFormLaws.{read-exactly, ours-read}
 use Rattle.read_form.specs.Laws.OutputLength.{rows-length}
 use Rattle.batching.specs.Batch.{Prelude, rootOf, preludeIn, preludeOf}
 use Rattle.batching.specs.Laws.InPrelude.{few-declared}
-use Rattle.limits.specs.Held.{setting}
 use Rattle.parts.specs.Apart.{partsAt}
 use Rattle.parts.specs.declared.Parts.{Parts}
 use Rattle.claim_rows.specs.Left.{rowsAt}
@@ -31,7 +30,7 @@ use Rattle.claim_laws.specs.RowParts as row-parts
 use Rattle.claim_laws.specs.OnBytes.{rows-are, rows-stand}
 use Rattle.agree.specs.Spaces.{Spaces}
 use Rattle.agree.specs.GoodSpaces.{good-spaces}
-use Rattle.resolver.proofs.Root.{under, Able, able-1, able-2}
+use Rattle.resolver.proofs.Root.{Able}
 use Rattle.resolver.proofs.Admits.{output-one}
 use Rattle.inside.specs.Run.{RootIn}
 
@@ -51,20 +50,6 @@ prelude-answer settings prelude room = go (settingOf settings prelude)
 
 -- ---- one that is accepted
 
--- a setting in force: a version that the code is able to take, with rule set 0
-pub record InForce (s : Setting) : Type 0 where
-  pub version : Version
-  pub is : s ≡ under version
-  pub able : Able (under version)
-
-pub first-in-force : InForce (setting 0)
-first-in-force = record { version = version1; is = refl; able = able-1 }
-
-pub in-force : (i : ℕ) → i < 2 → InForce (setting i)
-in-force zero h = first-in-force
-in-force (suc zero) h = record { version = version2; is = refl; able = able-2 }
-in-force (suc (suc i)) h = absurd (omega arith)
-
 -- its tree, and the rows of its output
 pub record Resolved (s : Setting) (input old : List ℕ) (rows : ℕ) : Type 0 where
   pub tree : Scope
@@ -72,10 +57,7 @@ pub record Resolved (s : Setting) (input old : List ℕ) (rows : ℕ) : Type 0 w
   pub count-is : rows ≡ length (flatten tree)
   pub root : RootIn (s .version) tree (take (16 * rows) (drop (s .version .header) (output (s ∷ []) input old)))
 
-module _ (v : Version) (able : Able (under v)) where
-  abbrev s : Setting
-  s = under v
-
+module _ (s : Setting) (able : Able s) where
   -- there is no other setting
   only-one : (input : List ℕ) (x : Setting) → settingOf (s ∷ []) input ≡ some x → x ≡ s
   unfolding settingOf only _orElse_
@@ -86,29 +68,29 @@ module _ (v : Version) (able : Able (under v)) where
       go false q = let z : _≡_ {A = ℕ} 0 1 = cc in absurd (omega arith)
 
   -- the bytes behind the header, so many rows
-  body-of : (rs : List Row) (size : ℕ) (old : List ℕ) → take (16 * length rs) (drop (v .header) (written size (formBytes s rs) old)) ≡ drop (v .header) (formBytes s rs)
+  body-of : (rs : List Row) (size : ℕ) (old : List ℕ) → take (16 * length rs) (drop (s .version .header) (written size (formBytes s rs) old)) ≡ drop (s .version .header) (formBytes s rs)
   unfolding written formBytes
   body-of rs size old =
-      let h : length (headerBytes s (length rs)) ≡ v .header = header-length s (length rs) [] (able .usual .header) in
+      let h : length (headerBytes s (length rs)) ≡ s .version .header = header-length s (length rs) [] (able .usual .header) in
       let r : length (rowsBytes rs) ≡ 16 * length rs = rows-length rs in
       rw (
         append-assoc (headerBytes s (length rs)) (rowsBytes rs) _,
-        drop-at (headerBytes s (length rs)) (rowsBytes rs ++ _) (v .header) h,
+        drop-at (headerBytes s (length rs)) (rowsBytes rs ++ _) (s .version .header) h,
         take-at (rowsBytes rs) _ (16 * length rs) r,
-        drop-at (headerBytes s (length rs)) (rowsBytes rs) (v .header) h,
+        drop-at (headerBytes s (length rs)) (rowsBytes rs) (s .version .header) h,
       )
 
   module _ (t : Scope) (l : List ℕ) (e : readForm (asClaimed s) l ≡ accepted t) where
     tree-spaces : Spaces (fieldsOf t)
     tree-spaces = go t (read-exactly (asClaimed s) l t .0 e .is-form .good)
       where
-        go : (x : Scope) → GoodScope today x → Spaces (fieldsOf x)
-        go (scope kind name fs) g = good-spaces today fs kind (omega arith) g
+        go : (x : Scope) → GoodScope (s .rules) x → Spaces (fieldsOf x)
+        go (scope kind name fs) g = good-spaces (s .rules) fs kind (able .heap) g
 
-    tree-name : partsAt (drop (v .header) l) 0 .x ≡ rootOf t .name
+    tree-name : partsAt (drop (s .version .header) l) 0 .x ≡ rootOf t .name
     tree-name = go t (rows-stand (asClaimed s) l t e)
       where
-        go : (x : Scope) → row-parts.Stands (partsAt (drop (v .header) l)) 0 (flatten x) → partsAt (drop (v .header) l) 0 .x ≡ rootOf x .name
+        go : (x : Scope) → row-parts.Stands (partsAt (drop (s .version .header) l)) 0 (flatten x) → partsAt (drop (s .version .header) l) 0 .x ≡ rootOf x .name
         go (scope kind name fs) h = unfold flatten row-parts.asParts encode rootOf in ap (λ (p : Parts). p .x) (h .0)
 
   resolved-as : (input old : List ℕ) (rs : List Row) → Bytes input → (a : Accepted (s ∷ []) input old rs) → answer (s ∷ []) input (length old) ≡ accepted rs → a .setting ≡ s → Resolved s input old (length rs)
@@ -117,20 +99,20 @@ module _ (v : Version) (able : Able (under v)) where
       let f : formIn [] s input (length old) ≡ accepted (a .after) = subst (λ (x : Setting). formIn [] x input (length old) ≡ accepted (a .after)) is (a .forms) in
       let asks : settingOf (s ∷ []) input ≡ some s = a .asked-for ∙ ap some is in
       let claim : readForm (asClaimed s) (formBytes s rs) ≡ accepted (a .after) = subst (λ (x : Setting). readForm (asClaimed x) (formBytes x rs) ≡ accepted (a .after)) is (ours-read (s ∷ []) input old rs a) in
-      let size = v .header + 64 * rowCount v input in
+      let size = s .version .header + 64 * rowCount (s .version) input in
       let left : output (s ∷ []) input old ≡ written size (formBytes s rs) old = output-one s input old ∙ rw e in
-      let bytes : take (16 * length rs) (drop (v .header) (output (s ∷ []) input old)) ≡ drop (v .header) (formBytes s rs) =
-      ap (λ (o : List ℕ). take (16 * length rs) (drop (v .header) o)) left ∙ body-of rs size old in
+      let bytes : take (16 * length rs) (drop (s .version .header) (output (s ∷ []) input old)) ≡ drop (s .version .header) (formBytes s rs) =
+      ap (λ (o : List ℕ). take (16 * length rs) (drop (s .version .header) o)) left ∙ body-of rs size old in
       let few = few-declared (a .setting .rules) (a .before) (a .after, a .next) (a .low) (a .resolves) in
-      let rows-few : length (flatten (a .before)) ≤ v .rows = subst (λ (x : Setting). length (flatten (a .before)) ≤ x .version .rows) is (a .few) in
-      let counted : rowCount v input ≤ v .rows = subst (λ (x : Setting). rowCount (x .version) input ≤ x .version .rows) is (a .counted) in
-      let four : length rs ≤ 4 * rowCount v input = subst (λ (x : Setting). length rs ≤ 4 * rowCount (x .version) input) is (a .four) in
+      let rows-few : length (flatten (a .before)) ≤ s .version .rows = subst (λ (x : Setting). length (flatten (a .before)) ≤ x .version .rows) is (a .few) in
+      let counted : rowCount (s .version) input ≤ s .version .rows = subst (λ (x : Setting). rowCount (x .version) input ≤ x .version .rows) is (a .counted) in
+      let four : length rs ≤ 4 * rowCount (s .version) input = subst (λ (x : Setting). length rs ≤ 4 * rowCount (x .version) input) is (a .four) in
       let same : length (flatten (a .after)) ≡ length rs = ap length (a .of-tree) in
       record {
         tree = a .after;
         is = rw (asks, f);
         count-is = sym same;
-        root = subst (RootIn v (a .after)) (sym bytes)
+        root = subst (RootIn (s .version) (a .after)) (sym bytes)
             (record {
               rows = rows-are (asClaimed s) (formBytes s rs) (a .after) claim;
               name = tree-name (a .after) (formBytes s rs) claim;
@@ -140,12 +122,7 @@ module _ (v : Version) (able : Able (under v)) where
             });
       }
 
-  resolved-under : (input old : List ℕ) (rs : List Row) → Bytes input → answer (s ∷ []) input (length old) ≡ accepted rs → Resolved s input old (length rs)
-  resolved-under input old rs bs e =
+  pub prelude-resolved : (input old : List ℕ) (rs : List Row) → Bytes input → answer (s ∷ []) input (length old) ≡ accepted rs → Resolved s input old (length rs)
+  prelude-resolved input old rs bs e =
       let a = readings (s ∷ []) (able .usual, tt) input old bs rs e in
       resolved-as input old rs bs a e (only-one input (a .setting) (a .asked-for))
-
-pub prelude-resolved : (s : Setting) → InForce s → (input old : List ℕ) (rs : List Row) → Bytes input → answer (s ∷ []) input (length old) ≡ accepted rs → Resolved s input old (length rs)
-prelude-resolved s force input old rs bs e =
-    subst (λ (x : Setting). Resolved x input old (length rs)) (sym (force .is))
-    (resolved-under (force .version) (force .able) input old rs bs (subst (λ (x : Setting). answer (x ∷ []) input (length old) ≡ accepted rs) (force .is) e))

@@ -31,11 +31,12 @@ use Rattle.resolver.specs.Meaning.{Numbers, numbers, Said, meaning, ruled}
 use Rattle.resolver.specs.declared.run.Answer.{Answer}
 use Rattle.resolver.specs.declared.run.Answer.the-variants.{Accepted, Refused}
 use Rattle.resolver.proofs.Bytes.{all-bytes}
+use Rattle.resolver.proofs.Root.{Able}
 use Rattle.moved.proofs.Agrees.{Counted, answer-counted}
 use Rattle.names.specs.Table.{Slot}
 use Rattle.inside.specs.Areas.{Suits}
 use Rattle.inside.specs.Run.{RootIn, Resolves}
-use Rattle.member.proofs.Prelude.{prelude-answer, InForce, Resolved, prelude-resolved}
+use Rattle.member.proofs.Prelude.{prelude-answer, Resolved, prelude-resolved}
 
 -- ---- rows_of
 
@@ -141,11 +142,11 @@ module _ (s : Setting) (prelude area : List ℕ) (said : Refusal) (a : Answer) (
     unfolding memberOutput
     told-stays member old = rw (is-told .1)
 
-  module _ (force : InForce s) (h : said .number ≡ 0) (all : (i : ℕ) → Fits w8 (getD prelude i 0)) (area′ : List ℕ) (left : area′ ≡ output (s ∷ []) prelude area) (root : List ℕ) (rows : root ≡ take (16 * said .place) (drop (s .version .header) area′)) where
+  module _ (able : Able s) (h : said .number ≡ 0) (all : (i : ℕ) → Fits w8 (getD prelude i 0)) (area′ : List ℕ) (left : area′ ≡ output (s ∷ []) prelude area) (root : List ℕ) (rows : root ≡ take (16 * said .place) (drop (s .version .header) area′)) where
     pub found : Resolved s prelude area (said .place)
     found =
         let r = is-accepted (answer (s ∷ []) prelude (length area)) (said .number) (said .place) (answer-counted (s ∷ []) prelude (length area)) as-ruled h in
-        subst (Resolved s prelude area) (sym (r .2)) (prelude-resolved s force prelude area (r .0) (all-bytes prelude all) (r .1))
+        subst (Resolved s prelude area) (sym (r .2)) (prelude-resolved s able prelude area (r .0) (all-bytes prelude all) (r .1))
 
     module _ (member old new : List ℕ) (r : Answer) (resolves : Resolves s root member old new r) where
       inside : (meaning r ≡ ruled (insideAnswer s (rootOf (found .tree)) member (length old))) × (new ≡ insideOutput s (rootOf (found .tree)) member old)
@@ -162,7 +163,7 @@ module _ (s : Setting) (prelude area : List ℕ) (said : Refusal) (a : Answer) (
 -- the tables that come back are as long as they were
 pub suits-same : (i : ℕ) (e n e′ n′ : List Slot) (k c m k′ c′ m′ : List ℕ) → Suits i e n k c m → length e′ ≡ length e → length n′ ≡ length n → length k′ ≡ length k → length c′ ≡ length c → length m′ ≡ length m → Suits i e′ n′ k′ c′ m′
 suits-same i e n e′ n′ k c m k′ c′ m′ suits p q r s t =
-    record { served = suits .served; entered = p ∙ suits .entered; names = q ∙ suits .names; known = r ∙ suits .known; chains = s ∙ suits .chains; ends = t ∙ suits .ends }
+    record { entered = p ∙ suits .entered; names = q ∙ suits .names; known = r ∙ suits .known; chains = s ∙ suits .chains; ends = t ∙ suits .ends }
 
 -- ---- room_in
 

@@ -339,6 +339,11 @@ fields-decls row (i ▸ fs) =
     decls-append (entered (suc row) (headOf i .decls)) (enteredFields (row + length (itemRows i)) fs)
     ∙ rw (entered-decls (suc row) (headOf i .decls), fields-decls (row + length (itemRows i)) fs)
 
+-- all that a root declares stands before what lies inside it
+pub root-come : (t : Scope) → rootOf t .before ≡ tableOf (rootOf t)
+unfolding rootOf
+root-come (scope kind name fs) = sym (fields-decls 1 fs)
+
 start : (names : List Slot) → Stands [] (between 0 0 names) []
 unfolding between Stands
 start names = tt

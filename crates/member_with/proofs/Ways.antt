@@ -32,10 +32,10 @@ use Rattle.resolver_with.specs.Areas as areas
 use Rattle.resolver_with.specs.Areas.{slotsFor, linksFor, lentOf, roomy, cleared}
 use Rattle.resolver_with.specs.With.{answerWith, outputWith}
 use Rattle.resolver_with.proofs.Asked.{setting-asked, answer-asked, output-asked}
-use Rattle.lent_areas.proofs.InForce.{served-usual}
+use Rattle.resolver_with.proofs.Runs.{able-at}
 use Rattle.inside.specs.Areas.{bothFor, chainsFor, Suits}
 use Rattle.inside.specs.Run.{Resolves}
-use Rattle.member.proofs.Prelude.{in-force, Resolved}
+use Rattle.member.proofs.Prelude.{Resolved}
 use Rattle.member.proofs.Ways.{told-low, told-answers, told-stays, found, inside-answers, inside-leaves, suits-same, as-answered, as-left, as-cleared}
 use Rattle.member_with.specs.Areas.{areaFor, isSmall, shortWith, TablesCleared, Lent, Lends, Same, SameArea}
 
@@ -97,20 +97,23 @@ module _ (i : ℕ) (prelude area : List ℕ) (e n : List Slot) (k c m : List ℕ
   unfolding answerWith
   answer-one = ap (λ (r : ℕ). answer served prelude r) room-is ∙ (answer-asked served (asked prelude) prelude (setting-asked prelude) (length area) ∙ ap (λ (s : Setting). answer (s ∷ []) prelude (length area)) (sym (lends .asks)))
 
+  one-output : output served prelude area ≡ output (setting i ∷ []) prelude area
+  one-output = output-asked served (asked prelude) prelude (setting-asked prelude) area ∙ ap (λ (s : Setting). output (s ∷ []) prelude area) (sym (lends .asks))
+
   output-one : outputWith prelude area lent ≡ output (setting i ∷ []) prelude area
   unfolding outputWith
-  output-one = go (lt-or-le 0 (length area)) ∙ (output-asked served (asked prelude) prelude (setting-asked prelude) area ∙ ap (λ (s : Setting). output (s ∷ []) prelude area) (sym (lends .asks)))
+  output-one = ap (λ (l : List ℕ). if roomy (asked prelude .version) lent then l else area) one-output ∙ go (lt-or-le 0 (length area))
     where
-      same : (b : Bool) → area ≡ output served prelude area → (if b then output served prelude area else area) ≡ output served prelude area
+      same : (b : Bool) → area ≡ output (setting i ∷ []) prelude area → (if b then output (setting i ∷ []) prelude area else area) ≡ output (setting i ∷ []) prelude area
       same true h = unfold if_then_else_ in refl
       same false h = unfold if_then_else_ in h
 
-      go : (0 < length area) ⊎ (length area ≤ 0) → (if roomy (asked prelude .version) lent then output served prelude area else area) ≡ output served prelude area
+      go : (0 < length area) ⊎ (length area ≤ 0) → (if roomy (asked prelude .version) lent then output (setting i ∷ []) prelude area else area) ≡ output (setting i ∷ []) prelude area
       go (inl h) = rw (is-roomy h) (unfold if_then_else_ in refl)
       go (inr h) =
           let a : area ≡ [] = none-long area (omega arith) in
-          let l : length (output served prelude area) ≡ length area = unfold output in output-length [] served served-usual prelude area in
-          same (roomy (asked prelude .version) lent) (a ∙ sym (none-long (output served prelude area) (omega arith)))
+          let l : length (output (setting i ∷ []) prelude area) ≡ length area = unfold output in output-length [] (setting i ∷ []) (able-at i .usual, tt) prelude area in
+          same (roomy (asked prelude .version) lent) (a ∙ sym (none-long (output (setting i ∷ []) prelude area) (omega arith)))
 
 -- ---- run_in
 
@@ -145,17 +148,17 @@ module _ (i : ℕ) (prelude area : List ℕ) (e n : List Slot) (k c m : List ℕ
     left-one = left ∙ output-one i prelude area e n k c m lends
 
     there : Resolved (setting i) prelude area (said .place)
-    there = found (setting i) prelude area said a told ran-one (in-force i (lends .served)) h all area′ left-one (take (16 * said .place) (drop (setting i .version .header) area′)) refl
+    there = found (setting i) prelude area said a told ran-one (able-at i) h all area′ left-one (take (16 * said .place) (drop (setting i .version .header) area′)) refl
 
     pub suits-left : (e′ n′ : List Slot) (k′ c′ m′ : List ℕ) → length e′ ≡ length e → length n′ ≡ length n → length k′ ≡ length k → length c′ ≡ length c → length m′ ≡ length m → Suits i e′ n′ k′ c′ m′
     suits-left e′ n′ k′ c′ m′ = suits-same i e n e′ n′ k c m k′ c′ m′ (lends .suits (room-there (setting i) prelude area (said .place) there))
 
     module _ (root : List ℕ) (rows : root ≡ take (16 * said .place) (drop (setting i .version .header) area′)) (member old new : List ℕ) (r : Answer) (resolves : Resolves (setting i) root member old new r) where
       pub lent-inside : (q : Refusal) → numbers (q .number) (q .place) ≡ meaning r .plain → numbers (q .number) (q .place) ≡ ruled (memberAnswer (setting i ∷ []) prelude (length area) member (length old)) .plain
-      lent-inside = inside-answers (setting i) prelude area said a told ran-one (in-force i (lends .served)) h all area′ left-one root rows member old new r resolves
+      lent-inside = inside-answers (setting i) prelude area said a told ran-one (able-at i) h all area′ left-one root rows member old new r resolves
 
       pub lent-leaves : new ≡ memberOutput (setting i ∷ []) prelude (length area) member old
-      lent-leaves = inside-leaves (setting i) prelude area said a told ran-one (in-force i (lends .served)) h all area′ left-one root rows member old new r resolves
+      lent-leaves = inside-leaves (setting i) prelude area said a told ran-one (able-at i) h all area′ left-one root rows member old new r resolves
 
 -- ---- run_lent
 
@@ -196,7 +199,6 @@ module _ (i : ℕ) (prelude : List ℕ) (room : ℕ) (e n : List Slot) (k c m : 
   unfolding isSmall
   fronts lent =
       record {
-        served = lent .served;
         asks = lent .asks;
         suits = λ h.
             let p = either-false _ _ (lent .large h) in
@@ -204,7 +206,6 @@ module _ (i : ℕ) (prelude : List ℕ) (room : ℕ) (e n : List Slot) (k c m : 
             let r = either-false _ _ (q .1) in
             let s = either-false _ _ (r .1) in
             record {
-              served = lent .served;
               entered = front-is _ se a e pe ea (p .0);
               names = front-is _ sn b n pn eb (q .0);
               known = front-is _ sk d k pk ed (r .0);
@@ -253,16 +254,16 @@ one-answer : (prelude : List ℕ) (work : ℕ) (member : List ℕ) (room : ℕ) 
 unfolding memberAnswer
 one-answer prelude work member room = rw (setting-asked prelude)
 
-one-output : (prelude : List ℕ) (work : ℕ) (member old : List ℕ) → memberOutput served prelude work member old ≡ memberOutput (asked prelude ∷ []) prelude work member old
+one-writes : (prelude : List ℕ) (work : ℕ) (member old : List ℕ) → memberOutput served prelude work member old ≡ memberOutput (asked prelude ∷ []) prelude work member old
 unfolding memberOutput
-one-output prelude work member old = rw (setting-asked prelude)
+one-writes prelude work member old = rw (setting-asked prelude)
 
 module _ (i : ℕ) (prelude : List ℕ) (asks : setting i ≡ asked prelude) (work : List ℕ) (e n : List Slot) (k c m : List ℕ) (small : Bool) (tested : small ≡ isSmall (setting i .version) (lentOf e n k c m)) (room : ℕ)
     (is : room ≡ roomWith (ltb (length work) (areaFor (setting i .version)) || small) (areaFor (setting i .version))) (less : room ≤ length work) where
-  pub lent-in : i < 2 → Lent i prelude (length (take room work)) (lentOf e n k c m)
-  lent-in h =
+  pub lent-in : Lent i prelude (length (take room work)) (lentOf e n k c m)
+  lent-in =
       let l = length-take-le room work less in
-      record { served = h; asks = asks; large = λ g. sym tested ∙ not-small (ltb (length work) (areaFor (setting i .version))) small (areaFor (setting i .version)) (subst (λ (x : ℕ). 0 < x) (l ∙ is) g) }
+      record { asks = asks; large = λ g. sym tested ∙ not-small (ltb (length work) (areaFor (setting i .version))) small (areaFor (setting i .version)) (subst (λ (x : ℕ). 0 < x) (l ∙ is) g) }
 
   room-asked : roomWith (ltb (length work) (areaFor (setting i .version)) || small) (areaFor (setting i .version)) ≡ roomWith (shortWith prelude (length work) (lentOf e n k c m)) (areaFor (asked prelude .version))
   room-asked =
@@ -285,7 +286,7 @@ module _ (i : ℕ) (prelude : List ℕ) (asks : setting i ≡ asked prelude) (wo
         as-left (setting i ∷ []) prelude member old work room (areaFor (setting i .version)) (ltb (length work) (areaFor (setting i .version)) || small) is less new q
         ∙ (ap (λ (x : ℕ). memberOutput (setting i ∷ []) prelude x member old) room-asked
         ∙ (ap (λ (s : Setting). memberOutput (s ∷ []) prelude (roomWith (shortWith prelude (length work) (lentOf e n k c m)) (areaFor (asked prelude .version))) member old) asks
-        ∙ sym (one-output prelude (roomWith (shortWith prelude (length work) (lentOf e n k c m)) (areaFor (asked prelude .version))) member old)))
+        ∙ sym (one-writes prelude (roomWith (shortWith prelude (length work) (lentOf e n k c m)) (areaFor (asked prelude .version))) member old)))
 
   pub with-cleared : (area work′ : List ℕ) (size : ℕ) → size ≡ areaFor (setting i .version) → room ≤ areaFor (setting i .version) → SameArea (take room work) area → work′ ≡ calls.cleared 0 size (area ++ drop room work)
       → work′ ≡ calls.cleared 0 (areaFor (asked prelude .version)) work

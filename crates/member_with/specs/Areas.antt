@@ -38,13 +38,11 @@ pub record TablesCleared (v : Version) (e e′ n n′ : List Slot) (k k′ c c�
 
 -- the prelude asks for the setting at place i; where it has room the tables are not too small,
 pub record Lent (i : ℕ) (prelude : List ℕ) (room : ℕ) (l : areas.Lent) : Type 0 where
-  pub served : i < 2
   pub asks : setting i ≡ asked prelude
   pub large : 0 < room → isSmall (setting i .version) l ≡ false
 
 -- and then these parts of them have their very sizes
 pub record Lends (i : ℕ) (prelude : List ℕ) (room : ℕ) (e n : List Slot) (k c m : List ℕ) : Type 0 where
-  pub served : i < 2
   pub asks : setting i ≡ asked prelude
   pub suits : 0 < room → Suits i e n k c m
 

@@ -57,7 +57,7 @@ pub fn asked_for(form: &[u8]) -> usize
 }
 
 // Whether a name means only what an earlier field declares, under the setting at place i.
-fn is_early(i: usize) -> bool
+pub fn is_early(i: usize) -> bool
     ensures { λ r. ⌜ r ≡ setting i .rules .early ⌝ }
 {
     let limits = of_input(i);
@@ -245,7 +245,7 @@ fn run_cleared(
 }
 
 // Resolves the form under the setting at place i, in areas of any size, and zeroes of each as much as the version takes.
-fn resolve_at(
+pub fn resolve_at(
     form: &[u8],
     out: &mut [u8],
     i: usize,

@@ -1,6 +1,5 @@
 -- `member::resolve_member` meets its contract.
 use Rattle.member.proofs.Ways.{told-low, told-answers, told-stays, inside-answers, inside-leaves}
-use Rattle.member.proofs.Prelude.{first-in-force}
 use borrow.Author.Needs.{needs}
 use Rattle.member.proofs.resolve_member.Statement.{statement}
 use Rattle.member.proofs.resolve_member.Tie as tie
@@ -19,4 +18,4 @@ resolve-member-spec =
     (λ c κs. search needs)  -- said-requires-2
     (λ c. search needs)  -- same-length-2
     (λ c. search needs)  -- same-length-3
-    (λ c. (search (inside-answers, first-in-force, needs), search (inside-leaves, first-in-force, needs))))  -- returns-2
+    (λ c. (search (inside-answers, needs), search (inside-leaves, needs))))  -- returns-2

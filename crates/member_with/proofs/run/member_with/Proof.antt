@@ -16,7 +16,7 @@ member-with-spec =
     (λ c κs. search needs)  -- room-in-requires
     (λ c. omega (arith, c .before .room-in .ensures .1))  -- slice-relend-prefix-run-lent
     (λ c. sym (length-take-le _ _ (omega (arith, c .before .before .room-in .ensures .1))))  -- slice-aggregate-run-lent
-    (λ c κs. lent-in (c .before .before .before .before .before .before .before .before .before .asked-for .result) (c .before .before .before .before .before .before .before .before .before .before .before .before .before .before .before .before .before .args .prelude .now) (c .before .before .before .before .before .before .before .before .before .asked-for .ensures) (c .before .before .before .before .before .before .before .before .before .before .before .before .before .before .before .before .before .args .work .now) (c .before .before .before .before .before .before .before .before .before .before .before .before .before .before .before .before .before .args .entered .now) (c .before .before .before .before .before .before .before .before .before .before .before .before .before .before .before .before .before .args .names .now) (c .before .before .before .before .before .before .before .before .before .before .before .before .before .before .before .before .before .args .known .now) (c .before .before .before .before .before .before .before .before .before .before .before .before .before .before .before .before .before .args .chains .now) (c .before .before .before .before .before .before .before .before .before .before .before .before .before .before .before .before .before .args .ends .now) _ (c .before .before .before .before .before .before .before .before .are-small .ensures) _ (c .before .before .before .before .before .before .before .room-in .ensures .0) (c .before .before .before .before .before .before .before .room-in .ensures .1) (c .before .before .before .before .before .before .before .before .before .asked-for .ensures .1))  -- run-lent-requires
+    (λ c κs. lent-in (c .before .before .before .before .before .before .before .before .before .asked-for .result) (c .before .before .before .before .before .before .before .before .before .before .before .before .before .before .before .before .before .args .prelude .now) (c .before .before .before .before .before .before .before .before .before .asked-for .ensures) (c .before .before .before .before .before .before .before .before .before .before .before .before .before .before .before .before .before .args .work .now) (c .before .before .before .before .before .before .before .before .before .before .before .before .before .before .before .before .before .args .entered .now) (c .before .before .before .before .before .before .before .before .before .before .before .before .before .before .before .before .before .args .names .now) (c .before .before .before .before .before .before .before .before .before .before .before .before .before .before .before .before .before .args .known .now) (c .before .before .before .before .before .before .before .before .before .before .before .before .before .before .before .before .before .args .chains .now) (c .before .before .before .before .before .before .before .before .before .before .before .before .before .before .before .before .before .args .ends .now) _ (c .before .before .before .before .before .before .before .before .are-small .ensures) _ (c .before .before .before .before .before .before .before .room-in .ensures .0) (c .before .before .before .before .before .before .before .room-in .ensures .1))  -- run-lent-requires
     (λ c κs. search needs)  -- area-for-requires
     (λ c κs. search needs)  -- clear-requires
     (λ c. omega (arith, c .before .before .before .before .before .before .before .before .before .before .before .before .before .before .before .before .out .given))  -- same-length
