@@ -25,7 +25,7 @@ next-share i share = let q = suc-mul i share in rw add-one (omega (arith, q))
 next-eight : (i : ℕ) → 8 * (i + 1) ≡ 8 * i + 8
 next-eight i = omega arith
 
-module _ (s : Setting) (u : Usual s) (root : Env) (share : ℕ) (forms : List (List ℕ)) where
+module _ (s : Setting) (root : Env) (share : ℕ) (forms : List (List ℕ)) where
   -- ---- the shares
 
   -- the buffer, once the members from the i-th on have written theirs
@@ -35,12 +35,12 @@ module _ (s : Setting) (u : Usual s) (root : Env) (share : ℕ) (forms : List (L
   pub outs-start : (outs : List ℕ) → outsFrom 0 outs ≡ memberOutputs s root share forms outs
   outs-start outs = rw (zero-mul share)
 
-  pub outs-turn : (i : ℕ) (outs front outs′ : List ℕ) → i < length forms → i * share + share ≤ length outs
+  pub outs-turn : Usual s → (i : ℕ) (outs front outs′ : List ℕ) → i < length forms → i * share + share ≤ length outs
       → front ≡ insideOutput s root (getD forms i []) (take share (drop (i * share) outs)) ++ drop share (drop (i * share) outs)
       → outs′ ≡ take (i * share) outs ++ front
       → outsFrom (i + 1) outs′ ≡ outsFrom i outs
   unfolding memberOutputs
-  outs-turn i outs front outs′ h fits e f =
+  outs-turn u i outs front outs′ h fits e f =
       let at = i * share in
       let before = take at outs in
       let new = insideOutput s root (getD forms i []) (take share (drop at outs)) in

@@ -1,5 +1,5 @@
 // The C functions for members inside a prelude.
-use batch::batch;
+use batch::run::batch;
 use meant::Declared;
 use meant::meant_at;
 use member::member as resolve_member;

@@ -1,7 +1,7 @@
 -- The tables for a form inside a root: of the names there are those of both.
 use mathlib.Core.Path.{_≡_}
 use mathlib.Core.List.{List}
-use Prim.Native.Nat.{ℕ, _+_}
+use Prim.Native.Nat.{ℕ, _+_, _<_}
 use lib.ListN.{length}
 use Rattle.rules.specs.Versions.{Version}
 use Rattle.limits.specs.Held.{setting}
@@ -23,3 +23,7 @@ pub record Suits (i : ℕ) (e n : List Slot) (k c m : List ℕ) : Type 0 where
   pub known : length k ≡ linksFor (setting i .version)
   pub chains : length c ≡ chainsFor (setting i .version)
   pub ends : length m ≡ slotsFor (setting i .version)
+
+-- the same where the form whose root it is has room to be resolved; where it has none, no form is walked inside it
+abbrev pub SuitsIf : (i room : ℕ) (e n : List Slot) (k c m : List ℕ) → Type 0
+SuitsIf i room e n k c m = 0 < room → Suits i e n k c m

@@ -5,25 +5,27 @@ use mathlib.Core.Logic.{_⊎_, inl, inr}
 use mathlib.Core.List.{List, [], _∷_, _++_}
 use native.Mathlib.Omega.{arith}
 use native.Mathlib.Nat.{sub-zero}
-use Prim.Native.Nat.{ℕ, _+_, _-_, _*_, _≤_, _<_}
+use Prim.Native.Nat.{ℕ, zero, suc, _+_, _-_, _*_, _≤_, _<_}
 use mir.Syntax.{w8}
 use mir.Val.{Fits}
 use lib.Dec.{ltb}
 use lib.ListN.{length, getD, take, drop, replicate, length-drop, length-append, drop-of-length-le, take-append-drop}
 use lib.Seq.{take-all, length-take-le, drop-drop, drop-append-add}
 use borrow.Author.Needs.{needs}
-use borrow.Author.Tests.{lt-ltb, le-ltb}
+use borrow.Author.Tests.{lt-ltb, le-ltb, le-leb}
 use Rattle.kit.proofs.Laws.{lt-or-le}
 use Rattle.rules.specs.Tools.{if_then_else_}
 use Rattle.rules.specs.Versions.{Setting, base}
 use Rattle.rules.specs.Rows.{Row}
 use Rattle.rules.specs.Tree.{flatten}
 use Rattle.rules.specs.Answer as rules
-use Rattle.rules.specs.Answer.{AnswerOf, refused, accepted, mapAnswer, answer, output}
+use Rattle.rules.specs.Answer.{AnswerOf, refused, accepted, mapAnswer, answer, output, outputInside}
+use Rattle.read_form.specs.Laws.OutputLength.{output-length}
 use Rattle.batching.specs.Batch.{Prelude, rootOf, insideAnswer, insideOutput, preludeOf, memberAnswer, memberOutput}
 use Rattle.batching.specs.BatchBytes.{packed}
 use Rattle.batching.specs.BatchCalls.{roomWith, cleared}
 use Rattle.batching.specs.Laws.MemberLaws.{prelude-told}
+use Rattle.batching.specs.Laws.CallLaws.{short-prelude}
 use Rattle.stores.specs.Zeros.{zeroFrom}
 use Rattle.refusal.specs.declared.Refusal.{Refusal}
 use Rattle.refusal.specs.declared.Told.{Told}
@@ -34,7 +36,11 @@ use Rattle.resolver.proofs.Bytes.{all-bytes}
 use Rattle.resolver.proofs.Root.{Able}
 use Rattle.moved.proofs.Agrees.{Counted, answer-counted}
 use Rattle.names.specs.Table.{Slot}
-use Rattle.inside.specs.Areas.{Suits}
+use Rattle.limits.specs.Held.{setting}
+use Rattle.resolver_with.specs.Areas.{slotsFor, linksFor, lentOf, roomy}
+use Rattle.resolver_with.specs.With.{Ran}
+use Rattle.resolver_with.proofs.Runs.{able-at}
+use Rattle.inside.specs.Areas.{Suits, SuitsIf}
 use Rattle.inside.specs.Run.{RootIn, Resolves}
 use Rattle.member.proofs.Prelude.{prelude-answer, Resolved, prelude-resolved}
 
@@ -160,10 +166,82 @@ module _ (s : Setting) (prelude area : List ℕ) (said : Refusal) (a : Answer) (
       unfolding memberOutput
       inside-leaves = rw (found .is) (inside .1)
 
+-- ---- the prelude in tables that are lent
+
 -- the tables that come back are as long as they were
 pub suits-same : (i : ℕ) (e n e′ n′ : List Slot) (k c m k′ c′ m′ : List ℕ) → Suits i e n k c m → length e′ ≡ length e → length n′ ≡ length n → length k′ ≡ length k → length c′ ≡ length c → length m′ ≡ length m → Suits i e′ n′ k′ c′ m′
 suits-same i e n e′ n′ k c m k′ c′ m′ suits p q r s t =
     record { entered = p ∙ suits .entered; names = q ∙ suits .names; known = r ∙ suits .known; chains = s ∙ suits .chains; ends = t ∙ suits .ends }
+
+none-long : (l : List ℕ) → length l ≡ 0 → l ≡ []
+none-long [] e = refl
+none-long (x ∷ l) e = absurd (omega arith)
+
+suits-roomy : (i : ℕ) (e n : List Slot) (k c m : List ℕ) → Suits i e n k c m → roomy (setting i .version) (lentOf e n k c m) ≡ true
+unfolding roomy
+suits-roomy i e n k c m s =
+    let v = setting i .version in
+    rw (
+      le-leb (slotsFor v) (length e) (omega (arith, s .entered)),
+      le-leb (slotsFor v) (length n) (omega (arith, s .names)),
+      le-leb (linksFor v) (length k) (omega (arith, s .known)),
+      le-leb (linksFor v) (length c) (omega (arith, s .chains)),
+      le-leb (slotsFor v) (length m) (omega (arith, s .ends)),
+    )
+
+-- a prelude that is accepted had room
+room-there : (s : Setting) (prelude area : List ℕ) (rows : ℕ) → Resolved s prelude area rows → 0 < length area
+room-there s prelude area rows R = go (length area) (R .is)
+  where
+    go : (r : ℕ) → preludeOf (s ∷ []) prelude r ≡ accepted (record { setting = s; resolved = R .tree }) → 0 < r
+    go zero e =
+        let S = short-prelude (s ∷ []) prelude in
+        let f : _≡_ {A = AnswerOf Prelude} (AnswerOf.refused (S .0) 0 []) (accepted (record { setting = s; resolved = R .tree })) = sym (S .2) ∙ e in
+        let z : _≡_ {A = ℕ} 0 1 = cc in
+        absurd (omega arith)
+    go (suc r) e = omega arith
+
+module _ (i : ℕ) (prelude area : List ℕ) (e n : List Slot) (k c m : List ℕ) (suits : SuitsIf i (length area) e n k c m) (said : Refusal) (a : Answer) (told : numbers (said .number) (said .place) ≡ meaning a .plain)
+    (area′ : List ℕ) (ran : Ran (setting i) (roomy (setting i .version) (lentOf e n k c m)) prelude area area′ a) where
+  -- where there is no room it does not matter whether the tables are large enough
+  abbrev enough : Bool
+  enough = roomy (setting i .version) (lentOf e n k c m)
+
+  room-is : (if enough then length area else 0) ≡ length area
+  room-is = go (length area) (λ h. suits-roomy i e n k c m (suits h))
+    where
+      both : (b : Bool) → _≡_ {A = ℕ} (if b then 0 else 0) 0
+      both true = unfold if_then_else_ in refl
+      both false = unfold if_then_else_ in refl
+
+      go : (r : ℕ) → (0 < r → enough ≡ true) → (if enough then r else 0) ≡ r
+      go zero f = both enough
+      go (suc r) f = rw (f (omega arith)) (unfold if_then_else_ in refl)
+
+  pub lent-ran : meaning a ≡ ruled (answer (setting i ∷ []) prelude (length area))
+  lent-ran = ran .answers ∙ ap (λ (r : ℕ). ruled (answer (setting i ∷ []) prelude r)) room-is
+
+  pub lent-left : area′ ≡ output (setting i ∷ []) prelude area
+  lent-left = ran .leaves ∙ go (lt-or-le 0 (length area))
+    where
+      same : (b : Bool) → area ≡ output (setting i ∷ []) prelude area → (if b then output (setting i ∷ []) prelude area else area) ≡ output (setting i ∷ []) prelude area
+      same true h = unfold if_then_else_ in refl
+      same false h = unfold if_then_else_ in h
+
+      go : (0 < length area) ⊎ (length area ≤ 0) → (if enough then output (setting i ∷ []) prelude area else area) ≡ output (setting i ∷ []) prelude area
+      go (inl h) = rw (suits-roomy i e n k c m (suits h)) (unfold if_then_else_ in refl)
+      go (inr h) =
+          let b : area ≡ [] = none-long area (omega arith) in
+          let l : length (output (setting i ∷ []) prelude area) ≡ length area = unfold output in output-length [] (setting i ∷ []) (able-at i .usual, tt) prelude area in
+          same enough (b ∙ sym (none-long (output (setting i ∷ []) prelude area) (omega arith)))
+
+  module _ (h : said .number ≡ 0) (all : (j : ℕ) → Fits w8 (getD prelude j 0)) where
+    pub lent-found : Resolved (setting i) prelude area (said .place)
+    lent-found = found (setting i) prelude area said a told lent-ran (able-at i) h all area′ lent-left (take (16 * said .place) (drop (setting i .version .header) area′)) refl
+
+    -- and so the tables have their sizes
+    pub suits-left : (e′ n′ : List Slot) (k′ c′ m′ : List ℕ) → length e′ ≡ length e → length n′ ≡ length n → length k′ ≡ length k → length c′ ≡ length c → length m′ ≡ length m → Suits i e′ n′ k′ c′ m′
+    suits-left e′ n′ k′ c′ m′ = suits-same i e n e′ n′ k c m k′ c′ m′ (suits (room-there (setting i) prelude area (said .place) lent-found))
 
 -- ---- room_in
 

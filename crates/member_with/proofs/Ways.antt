@@ -7,21 +7,19 @@ use native.Mathlib.Omega.{arith}
 use Prim.Native.Nat.{ℕ, zero, suc, _+_, _-_, _*_, _≤_, _<_}
 use mir.Syntax.{w8}
 use mir.Val.{Fits}
-use lib.Dec.{ltb, leb}
+use lib.Dec.{ltb}
 use lib.ListN.{length, getD, take, drop, replicate, length-append, length-drop, drop-of-length-le}
 use lib.Seq.{length-take-le, drop-at}
 use borrow.Author.Needs.{needs}
-use borrow.Author.Tests.{ltb-false, le-leb}
+use borrow.Author.Tests.{ltb-false}
 use Rattle.kit.proofs.Laws.{lt-or-le}
 use Rattle.rules.specs.Tools.{if_then_else_}
 use Rattle.rules.specs.Versions.{Version, Setting}
 use Rattle.rules.specs.Answer as rules
-use Rattle.rules.specs.Answer.{AnswerOf, accepted, answer, output, outputInside}
-use Rattle.read_form.specs.Laws.OutputLength.{output-length}
-use Rattle.batching.specs.Batch.{Prelude, preludeIn, preludeOf, memberAnswer, memberOutput}
+use Rattle.rules.specs.Answer.{answer, output}
+use Rattle.batching.specs.Batch.{preludeIn, preludeOf, memberAnswer, memberOutput}
 use Rattle.batching.specs.BatchCalls as calls
 use Rattle.batching.specs.BatchCalls.{roomWith}
-use Rattle.batching.specs.Laws.CallLaws.{short-prelude}
 use Rattle.refusal.specs.declared.Refusal.{Refusal}
 use Rattle.limits.specs.Held.{setting}
 use Rattle.names.specs.Table.{Slot, emptySlot}
@@ -30,14 +28,13 @@ use Rattle.resolver.specs.declared.run.Answer.{Answer}
 use Rattle.resolver_with.specs.Served.{served, asked}
 use Rattle.resolver_with.specs.Areas as areas
 use Rattle.resolver_with.specs.Areas.{slotsFor, linksFor, lentOf, roomy, cleared}
-use Rattle.resolver_with.specs.With.{answerWith, outputWith}
-use Rattle.resolver_with.proofs.Asked.{setting-asked, answer-asked, output-asked}
+use Rattle.resolver_with.specs.With.{Ran}
+use Rattle.resolver_with.proofs.Asked.{setting-asked}
 use Rattle.resolver_with.proofs.Runs.{able-at}
-use Rattle.inside.specs.Areas.{bothFor, chainsFor, Suits}
+use Rattle.inside.specs.Areas.{bothFor, chainsFor, SuitsIf}
 use Rattle.inside.specs.Run.{Resolves}
-use Rattle.member.proofs.Prelude.{Resolved}
-use Rattle.member.proofs.Ways.{told-low, told-answers, told-stays, found, inside-answers, inside-leaves, suits-same, as-answered, as-left, as-cleared}
-use Rattle.member_with.specs.Areas.{areaFor, isSmall, shortWith, TablesCleared, Lent, Lends, Same, SameArea}
+use Rattle.member.proofs.Ways.{told-low, told-answers, told-stays, inside-answers, inside-leaves, lent-ran, lent-left, as-answered, as-left, as-cleared}
+use Rattle.member_with.specs.Areas.{areaFor, isSmall, shortWith, TablesCleared, Large, Same, SameArea}
 
 -- ---- are_small, clear_tables
 
@@ -56,83 +53,12 @@ module _ (v : Version) (slots both links more : ℕ) (p : slots ≡ slotsFor v) 
         ends = j ∙ ap (λ (x : ℕ). cleared 0 x m) p;
       }
 
--- ---- the prelude in lent tables
-
-none-long : (l : List ℕ) → length l ≡ 0 → l ≡ []
-none-long [] e = refl
-none-long (x ∷ l) e = absurd (omega arith)
-
-suits-roomy : (i : ℕ) (e n : List Slot) (k c m : List ℕ) → Suits i e n k c m → roomy (setting i .version) (lentOf e n k c m) ≡ true
-unfolding roomy
-suits-roomy i e n k c m s =
-    let v = setting i .version in
-    rw (
-      le-leb (slotsFor v) (length e) (omega (arith, s .entered)),
-      le-leb (slotsFor v) (length n) (omega (arith, s .names)),
-      le-leb (linksFor v) (length k) (omega (arith, s .known)),
-      le-leb (linksFor v) (length c) (omega (arith, s .chains)),
-      le-leb (slotsFor v) (length m) (omega (arith, s .ends)),
-    )
-
-module _ (i : ℕ) (prelude area : List ℕ) (e n : List Slot) (k c m : List ℕ) (lends : Lends i prelude (length area) e n k c m) where
-  abbrev lent : areas.Lent
-  lent = lentOf e n k c m
-
-  -- where there is room the tables are large enough
-  is-roomy : 0 < length area → roomy (asked prelude .version) lent ≡ true
-  is-roomy h = subst (λ (s : Setting). roomy (s .version) lent ≡ true) (lends .asks) (suits-roomy i e n k c m (lends .suits h))
-
-  room-is : (if roomy (asked prelude .version) lent then length area else 0) ≡ length area
-  room-is = go (length area) is-roomy
-    where
-      both : (b : Bool) → _≡_ {A = ℕ} (if b then 0 else 0) 0
-      both true = unfold if_then_else_ in refl
-      both false = unfold if_then_else_ in refl
-
-      go : (r : ℕ) → (0 < r → roomy (asked prelude .version) lent ≡ true) → (if roomy (asked prelude .version) lent then r else 0) ≡ r
-      go zero f = both (roomy (asked prelude .version) lent)
-      go (suc r) f = rw (f (omega arith)) (unfold if_then_else_ in refl)
-
-  answer-one : answerWith prelude (length area) lent ≡ answer (setting i ∷ []) prelude (length area)
-  unfolding answerWith
-  answer-one = ap (λ (r : ℕ). answer served prelude r) room-is ∙ (answer-asked served (asked prelude) prelude (setting-asked prelude) (length area) ∙ ap (λ (s : Setting). answer (s ∷ []) prelude (length area)) (sym (lends .asks)))
-
-  one-output : output served prelude area ≡ output (setting i ∷ []) prelude area
-  one-output = output-asked served (asked prelude) prelude (setting-asked prelude) area ∙ ap (λ (s : Setting). output (s ∷ []) prelude area) (sym (lends .asks))
-
-  output-one : outputWith prelude area lent ≡ output (setting i ∷ []) prelude area
-  unfolding outputWith
-  output-one = ap (λ (l : List ℕ). if roomy (asked prelude .version) lent then l else area) one-output ∙ go (lt-or-le 0 (length area))
-    where
-      same : (b : Bool) → area ≡ output (setting i ∷ []) prelude area → (if b then output (setting i ∷ []) prelude area else area) ≡ output (setting i ∷ []) prelude area
-      same true h = unfold if_then_else_ in refl
-      same false h = unfold if_then_else_ in h
-
-      go : (0 < length area) ⊎ (length area ≤ 0) → (if roomy (asked prelude .version) lent then output (setting i ∷ []) prelude area else area) ≡ output (setting i ∷ []) prelude area
-      go (inl h) = rw (is-roomy h) (unfold if_then_else_ in refl)
-      go (inr h) =
-          let a : area ≡ [] = none-long area (omega arith) in
-          let l : length (output (setting i ∷ []) prelude area) ≡ length area = unfold output in output-length [] (setting i ∷ []) (able-at i .usual, tt) prelude area in
-          same (roomy (asked prelude .version) lent) (a ∙ sym (none-long (output (setting i ∷ []) prelude area) (omega arith)))
-
 -- ---- run_in
 
--- a prelude that is accepted had room
-room-there : (s : Setting) (prelude area : List ℕ) (rows : ℕ) → Resolved s prelude area rows → 0 < length area
-room-there s prelude area rows R = go (length area) (R .is)
-  where
-    go : (r : ℕ) → preludeOf (s ∷ []) prelude r ≡ accepted (record { setting = s; resolved = R .tree }) → 0 < r
-    go zero e =
-        let S = short-prelude (s ∷ []) prelude in
-        let f : _≡_ {A = AnswerOf Prelude} (AnswerOf.refused (S .0) 0 []) (accepted (record { setting = s; resolved = R .tree })) = sym (S .2) ∙ e in
-        let z : _≡_ {A = ℕ} 0 1 = cc in
-        absurd (omega arith)
-    go (suc r) e = omega arith
-
-module _ (i : ℕ) (prelude area : List ℕ) (e n : List Slot) (k c m : List ℕ) (lends : Lends i prelude (length area) e n k c m) (said : Refusal) (a : Answer) (told : numbers (said .number) (said .place) ≡ meaning a .plain)
-    (ran : meaning a ≡ ruled (answerWith prelude (length area) (lentOf e n k c m))) where
-  pub ran-one : meaning a ≡ ruled (answer (setting i ∷ []) prelude (length area))
-  ran-one = ran ∙ ap ruled (answer-one i prelude area e n k c m lends)
+module _ (i : ℕ) (prelude area : List ℕ) (e n : List Slot) (k c m : List ℕ) (suits : SuitsIf i (length area) e n k c m) (said : Refusal) (a : Answer) (told : numbers (said .number) (said .place) ≡ meaning a .plain)
+    (area′ : List ℕ) (ran : Ran (setting i) (roomy (setting i .version) (lentOf e n k c m)) prelude area area′ a) where
+  ran-one : meaning a ≡ ruled (answer (setting i ∷ []) prelude (length area))
+  ran-one = lent-ran i prelude area e n k c m suits said a told area′ ran
 
   pub lent-low : (said .number ≡ 0 → ⊥) → said .number ≤ 13
   lent-low h = told-low (setting i) prelude area said a told ran-one h
@@ -143,15 +69,9 @@ module _ (i : ℕ) (prelude area : List ℕ) (e n : List Slot) (k c m : List ℕ
   pub lent-stays : (said .number ≡ 0 → ⊥) → (member old : List ℕ) → old ≡ memberOutput (setting i ∷ []) prelude (length area) member old
   lent-stays h member old = told-stays (setting i) prelude area said a told ran-one h member old
 
-  module _ (h : said .number ≡ 0) (all : (j : ℕ) → Fits w8 (getD prelude j 0)) (area′ : List ℕ) (left : area′ ≡ outputWith prelude area (lentOf e n k c m)) where
-    pub left-one : area′ ≡ output (setting i ∷ []) prelude area
-    left-one = left ∙ output-one i prelude area e n k c m lends
-
-    there : Resolved (setting i) prelude area (said .place)
-    there = found (setting i) prelude area said a told ran-one (able-at i) h all area′ left-one (take (16 * said .place) (drop (setting i .version .header) area′)) refl
-
-    pub suits-left : (e′ n′ : List Slot) (k′ c′ m′ : List ℕ) → length e′ ≡ length e → length n′ ≡ length n → length k′ ≡ length k → length c′ ≡ length c → length m′ ≡ length m → Suits i e′ n′ k′ c′ m′
-    suits-left e′ n′ k′ c′ m′ = suits-same i e n e′ n′ k c m k′ c′ m′ (lends .suits (room-there (setting i) prelude area (said .place) there))
+  module _ (h : said .number ≡ 0) (all : (j : ℕ) → Fits w8 (getD prelude j 0)) where
+    left-one : area′ ≡ output (setting i ∷ []) prelude area
+    left-one = lent-left i prelude area e n k c m suits said a told area′ ran
 
     module _ (root : List ℕ) (rows : root ≡ take (16 * said .place) (drop (setting i .version .header) area′)) (member old new : List ℕ) (r : Answer) (resolves : Resolves (setting i) root member old new r) where
       pub lent-inside : (q : Refusal) → numbers (q .number) (q .place) ≡ meaning r .plain → numbers (q .number) (q .place) ≡ ruled (memberAnswer (setting i ∷ []) prelude (length area) member (length old)) .plain
@@ -192,26 +112,22 @@ recleared z size s a l front new is e k q =
         let y : length front ≡ size = omega arith in
         drop-at front (drop a l) size y ∙ ap (λ (j : ℕ). drop j l) x
 
-module _ (i : ℕ) (prelude : List ℕ) (room : ℕ) (e n : List Slot) (k c m : List ℕ) (se sn sk sc sm a b d f g : ℕ)
+module _ (i room : ℕ) (e n : List Slot) (k c m : List ℕ) (se sn sk sc sm a b d f g : ℕ)
     (pe : se ≡ slotsFor (setting i .version)) (pn : sn ≡ bothFor (setting i .version)) (pk : sk ≡ linksFor (setting i .version)) (pc : sc ≡ chainsFor (setting i .version)) (pm : sm ≡ slotsFor (setting i .version))
     (ea : a ≡ se - (se - length e)) (eb : b ≡ sn - (sn - length n)) (ed : d ≡ sk - (sk - length k)) (ef : f ≡ sc - (sc - length c)) (eg : g ≡ sm - (sm - length m)) where
-  pub fronts : Lent i prelude room (lentOf e n k c m) → Lends i prelude room (take a e) (take b n) (take d k) (take f c) (take g m)
+  pub fronts : Large i room (lentOf e n k c m) → SuitsIf i room (take a e) (take b n) (take d k) (take f c) (take g m)
   unfolding isSmall
-  fronts lent =
+  fronts large h =
+      let p = either-false _ _ (large h) in
+      let q = either-false _ _ (p .1) in
+      let r = either-false _ _ (q .1) in
+      let s = either-false _ _ (r .1) in
       record {
-        asks = lent .asks;
-        suits = λ h.
-            let p = either-false _ _ (lent .large h) in
-            let q = either-false _ _ (p .1) in
-            let r = either-false _ _ (q .1) in
-            let s = either-false _ _ (r .1) in
-            record {
-              entered = front-is _ se a e pe ea (p .0);
-              names = front-is _ sn b n pn eb (q .0);
-              known = front-is _ sk d k pk ed (r .0);
-              chains = front-is _ sc f c pc ef (s .0);
-              ends = front-is _ sm g m pm eg (s .1);
-            };
+        entered = front-is _ se a e pe ea (p .0);
+        names = front-is _ sn b n pn eb (q .0);
+        known = front-is _ sk d k pk ed (r .0);
+        chains = front-is _ sc f c pc ef (s .0);
+        ends = front-is _ sm g m pm eg (s .1);
       }
 
   pub tables-left : (e₁ e′ n₁ n′ : List Slot) (k₁ k′ c₁ c′ m₁ m′ : List ℕ) → Same (take a e) e₁ (take b n) n₁ (take d k) k₁ (take f c) c₁ (take g m) m₁
@@ -260,10 +176,8 @@ one-writes prelude work member old = rw (setting-asked prelude)
 
 module _ (i : ℕ) (prelude : List ℕ) (asks : setting i ≡ asked prelude) (work : List ℕ) (e n : List Slot) (k c m : List ℕ) (small : Bool) (tested : small ≡ isSmall (setting i .version) (lentOf e n k c m)) (room : ℕ)
     (is : room ≡ roomWith (ltb (length work) (areaFor (setting i .version)) || small) (areaFor (setting i .version))) (less : room ≤ length work) where
-  pub lent-in : Lent i prelude (length (take room work)) (lentOf e n k c m)
-  lent-in =
-      let l = length-take-le room work less in
-      record { asks = asks; large = λ g. sym tested ∙ not-small (ltb (length work) (areaFor (setting i .version))) small (areaFor (setting i .version)) (subst (λ (x : ℕ). 0 < x) (l ∙ is) g) }
+  pub lent-in : Large i (length (take room work)) (lentOf e n k c m)
+  lent-in h = sym tested ∙ not-small (ltb (length work) (areaFor (setting i .version))) small (areaFor (setting i .version)) (subst (λ (x : ℕ). 0 < x) (length-take-le room work less ∙ is) h)
 
   room-asked : roomWith (ltb (length work) (areaFor (setting i .version)) || small) (areaFor (setting i .version)) ≡ roomWith (shortWith prelude (length work) (lentOf e n k c m)) (areaFor (asked prelude .version))
   room-asked =

@@ -11,7 +11,7 @@ use Rattle.names.specs.Table.{Slot, emptySlot}
 use Rattle.resolver_with.specs.Served.{asked}
 use Rattle.resolver_with.specs.Areas as areas
 use Rattle.resolver_with.specs.Areas.{slotsFor, linksFor, cleared}
-use Rattle.inside.specs.Areas.{bothFor, chainsFor, Suits}
+use Rattle.inside.specs.Areas.{bothFor, chainsFor}
 
 -- the bytes of the longest output
 abbrev pub areaFor : Version → ℕ
@@ -36,15 +36,9 @@ pub record TablesCleared (v : Version) (e e′ n n′ : List Slot) (k k′ c c�
 
 -- ---- what only proofs need
 
--- the prelude asks for the setting at place i; where it has room the tables are not too small,
-pub record Lent (i : ℕ) (prelude : List ℕ) (room : ℕ) (l : areas.Lent) : Type 0 where
-  pub asks : setting i ≡ asked prelude
-  pub large : 0 < room → isSmall (setting i .version) l ≡ false
-
--- and then these parts of them have their very sizes
-pub record Lends (i : ℕ) (prelude : List ℕ) (room : ℕ) (e n : List Slot) (k c m : List ℕ) : Type 0 where
-  pub asks : setting i ≡ asked prelude
-  pub suits : 0 < room → Suits i e n k c m
+-- the tables are not too small where the prelude has room
+abbrev pub Large : (i room : ℕ) → areas.Lent → Type 0
+Large i room l = 0 < room → isSmall (setting i .version) l ≡ false
 
 -- the tables come back as long as they were
 pub record Same (e e′ n n′ : List Slot) (k k′ c c′ m m′ : List ℕ) : Type 0 where

@@ -12,7 +12,7 @@ use member::said;
 use names::Slot;
 use refusal::Refusal;
 use resolver_with::run::asked_for;
-use resolver_with::run::resolve_with;
+use resolver_with::run::resolve_at;
 use resolver_with::sizes::least;
 use resolver_with::sizes::links_for;
 use resolver_with::sizes::slots_for;
@@ -28,10 +28,11 @@ ghost use Rattle.batching.specs.BatchCalls.{roomWith, cleared};
 ghost use Rattle.resolver.specs.Meaning.{numbers, ruled};
 ghost use Rattle.resolver_with.specs.Served.{served, asked};
 ghost use Rattle.resolver_with.specs.Areas.{lentOf};
-ghost use Rattle.member_with.specs.Areas.{areaFor, shortWith, TablesCleared, Lends, Lent, Same, SameArea};
+ghost use Rattle.inside.specs.Areas.{SuitsIf};
+ghost use Rattle.member_with.specs.Areas.{areaFor, shortWith, TablesCleared, Large, Same, SameArea};
 
-// The prelude, which asks for the setting at place i, is resolved into `area`, and the member inside its root into `out`. There is no
-// area where a table is too small.
+// The prelude, of the setting at place i, is resolved into `area`, and the member inside its root into `out`. There is no area where a
+// table is too small.
 fn run_in(
     prelude: &[u8],
     member: &[u8],
@@ -44,11 +45,11 @@ fn run_in(
     chains: &mut [u16],
     ends: &mut [u32],
 ) -> Refusal
-    requires { ⌜ Lends i (now prelude) (length (now area)) (now entered) (now names) (now known) (now chains) (now ends) ⌝ }
+    requires { ⌜ SuitsIf i (length (now area)) (now entered) (now names) (now known) (now chains) (now ends) ⌝ }
     ensures { λ r. ⌜ (numbers (r .number) (r .place) ≡ ruled (memberAnswer (setting i ∷ []) (now (prelude .entry)) (length (now (area .entry))) (now (member .entry)) (length (now (out .entry)))) .plain) × (now (out .exit) ≡ memberOutput (setting i ∷ []) (now (prelude .entry)) (length (now (area .entry))) (now (member .entry)) (now (out .entry))) ⌝ }
     ensures { λ _. ⌜ Same (now (entered .entry)) (now (entered .exit)) (now (names .entry)) (now (names .exit)) (now (known .entry)) (now (known .exit)) (now (chains .entry)) (now (chains .exit)) (now (ends .entry)) (now (ends .exit)) ⌝ }
 {
-    let of = said(resolve_with(prelude, area, entered, names, known, chains, ends));
+    let of = said(resolve_at(prelude, area, i, entered, names, known, chains, ends));
     if of.number != 0 {
         return of_prelude(of);
     }
@@ -78,7 +79,7 @@ fn run_lent(
     chains: &mut [u16],
     ends: &mut [u32],
 ) -> Refusal
-    requires { ⌜ Lent i (now prelude) (length (now area)) (lentOf (now entered) (now names) (now known) (now chains) (now ends)) ⌝ }
+    requires { ⌜ Large i (length (now area)) (lentOf (now entered) (now names) (now known) (now chains) (now ends)) ⌝ }
     ensures { λ r. ⌜ (numbers (r .number) (r .place) ≡ ruled (memberAnswer (setting i ∷ []) (now (prelude .entry)) (length (now (area .entry))) (now (member .entry)) (length (now (out .entry)))) .plain) × (now (out .exit) ≡ memberOutput (setting i ∷ []) (now (prelude .entry)) (length (now (area .entry))) (now (member .entry)) (now (out .entry))) ⌝ }
     ensures { λ _. ⌜ TablesCleared (setting i .version) (now (entered .entry)) (now (entered .exit)) (now (names .entry)) (now (names .exit)) (now (known .entry)) (now (known .exit)) (now (chains .entry)) (now (chains .exit)) (now (ends .entry)) (now (ends .exit)) ⌝ }
     ensures { λ _. ⌜ SameArea (now (area .entry)) (now (area .exit)) ⌝ }
