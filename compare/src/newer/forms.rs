@@ -1,6 +1,6 @@
 //! Random forms of version 2 for rule set 1, rich in names that are late at every place, and in names that are just in time.
 
-use super::crate_form::heap_type;
+use super::crate_form::heap_before_path;
 use super::late::{Looked, Slip, Stands, instance_space, is_here_only, late};
 use super::outline::Outline;
 use crate::chance::Chance;
@@ -123,11 +123,11 @@ fn mend(rows: &mut [Row], at: usize, outline: &Outline, names: &Names, chance: &
     }
 }
 
-/// Heap types of resources in the scopes of types become numbers: the crate cannot be asked for a name there.
+/// Heap types of resources before a path become numbers in the scopes of types: the crate cannot be asked for a name there.
 fn number_heap_types(rows: &mut [Row], outline: &Outline) {
     for at in 0..rows.len() {
         let in_type = outline.scopes[outline.scope_of[at]].kind != COMPONENT;
-        if rows[at].code == FIELD && in_type && heap_type(rows, at) == Some(true) {
+        if rows[at].code == FIELD && in_type && heap_before_path(rows, at) {
             (rows[at + 2].e, rows[at + 2].x) = (0, 3);
         }
     }
