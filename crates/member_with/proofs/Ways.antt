@@ -31,10 +31,10 @@ use Rattle.resolver_with.specs.Areas.{slotsFor, linksFor, lentOf, roomy, cleare
 use Rattle.resolver_with.specs.With.{Ran}
 use Rattle.resolver_with.proofs.Asked.{setting-asked}
 use Rattle.resolver_with.proofs.Runs.{able-at}
-use Rattle.inside.specs.Areas.{bothFor, chainsFor, SuitsIf}
+use Rattle.inside.specs.Areas.{bothFor, chainsFor, SuitsIf, Same}
 use Rattle.inside.specs.Run.{Resolves}
 use Rattle.member.proofs.Ways.{told-low, told-answers, told-stays, inside-answers, inside-leaves, lent-ran, lent-left, as-answered, as-left, as-cleared}
-use Rattle.member_with.specs.Areas.{areaFor, isSmall, shortWith, TablesCleared, Large, Same, SameArea}
+use Rattle.member_with.specs.Areas.{areaFor, isSmall, shortWith, TablesCleared, Large, SameArea}
 
 -- ---- are_small, clear_tables
 
@@ -130,10 +130,10 @@ module _ (i room : ℕ) (e n : List Slot) (k c m : List ℕ) (se sn sk sc sm a b
         ends = front-is _ sm g m pm eg (s .1);
       }
 
-  pub tables-left : (e₁ e′ n₁ n′ : List Slot) (k₁ k′ c₁ c′ m₁ m′ : List ℕ) → Same (take a e) e₁ (take b n) n₁ (take d k) k₁ (take f c) c₁ (take g m) m₁
-      → TablesCleared (setting i .version) (e₁ ++ drop a e) e′ (n₁ ++ drop b n) n′ (k₁ ++ drop d k) k′ (c₁ ++ drop f c) c′ (m₁ ++ drop g m) m′
+  pub tables-left : (e₁ e′ n₁ n′ : List Slot) (k₁ k′ c₁ c′ m₁ m′ : List ℕ) → TablesCleared (setting i .version) (e₁ ++ drop a e) e′ (n₁ ++ drop b n) n′ (k₁ ++ drop d k) k′ (c₁ ++ drop f c) c′ (m₁ ++ drop g m) m′
+      → Same (take a e) e₁ (take b n) n₁ (take d k) k₁ (take f c) c₁ (take g m) m₁
       → TablesCleared (setting i .version) e e′ n n′ k k′ c c′ m m′
-  tables-left e₁ e′ n₁ n′ k₁ k′ c₁ c′ m₁ m′ same t =
+  tables-left e₁ e′ n₁ n′ k₁ k′ c₁ c′ m₁ m′ t same =
       record {
         entered = recleared emptySlot _ se a e e₁ e′ pe ea (same .entered) (t .entered);
         names = recleared emptySlot _ sn b n n₁ n′ pn eb (same .names) (t .names);
