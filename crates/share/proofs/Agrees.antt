@@ -1,4 +1,4 @@
--- Of an input that is accepted, of any version that the walk is able to take: what the code proposes is what the rules propose, and the
+-- Of an input that is accepted, under any setting that the walk is able to take: what the code proposes is what the rules propose, and the
 -- check accepts it. What is not accepted is answered as the resolver answers it.
 use mathlib.Core.Path.{_≡_, refl, sym, ap, _∙_, subst}
 use mathlib.Core.Bool.{Bool, true, false}
@@ -12,7 +12,7 @@ use lib.Seq.{length-take-le, take-at, drop-at}
 use Rattle.kit.specs.Out.{_&_}
 use Rattle.kit.proofs.Laws.{tests}
 use Rattle.rules.specs.Tools.{if_then_else_, only, _orElse_}
-use Rattle.rules.specs.Versions.{Version, Setting, today, topName}
+use Rattle.rules.specs.Versions.{Version, Setting, topName}
 use Rattle.rules.specs.Rows.{Row}
 use Rattle.rules.specs.Tree.{Scope, flatten}
 use Rattle.rules.specs.Rules.{Result, ok}
@@ -44,11 +44,12 @@ use Rattle.resolver.specs.Admit.{isShort, admit}
 use Rattle.resolver.specs.Run.{walkIn}
 use Rattle.resolver.specs.declared.run.Answer.{Answer}
 use Rattle.resolver.proofs.Admits.{steps, Admitted, admitted, answer-one, output-one}
-use Rattle.resolver.proofs.Root.{under, Able, Walks, Rooms}
+use Rattle.resolver.proofs.Root.{Able, Walks, Rooms}
 use Rattle.resolver.proofs.Agrees.{Says, fills-accepted, body-rows, body-form}
 use Rattle.moved.proofs.Agrees.{Counted, answer-counted}
 use Rattle.claim_check.specs.Meaning as checked
 use Rattle.claim_check.specs.declared.Verdict.{Verdict}
+use Rattle.share_laws.specs.Relaxed.{relaxed}
 use Rattle.share_laws.specs.Walked.{marked-walks}
 use Rattle.share.specs.declared.Own.{Own}
 use Rattle.share.specs.Run as run
@@ -95,9 +96,9 @@ over-written size new own old h = unfold written in ap (λ (l : List ℕ). new +
 
 -- ---- the proposal
 
-module _ (v : Version) (able : Able (under v)) where
-  abbrev one : Setting
-  one = under v
+module _ (one : Setting) (able : Able one) where
+  abbrev v : Version
+  v = one .version
 
   usual : AllUsual (one ∷ [])
   usual = (able .usual, tt)
@@ -132,15 +133,15 @@ module _ (v : Version) (able : Able (under v)) where
     asks : settingOf (one ∷ []) input ≡ some one
     asks = plan .asked-for ∙ ap some is-one
 
-    shared-is : shared (one ∷ []) input (length old) ≡ mapAnswer flatten (resolved (propose today (tree .0)))
+    shared-is : shared (one ∷ []) input (length old) ≡ mapAnswer flatten (resolved (propose (one .rules) (tree .0)))
     unfolding shared sharedAfter proposed _andThen_
     shared-is = rw (e, asks, reads)
 
     -- the tree that the rules propose
-    made : (q : Scope × ℕ) × (propose today (tree .0) ≡ ok q) × (flatten (q .0) ≡ plan .out)
-    made = go (propose today (tree .0)) refl (sym shared-is ∙ plan .answers)
+    made : (q : Scope × ℕ) × (propose (one .rules) (tree .0) ≡ ok q) × (flatten (q .0) ≡ plan .out)
+    made = go (propose (one .rules) (tree .0)) refl (sym shared-is ∙ plan .answers)
       where
-        go : (m : Result (Scope × ℕ)) → propose today (tree .0) ≡ m → mapAnswer flatten (resolved m) ≡ accepted (plan .out) → (q : Scope × ℕ) × (propose today (tree .0) ≡ ok q) × (flatten (q .0) ≡ plan .out)
+        go : (m : Result (Scope × ℕ)) → propose (one .rules) (tree .0) ≡ m → mapAnswer flatten (resolved m) ≡ accepted (plan .out) → (q : Scope × ℕ) × (propose (one .rules) (tree .0) ≡ ok q) × (flatten (q .0) ≡ plan .out)
         go (Result.refused why z) q a = unfold resolved mapAnswer in no-answer _ _ _ (plan .out) a
         go (ok r) q a = let p : accepted (flatten (r .0)) ≡ accepted (plan .out) = unfold resolved mapAnswer in a in (r, q, cc)
 
@@ -164,7 +165,7 @@ module _ (v : Version) (able : Able (under v)) where
 
     low : LowScope (tree .0)
     low =
-        read-low today (v .scopes) topName (length body / 16) body (tree .0) (omega arith) (reads-form today (v .scopes) (rowsOf topName (length body / 16) body) (tree .0) (body-form one able input old (tree .0) fine) (fine .low))
+        read-low (one .rules) (v .scopes) topName (length body / 16) body (tree .0) (omega arith) (reads-form (one .rules) (v .scopes) (rowsOf topName (length body / 16) body) (tree .0) (body-form one able input old (tree .0) fine) (fine .low))
 
     pub roomy : (now : List ℕ) → length now ≡ length old → Roomy one input now
     roomy now same = record { rows = n; long = fine .long; few = fine .few; room = omega (arith, fine .enough) }
@@ -185,7 +186,7 @@ module _ (v : Version) (able : Able (under v)) where
         mark-agrees body _ marked table (tree .0) (bytes-drop (v .header) input bs) (f .of-tree) (omega arith) right l (omega (arith, fine .count, fine .few)) (omega (arith, fine .count, fine .few))
 
     four : length rs ≤ 4 * n
-    four = omega (arith, shared-four today (tree .0) (made .0) (made .1), fine .count)
+    four = omega (arith, shared-four (one .rules) (tree .0) (made .0) (made .1), fine .count)
 
     -- what the rules answer and leave
     shared-accepts : shared (one ∷ []) input (length old) ≡ accepted rs
@@ -208,9 +209,9 @@ module _ (v : Version) (able : Able (under v)) where
         omega (arith, form-length one own (able .usual))
 
     module _ (ends : List ℕ) (entered names : List Slot) (rooms : Rooms v ends entered names) where
-      walks : (out : List ℕ) → 64 * n ≤ length out → Walks (propose today (tree .0)) out (walkIn one markedRows ends entered names out)
+      walks : (out : List ℕ) → 64 * n ≤ length out → Walks (ok (made .0)) out (walkIn (relaxed one) markedRows ends entered names out)
       walks out room =
-          marked-walks v able ends entered names rooms (tree .0) (omega (arith, fine .count, fine .few)) (fine .is-form .good) low (fine .low) (read-written one input (tree .0) (able .usual) bs reads) out (omega (arith, fine .count))
+          marked-walks one able ends entered names rooms (tree .0) (omega (arith, fine .count, fine .few)) (fine .is-form .good) low (fine .low) (read-written one input (tree .0) (able .usual) bs reads) (made .0) (made .1) out (omega (arith, fine .count))
 
       says : (now : List ℕ) → length now ≡ length old → Says one n now (accepted rs) (proposeIn one markedRows ends entered names input now)
       unfolding proposeIn
@@ -218,9 +219,8 @@ module _ (v : Version) (able : Able (under v)) where
           let room = fine .enough in
           let front = drop (v .header) (take size now) in
           let whole : length (take size now) ≡ size = length-take-le size now (omega arith) in
-          let W : Walks (ok (made .0)) front (walkIn one markedRows ends entered names front) =
-          subst (λ (m : Result (Scope × ℕ)). Walks m front (walkIn one markedRows ends entered names front)) (made .1) (walks front (simp length-drop (omega arith))) in
-          rw count (fills-accepted one able now n (fine .few) (omega arith) (walkIn one markedRows ends entered names) rs (W .0) four (W .1) (W .2))
+          let W = walks front (simp length-drop (omega arith)) in
+          rw count (fills-accepted one able now n (fine .few) (omega arith) (walkIn (relaxed one) markedRows ends entered names) rs (W .0) four (W .1) (W .2))
 
       -- THE PROPOSAL over what the resolver left
       pub answers-shared : (a : Answer) (l marked : List ℕ) → marked ≡ markedRows → (a & l) ≡ proposeIn one marked ends entered names input (output (one ∷ []) input old)

@@ -13,7 +13,7 @@ use mir.Val.{Fits}
 use Rattle.kit.specs.Out.{_&_}
 use Rattle.kit.proofs.Laws.{tests}
 use Rattle.rules.specs.Tools.{if_then_else_}
-use Rattle.rules.specs.Versions.{version1, base}
+use Rattle.rules.specs.Versions.{base}
 use Rattle.rules.specs.Tree.{flatten}
 use Rattle.rules.specs.Answer as rules
 use Rattle.rules.specs.Answer.{refused, accepted, answer, rowsBytes, output}
@@ -137,7 +137,7 @@ module _ (input old : List ℕ) (slots links : ℕ) (b : Bool) (is : b ≡ tooSm
     where
       go : (a : rules.Answer) → answer base input 0 ≡ a → ruled (answer base input 0) ≡ ruled (shared base input 0)
       go (refused n z c) q = ap ruled (q ∙ sym (shared-refuses base input 0 n z c q))
-      go (accepted rs) q = none-accepted version1 able-1 input rs q
+      go (accepted rs) q = none-accepted (setting 0) able-1 input rs q
 
   pub small-answers : (r : Answer) → meaning r ≡ ruled (answer base input (length (take 0 old))) → meaning r ≡ ruled (sharedWith input (length old) slots links)
   unfolding sharedWith if_then_else_
@@ -165,27 +165,27 @@ module _ (input now : List ℕ) (R : Resolved base input now) (all : (i : ℕ) �
   bs = all-bytes input all
 
   pub left-roomy : Roomy (setting 0) input now
-  left-roomy = roomy version1 able-1 input (R .old) bs (R .own) (R .accepts) now (ap length (R .left) ∙ as-long version1 able-1 input (R .old))
+  left-roomy = roomy (setting 0) able-1 input (R .old) bs (R .own) (R .accepts) now (ap length (R .left) ∙ as-long (setting 0) able-1 input (R .old))
 
-  marked-is : markT (drop 8 input) (take (length (drop 8 input)) noRows) ≡ rowsBytes (flatten (mark (tree version1 able-1 input (R .old) bs (R .own) (R .accepts) .0)))
+  marked-is : markT (drop 8 input) (take (length (drop 8 input)) noRows) ≡ rowsBytes (flatten (mark (tree (setting 0) able-1 input (R .old) bs (R .own) (R .accepts) .0)))
   unfolding markT run.rowsOf endsT
   marked-is =
       let a = rooms-1 .ends in
       let b = rooms-1 .entered in
       let d : length (drop 8 input) ≡ length input - 8 = length-drop 8 input in
       let l : length (take (length (drop 8 input)) noRows) ≡ length (drop 8 input) = length-take-le (length (drop 8 input)) noRows (omega (arith, no-rows, d, left-roomy .long, left-roomy .few)) in
-      rw (marks version1 able-1 input (R .old) bs (R .own) (R .accepts) noEnds (take (length (drop 8 input)) noRows) noSlots a b l .answer)
+      rw (marks (setting 0) able-1 input (R .old) bs (R .own) (R .accepts) noEnds (take (length (drop 8 input)) noRows) noSlots a b l .answer)
 
   module _ (a : Answer) (l : List ℕ) (p : (a & l) ≡ proposeT input now) where
     pub shares : (meaning a ≡ ruled (shared base input (length (R .old)))) × (l ≡ sharedOutput base input (R .old))
     shares =
-        answers-shared version1 able-1 input (R .old) bs (R .own) (R .accepts) noEnds noSlots noSlots rooms-1 a l (markT (drop 8 input) (take (length (drop 8 input)) noRows)) marked-is
+        answers-shared (setting 0) able-1 input (R .old) bs (R .own) (R .accepts) noEnds noSlots noSlots rooms-1 a l (markT (drop 8 input) (take (length (drop 8 input)) noRows)) marked-is
         (p ∙ (in-version-1 input now ∙ ap (proposeIn (setting 0) (markT (drop 8 input) (take (length (drop 8 input)) noRows)) noEnds noSlots noSlots input) (R .left)))
 
     -- it is never refused
     pub refused-never : (slots links : ℕ) → Large slots links → (rows : ℕ) (claim : List ℕ) (y : Bool) → rows ≡ meaning a .plain .place → claim ≡ take (8 + 16 * rows) l → y ≡ isYes (checkAnswer base input claim slots links) → y ≡ false → ⊥
     refused-never slots links z rows claim y r c f e =
-        never-refused version1 able-1 input (R .old) bs (R .own) (R .accepts) a l (shares .0) (shares .1) slots links (unfold slotsOf in z .slots-large) (unfold linksOf slotsOf in z .links-large) rows claim y r c f e
+        never-refused (setting 0) able-1 input (R .old) bs (R .own) (R .accepts) a l (shares .0) (shares .1) slots links (unfold slotsOf in z .slots-large) (unfold linksOf slotsOf in z .links-large) rows claim y r c f e
 
 -- ---- share_in
 

@@ -17,6 +17,7 @@ use Rattle.resolver.specs.Meaning.{meaning, ruled}
 use Rattle.resolver.specs.Run as resolver
 use Rattle.resolver.specs.Run.{noSlots, noEnds, walkIn, walkT, fillT, before}
 use Rattle.claim_check.specs.Meaning as checked
+use Rattle.share_laws.specs.Relaxed.{relaxed}
 use Rattle.share.specs.declared.Own.{Own}
 
 -- ---- the proposal
@@ -25,11 +26,11 @@ use Rattle.share.specs.declared.Own.{Own}
 unfoldable pub rowsOf : Out (List Slot) (List ℕ) → List ℕ
 rowsOf (table & marked) = marked
 
--- the walk over marked rows of a form, into its share of the output; what stands beyond that share stays
+-- the walk over marked rows of a form of this setting, into its share of the output; what stands beyond that share stays
 unfoldable pub proposeIn : Setting → (marked ends : List ℕ) (entered names : List Slot) (form out : List ℕ) → resolver.Ran
 proposeIn s marked ends entered names form out =
     let size = s .version .header + 64 * (length (drop (s .version .header) form) / 16) in
-    before (fillT s (walkIn s marked ends entered names) (take size out)) (drop size out)
+    before (fillT s (walkIn (relaxed s) marked ends entered names) (take size out)) (drop size out)
 
 -- the rows of a form of version 1, marked: the tables start empty
 unfoldable pub markT : (rows marked : List ℕ) → List ℕ

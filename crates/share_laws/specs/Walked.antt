@@ -1,21 +1,22 @@
--- The walk over the marked rows of a form writes what the rules' steps make of the marked tree: under any version that the walk is able
--- to take, in tables of any size that is enough.
-use mathlib.Core.Path.{_≡_, refl, sym, ap₂, _∙_}
+-- The walk over the marked rows of a form writes what the rules propose for it: under any setting that the walk is able to take, in
+-- tables of any size that is enough.
+use mathlib.Core.Path.{_≡_, refl, sym, ap₂, _∙_, subst}
 use mathlib.Core.Bool.{false}
 use mathlib.Core.Option.{some}
 use mathlib.Core.List.{List, [], map, append-nil}
 use native.Mathlib.Omega.{arith}
 use Prim.Native.Nat.{ℕ, _*_, _/_, _≤_}
 use lib.ListN.{length, replicate, length-replicate}
-use Rattle.rules.specs.Versions.{Version, today}
+use Rattle.rules.specs.Versions.{Version, Setting}
 use Rattle.rules.specs.Tree.{Scope, scope, flatten}
 use Rattle.rules.specs.Good.{GoodScope, height}
 use Rattle.rules.specs.Readings.{fieldsOf}
-use Rattle.rules.specs.Rules.{resolve}
+use Rattle.rules.specs.Rules.{Result, ok, resolve}
 use Rattle.rules.specs.Answer.{rowsBytes, rowsOf}
 use Rattle.rules.specs.Laws.ToolLaws.{All, false-not}
 use Rattle.rules.specs.Laws.RowLaws.{Written}
 use Rattle.rules.specs.Laws.Meaning.Names.{LowScope, low-scope}
+use Rattle.rules.specs.Laws.Meaning.Stricter.{relaxedRules}
 use Rattle.rules.specs.Laws.Output.OutFits.{outName}
 use Rattle.rules.specs.Laws.Reading.BeginsWritten.{rows-again}
 use Rattle.read_form.specs.Laws.OutputLength.{rows-length}
@@ -32,9 +33,13 @@ use Rattle.agree.specs.At.{At}
 use Rattle.agree.specs.AtLaws.{at-form}
 use Rattle.agree.specs.RootAgrees.{inside-agrees, begun-alone}
 use Rattle.resolver.specs.Run.{walkIn}
-use Rattle.resolver.proofs.Root.{under, Able, Walks, Rooms, seen}
+use Rattle.resolver.proofs.Root.{Able, Walks, Rooms, seen}
+use Rattle.share_laws.specs.Relaxed.{relaxed, proposed-relaxed, good-relaxed}
 
-module _ (v : Version) (able : Able (under v)) (ends : List ℕ) (entered names : List Slot) (rooms : Rooms v ends entered names) where
+module _ (by : Setting) (able : Able by) (ends : List ℕ) (entered names : List Slot) (rooms : Rooms (by .version) ends entered names) where
+  abbrev v : Version
+  v = by .version
+
   sizes : Sizes
   sizes = record { entered = length entered; names = length names; scopes = v .scopes }
 
@@ -42,7 +47,7 @@ module _ (v : Version) (able : Able (under v)) (ends : List ℕ) (entered names 
   unfolding sizes
   sized = record { room = refl; size = refl; depths = length-replicate (v .scopes) noScope }
 
-  module _ (t : Scope) (few : length (flatten t) ≤ v .rows) (good : GoodScope today t) (low : LowScope t) (shallow : height t ≤ v .scopes) (fit : All (Written outName) (flatten t)) where
+  module _ (t : Scope) (few : length (flatten t) ≤ v .rows) (good : GoodScope (by .rules) t) (low : LowScope t) (shallow : height t ≤ v .scopes) (fit : All (Written outName) (flatten t)) where
     abbrev rows : List ℕ
     rows = rowsBytes (flatten (mark t))
 
@@ -82,11 +87,13 @@ module _ (v : Version) (able : Able (under v)) (ends : List ℕ) (entered names 
         go : (s : Scope) → Ends (fieldsOf s) (endsTo (v .scopes) rows ends) 1 → EndsIn s (endsTo (v .scopes) rows ends) 0
         go (scope kind name fs) h = h
 
-    -- THE WALK OVER THE MARKED ROWS, with four times the room
-    pub marked-walks : (out : List ℕ) → 64 * length (flatten t) ≤ length out → Walks (propose today t) out (walkIn (under v) rows ends entered names out)
-    unfolding walkIn sizes propose resolve
-    marked-walks out room =
+    -- THE WALK OVER THE MARKED ROWS of a form for which something is proposed, with four times the room
+    pub marked-walks : (q : Scope × ℕ) → propose (by .rules) t ≡ ok q → (out : List ℕ) → 64 * length (flatten t) ≤ length out → Walks (ok q) out (walkIn (relaxed by) rows ends entered names out)
+    unfolding walkIn sizes resolve
+    marked-walks q e out room =
+        let loose = relaxedRules (by .rules) in
         let L = marked-like t in
-        seen (propose today t) out _
-        (inside-agrees today (able .heap) sizes rows (endsTo (v .scopes) rows ends) (mark t) fits stands ends-in (Marks.like-well _ today t (mark t) L good) (Marks.like-declared _ t (mark t) L (low-scope t low)) (λ e. false-not e) [] (v .scopes) 0 0 entered names (replicate (v .scopes) noScope) deep
-        (begun-alone sizes rows (endsTo (v .scopes) rows ends) (mark t) fits (omega (arith, rooms .names, marked-count)) deep entered names (replicate (v .scopes) noScope) sized false stands) out (omega (arith, many)))
+        subst (λ (m : Result (Scope × ℕ)). Walks m out (walkIn (relaxed by) rows ends entered names out)) (proposed-relaxed (by .rules) t q e)
+        (seen (resolve loose (mark t)) out _
+        (inside-agrees loose (able .heap) sizes rows (endsTo (v .scopes) rows ends) (mark t) fits stands ends-in (Marks.like-well _ loose t (mark t) L (good-relaxed (by .rules) t good)) (Marks.like-declared _ t (mark t) L (low-scope t low)) (λ e. false-not e) [] (v .scopes) 0 0 entered names (replicate (v .scopes) noScope) deep
+        (begun-alone sizes rows (endsTo (v .scopes) rows ends) (mark t) fits (omega (arith, rooms .names, marked-count)) deep entered names (replicate (v .scopes) noScope) sized false stands) out (omega (arith, many))))

@@ -1,17 +1,17 @@
 -- Of an input that is accepted under one of the settings in force: the proposal is what the rules propose, and the check accepts it.
-use mathlib.Core.Path.{_≡_, refl, sym, ap, _∙_, subst}
+use mathlib.Core.Path.{_≡_, refl, sym, ap, _∙_}
 use mathlib.Core.Bool.{Bool, true, false}
 use mathlib.Core.Option.{Option, none, some}
 use mathlib.Core.List.{List, [], _∷_}
 use native.Mathlib.Omega.{arith}
-use Prim.Native.Nat.{ℕ, zero, suc, _+_, _-_, _*_, _/_, _%_, _≤_, _<_}
+use Prim.Native.Nat.{ℕ, zero, suc, _+_, _-_, _*_, _/_, _%_, _≤_}
 use lib.Dec.{eqb, leb}
 use lib.ListN.{length, getD, set, take, drop, replicate, length-set, length-drop}
 use lib.Seq.{length-take-le}
-use Rattle.kit.specs.Out.{Out, _&_}
+use Rattle.kit.specs.Out.{_&_}
 use Rattle.kit.specs.Pick.{pick}
 use Rattle.rules.specs.Tools.{if_then_else_}
-use Rattle.rules.specs.Versions.{Version, Setting, version1, version2}
+use Rattle.rules.specs.Versions.{Version, Setting}
 use Rattle.rules.specs.Rows.{Row}
 use Rattle.rules.specs.Tree.{flatten}
 use Rattle.rules.specs.Answer as rules
@@ -24,19 +24,18 @@ use Rattle.limits.specs.Held.{setting}
 use Rattle.form.specs.Marked.{Noted, depthBefore, markT, withNoted, backT, endsIn, endsTo}
 use Rattle.names.specs.Table.{Slot}
 use Rattle.rows.specs.Taken.{codeAt}
-use Rattle.mark.specs.Marked.{markedT}
 use Rattle.resolver.specs.Meaning.{meaning, ruled}
-use Rattle.resolver.specs.Run.{Ran, fillT, walkIn, before}
 use Rattle.resolver.specs.declared.run.Answer.{Answer}
-use Rattle.resolver.proofs.Root.{under, Able, able-1, able-2, Rooms}
+use Rattle.resolver.proofs.Root.{Able, Rooms}
 use Rattle.resolver_with.specs.Areas.{slotsFor, Lent, roomy}
 use Rattle.resolver_with.specs.Served.{served, asked}
 use Rattle.resolver_with.proofs.Asked.{setting-asked, answer-asked, output-asked}
+use Rattle.resolver_with.proofs.Runs.{able-at}
 use Rattle.check_with.specs.With.{checkWith}
 use Rattle.share.specs.Run.{proposeIn, Roomy, isYes, Resolved}
 use Rattle.share.proofs.Agrees as one
 use Rattle.share_with.specs.With.{bytesFor}
-use Rattle.share_with.specs.Run.{walkOver, walkedIn, proposeWith, Fit}
+use Rattle.share_with.specs.Run.{walkOver, walkedIn, proposeWith}
 
 -- ---- as many ends are noted as there is room for
 
@@ -69,7 +68,10 @@ ends-as-long most rows ends = back-long most rows (length rows / 16) 0 ends (rep
 
 -- ---- under one setting
 
-module _ (v : Version) (able : Able (under v)) (input old : List ℕ) (bs : Bytes input) (own : List Row) (e : answer (under v ∷ []) input (length old) ≡ accepted own) where
+module _ (by : Setting) (able : Able by) (input old : List ℕ) (bs : Bytes input) (own : List Row) (e : answer (by ∷ []) input (length old) ≡ accepted own) where
+  abbrev v : Version
+  v = by .version
+
   module _ (marked ends : List ℕ) (entered names : List Slot) (hm : bytesFor v ≤ length marked) (hs : slotsFor v ≤ length ends) (he : slotsFor v ≤ length entered) (hn : slotsFor v ≤ length names) where
     abbrev body : List ℕ
     body = drop (v .header) input
@@ -82,13 +84,13 @@ module _ (v : Version) (able : Able (under v)) (input old : List ℕ) (bs : Byte
 
     part-long : length part ≡ length body
     part-long =
-        let R = one.roomy v able input old bs own e old refl in
+        let R = one.roomy by able input old bs own e old refl in
         let a = length-take-le (bytesFor v) marked hm in
         let d = length-drop (v .header) input in
         length-take-le (length body) (take (bytesFor v) marked) (omega (arith, R .long, R .few))
 
-    shares-in : (a : Answer) (l : List ℕ) → (a & l) ≡ proposeWith (under v) input (output (under v ∷ []) input old) marked ends entered names
-        → (meaning a ≡ ruled (shared (under v ∷ []) input (length old))) × (l ≡ sharedOutput (under v ∷ []) input old)
+    shares-in : (a : Answer) (l : List ℕ) → (a & l) ≡ proposeWith by input (output (by ∷ []) input old) marked ends entered names
+        → (meaning a ≡ ruled (shared (by ∷ []) input (length old))) × (l ≡ sharedOutput (by ∷ []) input old)
     unfolding proposeWith walkedIn walkOver proposeIn
     shares-in a l p =
         let few = able .few in
@@ -96,10 +98,10 @@ module _ (v : Version) (able : Able (under v)) (input old : List ℕ) (bs : Byte
         let t = length-take-le (slotsFor v) entered he in
         let n = length-take-le (slotsFor v) names hn in
         let long = ends-as-long (v .scopes) body (take (slotsFor v) ends) in
-        let M = one.marks v able input old bs own e (take (slotsFor v) ends) part (take (slotsFor v) entered) (omega arith) (omega arith) part-long in
+        let M = one.marks by able input old bs own e (take (slotsFor v) ends) part (take (slotsFor v) entered) (omega arith) (omega arith) part-long in
         let size = M .size in
         let rooms : Rooms v noted (M .table) (take (slotsFor v) names) = record { ends = omega arith; entered = omega arith; names = omega arith; entered-narrow = omega arith; names-narrow = omega arith } in
-        one.answers-shared v able input old bs own e noted (M .table) (take (slotsFor v) names) rooms a l (rowsBytes (flatten (mark (one.tree v able input old bs own e .0)))) refl
+        one.answers-shared by able input old bs own e noted (M .table) (take (slotsFor v) names) rooms a l (rowsBytes (flatten (mark (one.tree by able input old bs own e .0)))) refl
         (p ∙ rw (M .answer))
 
 -- ---- under each setting in force
@@ -108,7 +110,7 @@ module _ (v : Version) (able : Able (under v)) (input old : List ℕ) (bs : Byte
 module _ (input : List ℕ) where
   shared-asked : (room : ℕ) → shared served input room ≡ shared (asked input ∷ []) input room
   unfolding shared sharedAfter
-  shared-asked room = ap (λ (a : rules.Answer). sharedAfter a served input) (answer-asked served (asked input) input (setting-asked input) room) ∙ go (answer (asked input ∷ []) input room)
+  shared-asked room = ap (λ (a : rules.Answer). sharedAfter a served input) (answer-asked input room) ∙ go (answer (asked input ∷ []) input room)
     where
       go : (a : rules.Answer) → sharedAfter a served input ≡ sharedAfter a (asked input ∷ []) input
       go (refused n z c) = refl
@@ -122,43 +124,16 @@ module _ (input : List ℕ) where
       go none = unfold sharedFor in refl
       go (some s) = unfold sharedFor in ap (λ (a : rules.Answer). outputAfter s a (s .version .header + 64 * rowCount (s .version) input) old) (shared-asked (length old))
 
-module _ (input now : List ℕ) (bs : Bytes input) where
-  roomy-at : (i : ℕ) → i < 2 → Resolved (setting i ∷ []) input now → Roomy (setting i) input now
-  roomy-at zero h R = one.roomy version1 able-1 input (R .old) bs (R .own) (R .accepts) now (ap length (R .left) ∙ one.as-long version1 able-1 input (R .old))
-  roomy-at (suc zero) h R = one.roomy version2 able-2 input (R .old) bs (R .own) (R .accepts) now (ap length (R .left) ∙ one.as-long version2 able-2 input (R .old))
-  roomy-at (suc (suc i)) h R = absurd (omega arith)
-
-  module _ (marked ends : List ℕ) (entered names : List Slot) (a : Answer) (l : List ℕ) where
-    shares-at : (i : ℕ) → i < 2 → (R : Resolved (setting i ∷ []) input now) → bytesFor (setting i .version) ≤ length marked → slotsFor (setting i .version) ≤ length ends → slotsFor (setting i .version) ≤ length entered → slotsFor (setting i .version) ≤ length names
-        → (a & l) ≡ proposeWith (setting i) input now marked ends entered names → (meaning a ≡ ruled (shared (setting i ∷ []) input (length (R .old)))) × (l ≡ sharedOutput (setting i ∷ []) input (R .old))
-    shares-at zero h R hm hs he hn p =
-        shares-in version1 able-1 input (R .old) bs (R .own) (R .accepts) marked ends entered names hm hs he hn a l (p ∙ ap (λ (x : List ℕ). proposeWith (under version1) input x marked ends entered names) (R .left))
-    shares-at (suc zero) h R hm hs he hn p =
-        shares-in version2 able-2 input (R .old) bs (R .own) (R .accepts) marked ends entered names hm hs he hn a l (p ∙ ap (λ (x : List ℕ). proposeWith (under version2) input x marked ends entered names) (R .left))
-    shares-at (suc (suc i)) h R hm hs he hn p = absurd (omega arith)
-
-    yes-at : (i : ℕ) → i < 2 → (R : Resolved (setting i ∷ []) input now) → (meaning a ≡ ruled (shared (setting i ∷ []) input (length (R .old)))) × (l ≡ sharedOutput (setting i ∷ []) input (R .old))
-        → (slots links : ℕ) → slotsOf (setting i .version) ≤ slots → linksOf (setting i .version) ≤ links → (rows : ℕ) (claim : List ℕ) (y : Bool) → rows ≡ meaning a .plain .place → claim ≡ take (setting i .version .header + 16 * rows) l
-        → y ≡ isYes (checkAnswer (setting i ∷ []) input claim slots links) → y ≡ false → ⊥
-    yes-at zero h R s = one.never-refused version1 able-1 input (R .old) bs (R .own) (R .accepts) a l (s .0) (s .1)
-    yes-at (suc zero) h R s = one.never-refused version2 able-2 input (R .old) bs (R .own) (R .accepts) a l (s .0) (s .1)
-    yes-at (suc (suc i)) h R s = absurd (omega arith)
-
-none-at : {X : Type 0} (i : ℕ) → i < 2 → (input : List ℕ) (own : List Row) → answer (setting i ∷ []) input 0 ≡ accepted own → X
-none-at zero h input own e = one.none-accepted version1 able-1 input own e
-none-at (suc zero) h input own e = one.none-accepted version2 able-2 input own e
-none-at (suc (suc i)) h input own e = absurd (omega arith)
-
 -- ---- under all
 
-module _ (i : ℕ) (h : i < 2) (input : List ℕ) (asks : setting i ≡ asked input) where
+module _ (i : ℕ) (input : List ℕ) (asks : setting i ≡ asked input) where
   -- where there is no room nothing is accepted
   pub none-shared : ruled (answer served input 0) ≡ ruled (shared served input 0)
   none-shared = go (answer served input 0) refl
     where
       go : (a : rules.Answer) → answer served input 0 ≡ a → ruled (answer served input 0) ≡ ruled (shared served input 0)
       go (refused n z c) q = ap ruled (q ∙ sym (shared-refuses served input 0 n z c q))
-      go (accepted rs) q = none-at i h input rs (ap (λ (s : Setting). answer (s ∷ []) input 0) asks ∙ (sym (answer-asked served (asked input) input (setting-asked input) 0) ∙ q))
+      go (accepted rs) q = one.none-accepted (setting i) (able-at i) input rs (ap (λ (s : Setting). answer (s ∷ []) input 0) asks ∙ (sym (answer-asked input 0) ∙ q))
 
   module _ (now : List ℕ) (R : Resolved served input now) where
     resolved : Resolved (setting i ∷ []) input now
@@ -166,19 +141,21 @@ module _ (i : ℕ) (h : i < 2) (input : List ℕ) (asks : setting i ≡ asked in
         record {
           old = R .old;
           own = R .own;
-          accepts = ap (λ (s : Setting). answer (s ∷ []) input (length (R .old))) asks ∙ (sym (answer-asked served (asked input) input (setting-asked input) (length (R .old))) ∙ R .accepts);
-          left = R .left ∙ (output-asked served (asked input) input (setting-asked input) (R .old) ∙ ap (λ (s : Setting). output (s ∷ []) input (R .old)) (sym asks));
+          accepts = ap (λ (s : Setting). answer (s ∷ []) input (length (R .old))) asks ∙ (sym (answer-asked input (length (R .old))) ∙ R .accepts);
+          left = R .left ∙ (output-asked input (R .old) ∙ ap (λ (s : Setting). output (s ∷ []) input (R .old)) (sym asks));
         }
 
     module _ (bs : Bytes input) where
       pub left-roomy : Roomy (setting i) input now
-      left-roomy = roomy-at input now bs i h resolved
+      unfolding resolved
+      left-roomy = one.roomy (setting i) (able-at i) input (R .old) bs (R .own) (resolved .accepts) now (ap length (resolved .left) ∙ one.as-long (setting i) (able-at i) input (R .old))
 
       module _ (marked ends : List ℕ) (entered names : List Slot) (hm : bytesFor (setting i .version) ≤ length marked) (hs : slotsFor (setting i .version) ≤ length ends) (he : slotsFor (setting i .version) ≤ length entered) (hn : slotsFor (setting i .version) ≤ length names)
           (a : Answer) (l : List ℕ) (p : (a & l) ≡ proposeWith (setting i) input now marked ends entered names) where
         shares : (meaning a ≡ ruled (shared (setting i ∷ []) input (length (R .old)))) × (l ≡ sharedOutput (setting i ∷ []) input (R .old))
         unfolding resolved
-        shares = shares-at input now bs marked ends entered names a l i h resolved hm hs he hn p
+        shares =
+            shares-in (setting i) (able-at i) input (R .old) bs (R .own) (resolved .accepts) marked ends entered names hm hs he hn a l (p ∙ ap (λ (x : List ℕ). proposeWith (setting i) input x marked ends entered names) (resolved .left))
 
         pub shares-served : (meaning a ≡ ruled (shared served input (length (R .old)))) × (l ≡ sharedOutput served input (R .old))
         shares-served = (
@@ -192,4 +169,4 @@ module _ (i : ℕ) (h : i < 2) (input : List ℕ) (asks : setting i ≡ asked in
         unfolding resolved checkWith if_then_else_
         refused-never slots links lent hs hl fits rows claim y r c f e =
             let w : checkAnswer served input claim slots links ≡ checkAnswer (setting i ∷ []) input claim slots links = unfold checkAnswer in rw (setting-asked input, asks) in
-            yes-at input now bs marked ends entered names a l i h resolved shares slots links hs hl rows claim y r c (f ∙ (rw (fits, w))) e
+            one.never-refused (setting i) (able-at i) input (R .old) bs (R .own) (resolved .accepts) a l (shares .0) (shares .1) slots links hs hl rows claim y r c (f ∙ (rw (fits, w))) e

@@ -4,7 +4,7 @@ use mathlib.Core.Bool.{Bool, true, false, _||_, not}
 use mathlib.Core.Logic.{_⊎_, inl, inr}
 use mathlib.Core.List.{List, [], _∷_, _++_}
 use native.Mathlib.Omega.{arith}
-use Prim.Native.Nat.{ℕ, _+_, _-_, _*_, _/_, _≤_, _<_}
+use Prim.Native.Nat.{ℕ, zero, suc, _+_, _-_, _*_, _/_, _≤_, _<_}
 use lib.Dec.{ltb}
 use lib.ListN.{length, getD, take, drop, replicate, length-append, length-drop, length-replicate, drop-of-length-le}
 use lib.Seq.{take-at, drop-at, take-all, length-take-le}
@@ -16,13 +16,14 @@ use Rattle.kit.proofs.Laws.{lt-or-le}
 use Rattle.rules.specs.Tools.{if_then_else_}
 use Rattle.rules.specs.Versions.{Version, Setting}
 use Rattle.rules.specs.Answer.{answer, output}
+use Rattle.rules.specs.Laws.Demand3.{all-usual}
 use Rattle.read_form.specs.Laws.OutputLength.{output-length}
-use Rattle.checking.specs.CheckAnswer as checking
-use Rattle.checking.specs.CheckAnswer.{slotsOf, linksOf, tableAfter, indexAfter}
+use Rattle.checking.specs.CheckAnswer.{slotsOf, linksOf}
 use Rattle.sharing.specs.Sharing.{shared, sharedOutput}
 use Rattle.stores.specs.Zeros.{zeroFrom}
 use Rattle.limits.specs.declared.Limits.{Limits}
 use Rattle.limits.specs.Held.{limitsOf, setting}
+use Rattle.limits.proofs.Laws.{few-rows}
 use Rattle.form.specs.Marked.{endsTo}
 use Rattle.names.specs.Table.{Slot, emptySlot}
 use Rattle.index.specs.Indexed.{Holds}
@@ -38,18 +39,17 @@ use Rattle.resolver_with.specs.Areas.{slotsFor, linksFor, Lent, lentOf, roomy, 
 use Rattle.resolver_with.specs.Exact.{Suits}
 use Rattle.resolver_with.specs.Served.{served, asked}
 use Rattle.resolver_with.specs.With as resolved
-use Rattle.resolver_with.proofs.Runs.{few-in}
 use Rattle.resolver_with.proofs.Zeros.{rows-are, rows-few, cleared-is}
-use Rattle.lent_areas.proofs.InForce.{served-usual}
 use Rattle.claim_check.specs.Run.{Kept}
 use Rattle.check_with.specs.With.{checkWith}
 use Rattle.check_with.specs.Large.{Large}
 use Rattle.check_with.proofs.Ways.{areas-left}
-use Rattle.check_with.proofs.Whole.{large-in, table-after, index-after, areas-after}
+use Rattle.check_with.proofs.Whole.{large-in}
 use Rattle.share.specs.declared.Own.{Own}
 use Rattle.share.specs.Run as share
 use Rattle.share.specs.Run.{Roomy, isYes, Resolved}
 use Rattle.share.proofs.Agrees.{own-resolved}
+use Rattle.share_laws.specs.Relaxed.{relaxed}
 use Rattle.share_with.specs.With.{bytesFor, tooSmall, sharedWith, outputWith}
 use Rattle.share_with.specs.Run.{walkOver, walkedIn, proposeWith, Linked, Fit}
 use Rattle.share_with.proofs.Agrees as agrees
@@ -64,34 +64,55 @@ empty-index table index k L e =
 pub noted-in : (i : ℕ) (l : Limits) (rows ends noted : List ℕ) → l ≡ limitsOf (setting i) → noted ≡ endsTo (l .scopes) rows ends → noted ≡ endsTo (setting i .version .scopes) rows ends
 noted-in i l rows ends noted e q = q ∙ ap (λ (x : Limits). endsTo (x .scopes) rows ends) e
 
+-- ---- relaxed_at
+
+module _ (i : ℕ) where
+  pub relaxed-newer : i ≡ 2 → setting 1 ≡ relaxed (setting i)
+  relaxed-newer e = rw e
+
+  pub relaxed-other : (i ≡ 2 → ⊥) → setting i ≡ relaxed (setting i)
+  relaxed-other h = go i h
+    where
+      go : (k : ℕ) → (k ≡ 2 → ⊥) → setting k ≡ relaxed (setting k)
+      go zero n = refl
+      go (suc zero) n = refl
+      go (suc (suc zero)) n = absurd (n refl)
+      go (suc (suc (suc k))) n = refl
+
 -- ---- walk_marked
 
 module _ (i : ℕ) (e n : List Slot) (k c m : List ℕ) (suits : Suits i e n k c m) where
   pub linked-in : Linked (length e) (length k)
   linked-in =
-      let f = few-in i (suits .served) in
+      let f = few-rows i in
       let a = suits .entered in
       let b = suits .known in
       record { links-are = omega arith; few = omega arith }
 
-  pub suits-still : (e₁ : List Slot) (k₁ m₁ : List ℕ) → length e₁ ≡ length e → length k₁ ≡ length k → length m₁ ≡ length m → Suits i e₁ n k₁ c m₁
-  suits-still e₁ k₁ m₁ p q r =
+  -- the sizes go by the version
+  pub suits-relaxed : (j : ℕ) → setting j ≡ relaxed (setting i) → (e₁ : List Slot) (k₁ m₁ : List ℕ) → length e₁ ≡ length e → length k₁ ≡ length k → length m₁ ≡ length m → Suits j e₁ n k₁ c m₁
+  suits-relaxed j same e₁ k₁ m₁ p q r =
+      let v : setting i .version ≡ setting j .version = sym (ap (λ (s : Setting). s .version) same) in
+      let slots : slotsFor (setting i .version) ≡ slotsFor (setting j .version) = ap slotsFor v in
+      let links : linksFor (setting i .version) ≡ linksFor (setting j .version) = ap linksFor v in
       record {
-        served = suits .served;
-        entered = p ∙ suits .entered;
-        names = suits .names;
-        known = q ∙ suits .known;
-        chains = suits .chains;
-        ends = r ∙ suits .ends;
+        entered = p ∙ (suits .entered ∙ slots);
+        names = suits .names ∙ slots;
+        known = q ∙ (suits .known ∙ links);
+        chains = suits .chains ∙ links;
+        ends = r ∙ (suits .ends ∙ slots);
       }
 
-pub walked-in : (i : ℕ) (rows marked part ends noted front front′ : List ℕ) (entered table names : List Slot) (r : Answer) → length rows ≤ length marked → noted ≡ endsTo (setting i .version .scopes) rows ends
+pub walked-in : (i j : ℕ) → setting j ≡ relaxed (setting i) → (rows marked part ends noted front front′ : List ℕ) (entered table names : List Slot) (r : Answer) → length rows ≤ length marked → noted ≡ endsTo (setting i .version .scopes) rows ends
     → (table & part) ≡ markedT rows noted entered (take (length rows) marked) → length part ≡ length (take (length rows) marked)
-    → (r & front′) ≡ fillT (setting i) (walkIn (setting i) (take (length rows) (part ++ drop (length rows) marked)) noted table names) front → (r & front′) ≡ walkedIn (setting i) rows marked ends entered names front
+    → (r & front′) ≡ fillT (setting i) (walkIn (setting j) (take (length rows) (part ++ drop (length rows) marked)) noted table names) front → (r & front′) ≡ walkedIn (setting i) rows marked ends entered names front
 unfolding walkedIn walkOver
-walked-in i rows marked part ends noted front front′ entered table names r h n p l q =
+walked-in i j same rows marked part ends noted front front′ entered table names r h n p l q =
     let whole : take (length rows) (part ++ drop (length rows) marked) ≡ part = take-at part (drop (length rows) marked) (length rows) (l ∙ length-take-le (length rows) marked h) in
-    let over : (r & front′) ≡ walkOver (setting i) noted names front (table & part) = q ∙ ap (λ (x : List ℕ). fillT (setting i) (walkIn (setting i) x noted table names) front) whole in
+    let over : (r & front′) ≡ walkOver (setting i) noted names front (table & part) =
+    q
+    ∙ (ap (λ (s : Setting). fillT (setting i) (walkIn s (take (length rows) (part ++ drop (length rows) marked)) noted table names) front) same
+    ∙ ap (λ (x : List ℕ). fillT (setting i) (walkIn (relaxed (setting i)) x noted table names) front) whole) in
     over
     ∙ (ap (walkOver (setting i) noted names front) p
     ∙ ap (λ (x : List ℕ). walkOver (setting i) x names front (markedT rows x entered (take (length rows) marked))) n)
@@ -165,7 +186,7 @@ kept-cleared size z old mid new K e = e ∙ rw (K .long, K .rest)
 
 module _ (i : ℕ) (form : List ℕ) (bytes slots links : ℕ) (e n : List Slot) (k c m : List ℕ) (F : Fit i form bytes slots links (lentOf e n k c m)) where
   pub fit-large : Large i e n k c m
-  fit-large = large-in i (F .served) e n k c m (subst (λ (s : Setting). roomy (s .version) (lentOf e n k c m) ≡ true) (sym (F .asks)) (F .lent-large))
+  fit-large = large-in i e n k c m (subst (λ (s : Setting). roomy (s .version) (lentOf e n k c m) ≡ true) (sym (F .asks)) (F .lent-large))
 
   pub fit-bytes : bytesFor (setting i .version) ≤ bytes
   fit-bytes = F .bytes-large
@@ -175,14 +196,14 @@ module _ (i : ℕ) (form : List ℕ) (bytes slots links : ℕ) (e n : List Slot)
 
   module _ (now : List ℕ) (R : Resolved served form now) (all : (j : ℕ) → Fits w8 (getD form j 0)) where
     pub left-roomy : Roomy (setting i) form now
-    left-roomy = agrees.left-roomy i (F .served) form (F .asks) now R (all-bytes form all)
+    left-roomy = agrees.left-roomy i form (F .asks) now R (all-bytes form all)
 
     module _ (marked : List ℕ) (b : bytes ≡ length marked) (a : Answer) (l : List ℕ) (p : (a & l) ≡ proposeWith (setting i) form now marked m e n) where
       large : bytesFor (setting i .version) ≤ length marked
       large = omega (arith, F .bytes-large, b)
 
       pub shares-with : (meaning a ≡ ruled (shared served form (length (R .old)))) × (l ≡ sharedOutput served form (R .old))
-      shares-with = agrees.shares-served i (F .served) form (F .asks) now R (all-bytes form all) marked m e n large (fit-large .ends) (fit-large .entered) (fit-large .names) a l p
+      shares-with = agrees.shares-served i form (F .asks) now R (all-bytes form all) marked m e n large (fit-large .ends) (fit-large .entered) (fit-large .names) a l p
 
       -- in areas as long as these
       pub never : (marked₁ : List ℕ) (e₁ n₁ : List Slot) (k₁ c₁ m₁ : List ℕ)
@@ -190,7 +211,7 @@ module _ (i : ℕ) (form : List ℕ) (bytes slots links : ℕ) (e n : List Slot)
           → (rows : ℕ) (claim : List ℕ) (y : Bool) → rows ≡ meaning a .plain .place → claim ≡ take (setting i .version .header + 16 * rows) l → y ≡ isYes (checkWith form claim slots links (lentOf e₁ n₁ k₁ c₁ m₁)) → y ≡ false → ⊥
       never marked₁ e₁ n₁ k₁ c₁ m₁ K rows claim y r q f z =
           let still : roomy (asked form .version) (lentOf e₁ n₁ k₁ c₁ m₁) ≡ true = rw (K .1 .long, K .2 .long, K .3 .long, K .4 .long, K .5 .long) (F .lent-large) in
-          agrees.refused-never i (F .served) form (F .asks) now R (all-bytes form all) marked m e n large (fit-large .ends) (fit-large .entered) (fit-large .names) a l p slots links (lentOf e₁ n₁ k₁ c₁ m₁) (F .slots-large) (F .links-large) still rows claim y r q f z
+          agrees.refused-never i form (F .asks) now R (all-bytes form all) marked m e n large (fit-large .ends) (fit-large .entered) (fit-large .names) a l p slots links (lentOf e₁ n₁ k₁ c₁ m₁) (F .slots-large) (F .links-large) still rows claim y r q f z
 
 pub marked-left : (size : ℕ) (marked marked₁ marked₂ : List ℕ) → Kept size marked marked₁ → marked₂ ≡ cleared 0 size marked₁ → marked₂ ≡ cleared 0 size marked
 marked-left size marked marked₁ marked₂ K q = kept-cleared size 0 marked marked₁ marked₂ K q
@@ -240,7 +261,6 @@ module _ (v : Version) (e e₁ n n₁ : List Slot) (k k₁ c c₁ m m₁ : List 
   fit-still i form bytes slots links F =
       let K = kept-all in
       record {
-        served = F .served;
         asks = F .asks;
         bytes-large = F .bytes-large;
         slots-large = F .slots-large;
@@ -269,7 +289,7 @@ module _ (input old now : List ℕ) (o : Own) (Q : share.Ran served input old no
 
 -- ---- share_with
 
-module _ (form : List ℕ) (i : ℕ) (h : i < 2) (asks : setting i ≡ asked form) (bytes slots links : ℕ) (lent : Lent) (fits : Bool) (f : fits ≡ roomy (setting i .version) lent) (small : Bool)
+module _ (form : List ℕ) (i : ℕ) (asks : setting i ≡ asked form) (bytes slots links : ℕ) (lent : Lent) (fits : Bool) (f : fits ≡ roomy (setting i .version) lent) (small : Bool)
     (is : small ≡ (not fits || (ltb bytes (bytesFor (setting i .version)) || (ltb slots (slotsOf (setting i .version)) || ltb links (linksOf (setting i .version)))))) where
   tested : small ≡ tooSmall (asked form .version) bytes slots links lent
   unfolding tooSmall
@@ -288,7 +308,7 @@ module _ (form : List ℕ) (i : ℕ) (h : i < 2) (asks : setting i ≡ asked for
     unfolding sharedWith resolved.answerWith if_then_else_
     small-answers old r m =
         let q : meaning r ≡ ruled (answer served form 0) = m ∙ ap (λ (n : ℕ). ruled (answer served form n)) (no-room (roomy (asked form .version) lent)) in
-        rw too-small (q ∙ agrees.none-shared i h form asks)
+        rw too-small (q ∙ agrees.none-shared i form asks)
 
     none-left : (l : List ℕ) → length l ≡ 0 → l ≡ []
     none-left [] e = refl
@@ -296,7 +316,7 @@ module _ (form : List ℕ) (i : ℕ) (h : i < 2) (asks : setting i ≡ asked for
 
     nothing-left : (b : Bool) → length (if b then output served form [] else []) ≡ 0
     unfolding if_then_else_
-    nothing-left true = unfold output in output-length [] served served-usual form []
+    nothing-left true = unfold output in output-length [] served all-usual form []
     nothing-left false = refl
 
     pub small-leaves : (old new : List ℕ) → new ≡ resolved.outputWith form (take 0 old) lent → new ++ drop 0 old ≡ outputWith form old bytes slots links lent
@@ -320,7 +340,6 @@ module _ (form : List ℕ) (i : ℕ) (h : i < 2) (asks : setting i ≡ asked for
     fit-in =
         let p = parts _ _ _ _ (sym is ∙ t) in
         record {
-          served = h;
           asks = asks;
           bytes-large = ltb-false bytes (bytesFor (setting i .version)) (p .1);
           slots-large = ltb-false slots (slotsOf (setting i .version)) (p .2);

@@ -2,7 +2,7 @@
 use mathlib.Core.Path.{_≡_}
 use mathlib.Core.Bool.{true}
 use mathlib.Core.List.{List}
-use Prim.Native.Nat.{ℕ, _+_, _*_, _/_, _≤_, _<_}
+use Prim.Native.Nat.{ℕ, _+_, _*_, _/_, _≤_}
 use lib.ListN.{length, take, drop}
 use Rattle.kit.specs.Out.{Out, _&_}
 use Rattle.rules.specs.Versions.{Setting}
@@ -14,12 +14,13 @@ use Rattle.mark.specs.Marked.{markedT}
 use Rattle.resolver.specs.Run.{Ran, walkIn, fillT, before}
 use Rattle.resolver_with.specs.Areas.{slotsFor, Lent, roomy}
 use Rattle.resolver_with.specs.Served.{asked}
+use Rattle.share_laws.specs.Relaxed.{relaxed}
 use Rattle.share_with.specs.With.{bytesFor}
 
 -- ---- the proposal
 
 unfoldable pub walkOver : Setting → (ends : List ℕ) (names : List Slot) (front : List ℕ) → Out (List Slot) (List ℕ) → Ran
-walkOver s ends names front (table & marked) = fillT s (walkIn s marked ends table names) front
+walkOver s ends names front (table & marked) = fillT s (walkIn (relaxed s) marked ends table names) front
 
 -- the rows of a form are marked, and the steps run on them, into its share of the output
 unfoldable pub walkedIn : Setting → (rows marked ends : List ℕ) (entered names : List Slot) (front : List ℕ) → Ran
@@ -45,7 +46,6 @@ pub record Linked (slots links : ℕ) : Type 0 where
 
 -- areas of these lengths are large enough for a form that asks for the setting at place i
 pub record Fit (i : ℕ) (form : List ℕ) (bytes slots links : ℕ) (lent : Lent) : Type 0 where
-  pub served : i < 2
   pub asks : setting i ≡ asked form
   pub bytes-large : bytesFor (setting i .version) ≤ bytes
   pub slots-large : slotsOf (setting i .version) ≤ slots

@@ -1,4 +1,4 @@
-// Resolves a form of any version that is in force with fewer aliases, in working areas that are lent.
+// Resolves a form of any setting that is in force with fewer aliases, in working areas that are lent.
 //
 // As for version 1: the resolver's own run gives every refusal, the steps are run once more on the marked rows, and what comes of
 // that is held against the conditions on another assembler's output before it is answered. The marked rows are lent too.
@@ -45,6 +45,7 @@ ghost use Rattle.resolver_with.specs.Exact.{Suits};
 ghost use Rattle.claim_check.specs.Run.{Kept};
 ghost use Rattle.check_with.specs.With.{checkWith};
 ghost use Rattle.check_with.specs.Large.{Large};
+ghost use Rattle.share_laws.specs.Relaxed.{relaxed};
 ghost use Rattle.share.specs.Run.{Roomy, isYes, Resolved, Ran};
 ghost use Rattle.share_with.specs.With.{bytesFor, sharedWith, outputWith};
 ghost use Rattle.share_with.specs.Run.{walkedIn, proposeWith, Linked, Fit};
@@ -68,7 +69,20 @@ fn mark_in(
     mark_rows(rows, ends, marked, table, index);
 }
 
-// Runs the steps on the marked rows of a form, into its share of the output.
+// The places of version 2 with rule set 1, under which a name means what stands earlier, and with rule set 0.
+const NEWER: usize = 2;
+
+const TODAY: usize = 1;
+
+// The place of the same version with rule set 0.
+fn relaxed_at(i: usize) -> usize
+    ensures { λ r. ⌜ setting r ≡ relaxed (setting i) ⌝ }
+{
+    if i == NEWER { TODAY } else { i }
+}
+
+// Runs the steps on the marked rows of a form, into its share of the output. They do not ask for earlier declarations: fresh names
+// stand in the rows, and the form was accepted.
 fn walk_marked(
     rows: &[u8],
     marked: &mut [u8],
@@ -84,11 +98,13 @@ fn walk_marked(
     ensures { λ r. ⌜ (r & now (front .exit)) ≡ walkedIn (setting i) (now (rows .entry)) (now (marked .entry)) (now (ends .entry)) (now (entered .entry)) (now (names .entry)) (now (front .entry)) ⌝ }
 {
     let size = rows.len();
+    let walked = relaxed_at(i);
     mark_in(rows, &mut marked[..size], i, entered, known, ends);
     fill_in(
         &marked[..size],
         front,
         i,
+        walked,
         entered,
         names,
         known,

@@ -54,9 +54,12 @@ larger-asks : (settingOf all (larger 0) ≡ some (setting 1)) × (settingOf all 
 unfolding hasHeader Answer.mark bytes sameNumbers settingOf only _orElse_
 larger-asks = (refl, refl)
 
+fit-first : Fit (setting 0)
+fit-first = record { settled = base-settled; few = omega arith; deep = omega arith; short = omega arith }
+
 pub fit-in : (i : ℕ) → Fit (setting i)
-fit-in zero = record { settled = base-settled; few = omega arith; deep = omega arith; short = omega arith }
+fit-in zero = fit-first
 fit-in (suc zero) = record { settled = alone-settled (setting 1) (all-usual .1 .0) refl (has-own 1 (larger 0) (larger-asks .0)); few = omega arith; deep = omega arith; short = omega arith }
 fit-in (suc (suc zero)) =
     record { settled = alone-settled (setting 2) (all-usual .1 .1 .0) refl (has-own 2 (larger 1) (larger-asks .1)); few = omega arith; deep = omega arith; short = omega arith }
-fit-in (suc (suc (suc i))) = fit-in zero
+fit-in (suc (suc (suc i))) = fit-first

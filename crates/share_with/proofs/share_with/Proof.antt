@@ -34,14 +34,14 @@ share-with-spec =
     let found = c .before .before .before .before .before .before .before .before .before .before .before .before .before .before .before .before .before .before .before .before .before .before .before .before .before .before .before .before .before .asked-for in
     let args = c .before .before .before .before .before .before .before .before .before .before .before .before .before .before .before .before .before .before .before .before .before .before .before .before .before .before .before .before .before .before .before .before .before .before .before .before .before .args in (
       (
-        small-answers (now (args .form)) _ (found .ensures .1) (found .ensures .0) (length (now (args .marked))) (length (now (args .table))) (length (now (args .index))) (lentOf (now (args .entered)) (now (args .names)) (now (args .known)) (now (args .chains)) (now (args .ends))) _ (c .before .before .before .before .before .before .before .before .before .before .before .before .before .before .before .before .before .before .before .before .before .before .before .before .before .before .before .before .are-roomy .ensures) _ (c .before .before .before .before .before .before .before .before .before .before .before .before .before .before .before .before .before .before .before .before .before .before .before .before .before .before .before .is-small .ensures) (c .before .before .before .before .before .before .before .before .before .before .before .before .before .before .before .before .before .before .before .before .before .before .before .before .before .before .if1 .taken) (now (args .out)) (c .before .before .before .before .before .before .before .before .before .before .resolve-with .result) (ran .0),
-        small-leaves (now (args .form)) _ (found .ensures .1) (found .ensures .0) (length (now (args .marked))) (length (now (args .table))) (length (now (args .index))) (lentOf (now (args .entered)) (now (args .names)) (now (args .known)) (now (args .chains)) (now (args .ends))) _ (c .before .before .before .before .before .before .before .before .before .before .before .before .before .before .before .before .before .before .before .before .before .before .before .before .before .before .before .before .are-roomy .ensures) _ (c .before .before .before .before .before .before .before .before .before .before .before .before .before .before .before .before .before .before .before .before .before .before .before .before .before .before .before .is-small .ensures) (c .before .before .before .before .before .before .before .before .before .before .before .before .before .before .before .before .before .before .before .before .before .before .before .before .before .before .if1 .taken) (now (args .out)) _ (ran .1),
+        small-answers (now (args .form)) (found .result) (found .ensures) (length (now (args .marked))) (length (now (args .table))) (length (now (args .index))) (lentOf (now (args .entered)) (now (args .names)) (now (args .known)) (now (args .chains)) (now (args .ends))) _ (c .before .before .before .before .before .before .before .before .before .before .before .before .before .before .before .before .before .before .before .before .before .before .before .before .before .before .before .before .are-roomy .ensures) _ (c .before .before .before .before .before .before .before .before .before .before .before .before .before .before .before .before .before .before .before .before .before .before .before .before .before .before .before .is-small .ensures) (c .before .before .before .before .before .before .before .before .before .before .before .before .before .before .before .before .before .before .before .before .before .before .before .before .before .before .if1 .taken) (now (args .out)) (c .before .before .before .before .before .before .before .before .before .before .resolve-with .result) (ran .0),
+        small-leaves (now (args .form)) (found .result) (found .ensures) (length (now (args .marked))) (length (now (args .table))) (length (now (args .index))) (lentOf (now (args .entered)) (now (args .names)) (now (args .known)) (now (args .chains)) (now (args .ends))) _ (c .before .before .before .before .before .before .before .before .before .before .before .before .before .before .before .before .before .before .before .before .before .before .before .before .before .before .before .before .are-roomy .ensures) _ (c .before .before .before .before .before .before .before .before .before .before .before .before .before .before .before .before .before .before .before .before .before .before .before .before .before .before .before .is-small .ensures) (c .before .before .before .before .before .before .before .before .before .before .before .before .before .before .before .before .before .before .before .before .before .before .before .before .before .before .if1 .taken) (now (args .out)) _ (ran .1),
       ),
       (
         (
-          marked-after (now (args .form)) (found .result) (found .ensures .0) _ _ (emptied .0),
-          table-after (now (args .form)) (found .result) (found .ensures .0) _ _ (emptied .1),
-          index-after (now (args .form)) (found .result) (found .ensures .0) _ _ (emptied .2),
+          marked-after (now (args .form)) (found .result) (found .ensures) _ _ (emptied .0),
+          table-after (now (args .form)) (found .result) (found .ensures) _ _ (emptied .1),
+          index-after (now (args .form)) (found .result) (found .ensures) _ _ (emptied .2),
         ),
         ran .2,
       ),
@@ -49,7 +49,7 @@ share-with-spec =
     (λ c κs.
     let found = c .before .before .before .before .before .before .before .before .before .before .before .before .asked-for in
     let args = c .before .before .before .before .before .before .before .before .before .before .before .before .before .before .before .before .before .before .before .before .args in
-    fit-in (now (args .form)) _ (found .ensures .1) (found .ensures .0) (length (now (args .marked))) (length (now (args .table))) (length (now (args .index))) (lentOf (now (args .entered)) (now (args .names)) (now (args .known)) (now (args .chains)) (now (args .ends))) _ (c .before .before .before .before .before .before .before .before .before .before .before .are-roomy .ensures) _ (c .before .before .before .before .before .before .before .before .before .before .is-small .ensures) (c .before .before .before .before .before .before .before .before .before .if1 .left))  -- share-in-requires
+    fit-in (now (args .form)) (found .result) (found .ensures) (length (now (args .marked))) (length (now (args .table))) (length (now (args .index))) (lentOf (now (args .entered)) (now (args .names)) (now (args .known)) (now (args .chains)) (now (args .ends))) _ (c .before .before .before .before .before .before .before .before .before .before .before .are-roomy .ensures) _ (c .before .before .before .before .before .before .before .before .before .before .is-small .ensures) (c .before .before .before .before .before .before .before .before .before .if1 .left))  -- share-in-requires
     (λ c. search needs)  -- same-length-10
     (λ c. search needs)  -- same-length-11
     (λ c. search needs)  -- same-length-12
@@ -64,8 +64,8 @@ share-with-spec =
     let found = c .before .before .before .before .before .before .before .before .before .before .before .before .before .before .before .before .before .before .before .before .before .before .before .before .before .before .before .before .asked-for in
     let args = c .before .before .before .before .before .before .before .before .before .before .before .before .before .before .before .before .before .before .before .before .before .before .before .before .before .before .before .before .before .before .before .before .before .before .before .before .args in (
       (
-        answers-with (now (args .form)) _ (found .ensures .1) (found .ensures .0) (length (now (args .marked))) (length (now (args .table))) (length (now (args .index))) (lentOf (now (args .entered)) (now (args .names)) (now (args .known)) (now (args .chains)) (now (args .ends))) _ (c .before .before .before .before .before .before .before .before .before .before .before .before .before .before .before .before .before .before .before .before .before .before .before .before .before .before .before .are-roomy .ensures) _ (c .before .before .before .before .before .before .before .before .before .before .before .before .before .before .before .before .before .before .before .before .before .before .before .before .before .before .is-small .ensures) (c .before .before .before .before .before .before .before .before .before .before .before .before .before .before .before .before .before .before .before .before .before .before .before .before .before .if1 .left) _ (c .before .before .before .before .before .before .before .before .before .before .before .before .before .before .before .share-in .result) (shared .0 .0),
-        leaves-with (now (args .form)) _ (found .ensures .1) (found .ensures .0) (length (now (args .marked))) (length (now (args .table))) (length (now (args .index))) (lentOf (now (args .entered)) (now (args .names)) (now (args .known)) (now (args .chains)) (now (args .ends))) _ (c .before .before .before .before .before .before .before .before .before .before .before .before .before .before .before .before .before .before .before .before .before .before .before .before .before .before .before .are-roomy .ensures) _ (c .before .before .before .before .before .before .before .before .before .before .before .before .before .before .before .before .before .before .before .before .before .before .before .before .before .before .is-small .ensures) (c .before .before .before .before .before .before .before .before .before .before .before .before .before .before .before .before .before .before .before .before .before .before .before .before .before .if1 .left) _ _ (shared .0 .1),
+        answers-with (now (args .form)) (found .result) (found .ensures) (length (now (args .marked))) (length (now (args .table))) (length (now (args .index))) (lentOf (now (args .entered)) (now (args .names)) (now (args .known)) (now (args .chains)) (now (args .ends))) _ (c .before .before .before .before .before .before .before .before .before .before .before .before .before .before .before .before .before .before .before .before .before .before .before .before .before .before .before .are-roomy .ensures) _ (c .before .before .before .before .before .before .before .before .before .before .before .before .before .before .before .before .before .before .before .before .before .before .before .before .before .before .is-small .ensures) (c .before .before .before .before .before .before .before .before .before .before .before .before .before .before .before .before .before .before .before .before .before .before .before .before .before .if1 .left) _ (c .before .before .before .before .before .before .before .before .before .before .before .before .before .before .before .share-in .result) (shared .0 .0),
+        leaves-with (now (args .form)) (found .result) (found .ensures) (length (now (args .marked))) (length (now (args .table))) (length (now (args .index))) (lentOf (now (args .entered)) (now (args .names)) (now (args .known)) (now (args .chains)) (now (args .ends))) _ (c .before .before .before .before .before .before .before .before .before .before .before .before .before .before .before .before .before .before .before .before .before .before .before .before .before .before .before .are-roomy .ensures) _ (c .before .before .before .before .before .before .before .before .before .before .before .before .before .before .before .before .before .before .before .before .before .before .before .before .before .before .is-small .ensures) (c .before .before .before .before .before .before .before .before .before .before .before .before .before .before .before .before .before .before .before .before .before .before .before .before .before .if1 .left) _ _ (shared .0 .1),
       ),
       (shared .1 .0, shared .1 .1),
     )))  -- returns-2

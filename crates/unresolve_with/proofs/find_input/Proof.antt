@@ -12,7 +12,7 @@ find-input-spec =
     (λ c κs. search needs)  -- read-claim-requires
     (λ c. search needs)  -- enum-told
     (λ c. search needs)  -- enum-told-2
-    (λ c κs. (lent-header _ _ _ (c .before .before .before .before .before .before .read-claim .ensures) _ (c .before .before .before .before .enum-told2 .given .1), c .before .before .before .before .before .before .before .before .before .before .before .before .before .pre .0 .restored, c .before .before .before .before .before .before .before .before .before .before .before .before .before .pre .1 .names, c .before .before .before .before .before .before .before .before .before .before .before .before .before .pre .1 .chains))  -- restore-lent-requires
+    (λ c κs. (lent-header (c .before .before .before .before .before .before .before .before .before .before .before .before .before .args .i) (c .before .before .before .before .before .before .before .before .before .before .before .before .before .args .form .now) _ (c .before .before .before .before .before .before .read-claim .ensures) _ (c .before .before .before .before .enum-told2 .given .1), c .before .before .before .before .before .before .before .before .before .before .before .before .before .pre .0 .restored, c .before .before .before .before .before .before .before .before .before .before .before .before .before .pre .1 .names, c .before .before .before .before .before .before .before .before .before .before .before .before .before .pre .1 .chains))  -- restore-lent-requires
     (λ c. search needs)  -- sub-resolves-to
     (λ c. search needs)  -- part-resolves-to-start
     (λ c. search needs)  -- part-resolves-to-end
