@@ -140,7 +140,7 @@ enum wnt_number {
     WNT_DUPLICATE_CASE = 12,
     /* Under rule set 1 alone: no earlier field declares the name. Place: z of the reference or outer alias. */
     WNT_NOT_EARLIER = 13,
-    /* Of wnt_unresolve alone: no input has these bytes as its output. Place: 0. */
+    /* Of wnt_unresolve and wnt_unresolve_with alone: no input has these bytes as its output. Place: 0. */
     WNT_NO_INPUT = 14
 };
 
@@ -207,8 +207,12 @@ uint64_t wnt_resolve(const uint8_t *form, size_t form_len, uint8_t *out, size_t 
  * than 16 bytes, or bytes 0 to 5 or 10 to 15 wrong; 2 a row count of 0 or above 16383, or another length than
  * WNT_FORM_SIZE_2 of it; 3 an output shorter than WNT_OUT_SIZE_2 of it; 5 a scope while 64 are open.
  *
- * The rule set is 0, as in version 1, or for wnt_resolve_with 1, that of the newer tools: there a heap type is a core type,
- * and a name may mean only what an earlier field declares, else it is refusal 13 (docs/RULES.md, Rule set 1). */
+ * The rule set is 0, as in version 1, or in version 2 also 1, that of the newer tools: there a heap type is a core type, and
+ * a name may mean only what an earlier field declares, else it is refusal 13 (docs/RULES.md, Rule set 1).
+ *
+ * Each function below whose name ends in `_with` takes version 1 and version 2 under either rule set, in working areas that
+ * are lent; the sizes of these go by the version alone. The function without `_with` takes version 1, and for version 1 both
+ * say and leave the same. */
 #define WNT_HEADER_SIZE_2 16
 #define WNT_MAX_ROWS_2 16383
 #define WNT_FORM_SIZE_2(rows) (16u + 16u * (rows))
@@ -252,7 +256,7 @@ struct wnt_work_2 {
  * rule set, which `out` repeats; refusal 13 leaves `out` as 6 to 12 do. An area
  * with fewer elements than its size for that version is refusal 3, as an output that is too short. What the areas hold
  * before does not matter. After every return, refusals too, each is zero up to its size for the form's version, or to its
- * end where it is shorter, and unchanged beyond; a header of neither version counts as version 1 there. No area may
+ * end where it is shorter, and unchanged beyond; a header of no version and rule set counts as version 1 there. No area may
  * overlap another buffer. A call takes less than 64 KiB of stack. */
 uint64_t wnt_resolve_with(const uint8_t *form, size_t form_len, uint8_t *out, size_t out_len, wnt_slot *entered,
                           size_t entered_len, wnt_slot *names, size_t names_len, uint16_t *known, size_t known_len,
@@ -303,6 +307,27 @@ uint64_t wnt_resolve_told(const uint8_t *form, size_t form_len, uint8_t *out, si
  * and later bytes are as they were. No two buffers may overlap, and for the rest what is said of wnt_resolve holds. */
 uint64_t wnt_unresolve(const uint8_t *form, size_t form_len, uint8_t *out, size_t out_len, uint8_t *restored,
                        size_t restored_len, uint8_t *again, size_t again_len);
+
+/* The sizes of the three areas of wnt_unresolve_with besides those of wnt_resolve_with, by the version: bytes for
+ * `restored` and `again`, and notes of two numbers of four bytes, one for each row of the longest resolved form. All eight
+ * are 176,032 bytes for version 1 and 2,817,968 for version 2. */
+typedef uint32_t wnt_note[2];
+#define WNT_RESTORED_SIZE_2 WNT_MAX_FORM_SIZE_2
+#define WNT_AGAIN_SIZE_2 WNT_MAX_OUT_SIZE_2
+#define WNT_NOTES 4092
+#define WNT_NOTES_2 65532
+
+/* The same for a resolved form of version 1 or 2 under either rule set: wnt_resolve_with gives for the input the very bytes
+ * of `form`, and WNT_FORM_SIZE or WNT_FORM_SIZE_2 of its rows are written. The first 3 above is then that one of the eight
+ * areas is smaller than its size for the form's version. After every return all of them are zero up to these sizes, or to
+ * their ends where they are shorter, and as they were beyond; a header of no version and rule set counts as version 1 there:
+ *
+ *     wnt_unresolve_with(form, form_len, out, out_len, restored, WNT_RESTORED_SIZE_2, again, WNT_AGAIN_SIZE_2, noted,
+ *                        WNT_NOTES_2, WNT_LENT(&work)) */
+uint64_t wnt_unresolve_with(const uint8_t *form, size_t form_len, uint8_t *out, size_t out_len, uint8_t *restored,
+                            size_t restored_len, uint8_t *again, size_t again_len, wnt_note *noted, size_t noted_len,
+                            wnt_slot *entered, size_t entered_len, wnt_slot *names, size_t names_len, uint16_t *known,
+                            size_t known_len, uint16_t *chains, size_t chains_len, uint32_t *ends, size_t ends_len);
 
 /* Mends the form in the first `length` bytes of `buffer`, of either version and rule set; the other bytes of `buffer` are
  * room for added rows, and no working area is needed. A part row is dropped, rows after the root's CLOSE are cut, missing
@@ -365,7 +390,7 @@ uint64_t wnt_compare(const uint8_t *left, size_t left_len, const uint8_t *right,
                      uint8_t *list, size_t list_len);
 
 /* The sizes of the two working areas of wnt_check, for an input of version 1: slots of six numbers of four bytes each, and
- * numbers of two bytes. Together they are 55,244 bytes. Those for version 2 are of wnt_check_with alone, and are 853,964. */
+ * numbers of two bytes. Together they are 55,244 bytes. Those for version 2 are of wnt_check_with and wnt_share_with alone, and are 853,964. */
 #define WNT_CHECK_SLOTS 2046
 #define WNT_CHECK_LINKS 3070
 #define WNT_CHECK_SLOTS_2 32766
@@ -400,10 +425,11 @@ enum wnt_condition {
 uint64_t wnt_check(const uint8_t *form, size_t form_len, const uint8_t *claim, size_t claim_len, wnt_slot *table,
                    size_t table_len, uint16_t *index, size_t index_len);
 
-/* The same for an input of version 1 or 2, to whose header but for the count the claim's must be equal (else WNT_NO_FORM,
- * row 0). `table` and `index` have the sizes of the input's version; the areas of wnt_resolve_with come besides, for the
- * steps on the input. An area that is too small is refusal 3 as above, and after every return all seven are zero up to
- * their sizes for that version; a header of neither version counts as version 1 there:
+/* The same for an input of version 1 or 2 under either rule set, to whose header but for the count the claim's must be equal
+ * (else WNT_NO_FORM, row 0). Under rule set 1 the input's refusals are those of wnt_resolve_with, 13 among them; of the claim
+ * nothing more is asked than under rule set 0. `table` and `index` have the sizes of the input's version; the areas of
+ * wnt_resolve_with come besides, for the steps on the input. An area that is too small is refusal 3 as above, and after every
+ * return all seven are zero up to their sizes for that version; a header of no version and rule set counts as version 1 there:
  *
  *     wnt_check_with(form, form_len, claim, claim_len, table, WNT_CHECK_SLOTS_2, index, WNT_CHECK_LINKS_2,
  *                    WNT_LENT(&work)) */
@@ -421,6 +447,24 @@ uint64_t wnt_check_with(const uint8_t *form, size_t form_len, const uint8_t *cla
  * output that is too short, and after every return they hold what is said there. */
 uint64_t wnt_share(const uint8_t *form, size_t form_len, uint8_t *out, size_t out_len, wnt_slot *table, size_t table_len,
                    uint16_t *index, size_t index_len);
+
+/* The bytes of the area of wnt_share_with in which the form's rows are marked, by the version. With its other areas they are
+ * 133,052 for version 1 and 2,099,132 for version 2. */
+#define WNT_MARKED_SIZE 16368
+#define WNT_MARKED_SIZE_2 262128
+
+/* The same for a form of version 1 or 2 under either rule set: it is what wnt_check_with says yes to, and the answer's
+ * refusals, and what `out` holds afterwards, are as for wnt_resolve_with. `marked` has the bytes said above, `table` and
+ * `index` the sizes of wnt_check_with, and its other areas come besides. One that is smaller than its size for the form's
+ * version is refusal 3 as an output that is too short, and after every return all eight are zero up to these sizes, or to
+ * their ends where they are shorter, and as they were beyond; a header of no version and rule set counts as version 1 there:
+ *
+ *     wnt_share_with(form, form_len, out, out_len, marked, WNT_MARKED_SIZE_2, table, WNT_CHECK_SLOTS_2, index,
+ *                    WNT_CHECK_LINKS_2, WNT_LENT(&work)) */
+uint64_t wnt_share_with(const uint8_t *form, size_t form_len, uint8_t *out, size_t out_len, uint8_t *marked,
+                        size_t marked_len, wnt_slot *table, size_t table_len, uint16_t *index, size_t index_len,
+                        wnt_slot *entered, size_t entered_len, wnt_slot *names, size_t names_len, uint16_t *known,
+                        size_t known_len, uint16_t *chains, size_t chains_len, uint32_t *ends, size_t ends_len);
 
 /* A binding sheet: what each reference of a driver must mean, written down once. It has up to 200 slots, each three little
  * endian numbers of four bytes: the meter family (the caller's own), the place of a reference, the name of the declaration
@@ -460,10 +504,10 @@ uint64_t wnt_sheet(const uint8_t *form, size_t form_len, const uint8_t *resolved
                    const uint8_t *sheet, size_t sheet_len, uint8_t *answers, size_t answers_len, uint8_t *work,
                    size_t work_len);
 
-/* The same for forms of version 1 or 2, in the working areas of wnt_resolve_with besides `work`, which has to have the bytes
- * of the longest output of the form's version: WNT_SHEET_AREA_SIZE, or WNT_MAX_OUT_SIZE_2. An area that is too small is
- * refusal 3 at the place of a `work` that is too small, and after every return all of them are zero up to their sizes for
- * that version; a header of neither version counts as version 1 there. */
+/* The same for forms of version 1 or 2 under either rule set, in the working areas of wnt_resolve_with besides `work`, which
+ * has to have the bytes of the longest output of the form's version: WNT_SHEET_AREA_SIZE, or WNT_MAX_OUT_SIZE_2. An area that
+ * is too small is refusal 3 at the place of a `work` that is too small, and after every return all of them are zero up to
+ * their sizes for that version; a header of no version and rule set counts as version 1 there. */
 uint64_t wnt_sheet_with(const uint8_t *form, size_t form_len, const uint8_t *resolved, size_t resolved_len,
                         const uint8_t *sheet, size_t sheet_len, uint8_t *answers, size_t answers_len, uint8_t *work,
                         size_t work_len, wnt_slot *entered, size_t entered_len, wnt_slot *names, size_t names_len,
@@ -494,9 +538,9 @@ uint64_t wnt_sheet_with(const uint8_t *form, size_t form_len, const uint8_t *res
 uint64_t wnt_moved(const uint8_t *form, size_t form_len, uint8_t *out, size_t out_len, uint8_t *moved, size_t moved_len,
                    uint8_t *apart, size_t apart_len);
 
-/* The same for a form of version 1 or 2, in the working areas of wnt_resolve_with: 64 bytes a row of `out` and its header are
- * then those of the form's version. An area that is too small is refusal 3, and after every return, refusals too, the areas
- * are zero up to their sizes for that version, as after wnt_resolve_with:
+/* The same for a form of version 1 or 2 under either rule set, in the working areas of wnt_resolve_with: 64 bytes a row of
+ * `out` and its header are then those of the form's version. An area that is too small is refusal 3, and after every return,
+ * refusals too, the areas are zero up to their sizes for that version, as after wnt_resolve_with:
  *
  *     wnt_moved_with(form, form_len, out, out_len, moved, moved_len, apart, apart_len, WNT_LENT(&work)) */
 uint64_t wnt_moved_with(const uint8_t *form, size_t form_len, uint8_t *out, size_t out_len, uint8_t *moved,
@@ -524,6 +568,37 @@ uint64_t wnt_moved_with(const uint8_t *form, size_t form_len, uint8_t *out, size
 uint64_t wnt_member(const uint8_t *prelude, size_t prelude_len, const uint8_t *member, size_t member_len, uint8_t *out,
                     size_t out_len, uint8_t *work, size_t work_len);
 
+/* The bytes of `work` of wnt_member_with for a prelude of version 2; for one of version 1 they are WNT_MEMBER_WORK. */
+#define WNT_MEMBER_WORK_2 WNT_MAX_OUT_SIZE_2
+
+/* The tables of wnt_member_with and wnt_batch_with, in one piece for each version: those of wnt_resolve_with, but `names`
+ * has twice the slots, since the prelude's root is in it too, and `chains`, its index, half as many numbers again. They are
+ * 88,064 bytes, and 1,409,024. WNT_LENT gives the last ten arguments by a pointer to one of these as well. */
+struct wnt_member_work_1 {
+    wnt_slot entered[WNT_SLOTS_1], names[2 * WNT_SLOTS_1];
+    uint32_t ends[WNT_SLOTS_1];
+    uint16_t known[WNT_LINKS_1], chains[3 * WNT_SLOTS_1];
+};
+struct wnt_member_work_2 {
+    wnt_slot entered[WNT_SLOTS_2], names[2 * WNT_SLOTS_2];
+    uint32_t ends[WNT_SLOTS_2];
+    uint16_t known[WNT_LINKS_2], chains[3 * WNT_SLOTS_2];
+};
+
+/* The same for a prelude of version 1 or 2 under either rule set. A member of version 2 may open 63 scopes, its root
+ * included; one whose version or rule set is not the prelude's is refused with 1. Under rule set 1 all that the prelude's
+ * root declares is earlier than the member. `work` and the tables go by the prelude's version: one that is too small is 3
+ * plus WNT_OF_PRELUDE as above, and after every return all six are zero up to their sizes for that version, or to their ends
+ * where they are shorter, and as they were beyond; a prelude whose header is of no version and rule set counts as one of
+ * version 1 there:
+ *
+ *     static struct wnt_member_work_2 tables;
+ *     wnt_member_with(prelude, prelude_len, member, member_len, out, out_len, work, WNT_MEMBER_WORK_2, WNT_LENT(&tables)) */
+uint64_t wnt_member_with(const uint8_t *prelude, size_t prelude_len, const uint8_t *member, size_t member_len, uint8_t *out,
+                         size_t out_len, uint8_t *work, size_t work_len, wnt_slot *entered, size_t entered_len,
+                         wnt_slot *names, size_t names_len, uint16_t *known, size_t known_len, uint16_t *chains,
+                         size_t chains_len, uint32_t *ends, size_t ends_len);
+
 /* The most members of a batch, and the bytes of the answer to one. */
 #define WNT_MAX_MEMBERS 8
 #define WNT_MEMBER_ANSWER_SIZE 8
@@ -544,6 +619,17 @@ uint64_t wnt_member(const uint8_t *prelude, size_t prelude_len, const uint8_t *m
 uint64_t wnt_batch(const uint8_t *prelude, size_t prelude_len, const uint8_t *members, size_t members_len,
                    const uint32_t *lengths, size_t lengths_len, uint8_t *prelude_out, size_t prelude_out_len,
                    uint8_t *outs, size_t outs_len, uint8_t *answers, size_t answers_len);
+
+/* The same for a prelude of version 1 or 2 under either rule set, and each member as wnt_member_with has it. The prelude and
+ * the members are resolved in one set of tables, those of wnt_member_with, by the prelude's version: one that is too small is
+ * refusal 3 of the prelude, behind its 1 and 2, and leaves `prelude_out`, `outs` and `answers` as they were. After every
+ * return the tables are zero up to their sizes for that version, or to their ends where they are shorter, and as they were
+ * beyond; a prelude whose header is of no version and rule set counts as one of version 1 there. */
+uint64_t wnt_batch_with(const uint8_t *prelude, size_t prelude_len, const uint8_t *members, size_t members_len,
+                        const uint32_t *lengths, size_t lengths_len, uint8_t *prelude_out, size_t prelude_out_len,
+                        uint8_t *outs, size_t outs_len, uint8_t *answers, size_t answers_len, wnt_slot *entered,
+                        size_t entered_len, wnt_slot *names, size_t names_len, uint16_t *known, size_t known_len,
+                        uint16_t *chains, size_t chains_len, uint32_t *ends, size_t ends_len);
 
 /* Which declaration the name in a row of a member means, where the member's root lies inside the root of a prelude. Both
  * are inputs, not resolved forms. A walked name is looked for in the scopes of the member around it and then in the

@@ -11,8 +11,8 @@ use std::collections::HashMap;
 
 mod funcs;
 
-/// The most names that one run can insert: each uses up a row of the input.
-const MOST_INSERTED: u32 = SECOND.rows as u32;
+/// The most names that one run can insert: each uses up a row of the input, or of a prelude and a member in one tree.
+const MOST_INSERTED: u32 = 2 * SECOND.rows as u32;
 
 /// The number k of each name that the crate generates, counted from 0.
 pub struct Generated {

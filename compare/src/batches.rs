@@ -4,18 +4,20 @@ use crate::cases;
 use crate::chance::Chance;
 use crate::compare::{Case, Comparison};
 use crate::damage::damage;
-use crate::library::{self, Buffers};
-use crate::meant::pair;
+use crate::lent::{self, Lender, Lengths, Needs};
+use crate::library::{self, Areas, Buffers};
+use crate::meant::pair_of;
 use crate::members::{are_small, askable, expected, filled, inside, output};
-use crate::rows::{self, Answer, FIRST, Row, SECOND, output_size};
+use crate::rows::{self, Answer, FIRST, Row, SECOND, Version, output_size};
 use crate::vectors::{FILLED, Function, Lent, Sample, Vector, said};
 use std::collections::BTreeMap;
 
 /// The most members of a batch.
 const MOST: usize = 8;
 
-/// A prelude, its members, and the length of a member's share.
+/// A prelude, its members, all of one version, and the length of a member's share.
 struct Batch {
+    version: Version,
     prelude: Vec<Row>,
     members: Vec<Vec<Row>>,
     share: usize,
@@ -23,22 +25,23 @@ struct Batch {
 
 impl Batch {
     /// A batch within the limits, or none. Most shares have room for every member, some just for one of them.
-    fn drawn(comparison: &Comparison, chance: &mut Chance) -> Option<Batch> {
-        let (prelude, first) = pair(&comparison.shapes, chance);
+    fn drawn(comparison: &Comparison, version: Version, chance: &mut Chance) -> Option<Batch> {
+        let shapes = comparison.shapes_of(version);
+        let (prelude, first) = pair_of(version, shapes, chance);
         let mut members = vec![first];
         for _ in 0..chance.below(MOST) {
-            members.push(pair(&comparison.shapes, chance).1);
+            members.push(pair_of(version, shapes, chance).1);
         }
         let members: Vec<Vec<Row>> = members.into_iter().map(|member| askable(&prelude, member)).collect();
-        let sizes: Vec<usize> = members.iter().map(|member| output_size(member.len())).collect();
+        let sizes: Vec<usize> = members.iter().map(|member| version.output_size(member.len())).collect();
         let share = if chance.percent(20) { chance.pick(&sizes) } else { sizes.iter().max()? + chance.below(80) };
-        let small = members.iter().all(|member| are_small(&prelude, member));
-        small.then_some(Batch { prelude, members, share })
+        let small = members.iter().all(|member| are_small(version, &prelude, member));
+        small.then_some(Batch { version, prelude, members, share })
     }
 
     /// What the crate answers for the prelude and for each member; none where it panics.
     fn answers(&self, comparison: &Comparison, choice: u64) -> Option<(Answer, Vec<Answer>)> {
-        let prelude = comparison.oracle.answer(&self.prelude, choice);
+        let prelude = comparison.answer_as(self.version, &self.prelude, choice);
         let members: Vec<Answer> =
             self.members.iter().map(|member| self.of_member(comparison, member, choice)).collect();
         let right = prelude != Answer::Panicked && !members.contains(&Answer::Panicked);
@@ -46,9 +49,9 @@ impl Batch {
     }
 
     fn of_member(&self, comparison: &Comparison, member: &[Row], choice: u64) -> Answer {
-        match expected(comparison, &self.prelude, member, choice) {
+        match expected(comparison, self.version, &self.prelude, member, choice) {
             Answer::Panicked => Answer::Panicked,
-            _ if self.share < output_size(member.len()) => Answer::refused(3, 0),
+            _ if self.share < self.version.output_size(member.len()) => Answer::refused(3, 0),
             answer => answer,
         }
     }
@@ -56,7 +59,7 @@ impl Batch {
     /// Buffers for so many members, with some bytes left over.
     fn buffers(&self, count: usize, byte: u8, chance: &mut Chance) -> Buffers {
         Buffers {
-            prelude: filled(output_size(self.prelude.len()) + chance.below(80), chance),
+            prelude: filled(self.version.output_size(self.prelude.len()) + chance.below(80), chance),
             outs: vec![byte; self.share * count + chance.below(count)],
             answers: vec![byte; 8 * count + chance.below(9)],
         }
@@ -65,11 +68,11 @@ impl Batch {
     /// What the buffers hold after these answers.
     fn left(&self, prelude: &Answer, members: &[Answer], old: &Buffers) -> Buffers {
         let mut new = old.clone();
-        new.prelude = output(prelude, &self.prelude, &old.prelude);
+        new.prelude = output(self.version, prelude, self.prelude.len(), &old.prelude);
         if let Answer::Accepted(_) = prelude {
             for (i, (answer, member)) in members.iter().zip(&self.members).enumerate() {
                 let share = i * self.share..(i + 1) * self.share;
-                let out = output(answer, member, &old.outs[share.clone()]);
+                let out = output(self.version, answer, member.len(), &old.outs[share.clone()]);
                 new.outs[share].copy_from_slice(&out);
                 new.answers[8 * i..8 * i + 8].copy_from_slice(&answer.packed().to_le_bytes());
             }
@@ -82,9 +85,39 @@ impl Batch {
         (&buffers.outs[i * self.share..(i + 1) * self.share], &buffers.answers[8 * i..8 * i + 8])
     }
 
+    /// What the library answers to the prelude with these members, in areas of these lengths where they are lent, and whether
+    /// they are cleared then.
+    fn call(
+        &self,
+        members: &[Vec<u8>],
+        into: &mut Buffers,
+        lender: Option<&mut Lender>,
+        lengths: Option<Lengths>,
+    ) -> (u64, bool) {
+        let prelude = self.version.encode(&self.prelude);
+        let Some(lender) = lender else { return (library::batch(&prelude, members, into), true) };
+        let (needs, call) =
+            (Needs::inside(self.version), |areas: &mut Areas| library::batch_with(&prelude, members, into, areas));
+        match lengths {
+            Some(lengths) => lender.call(needs, lengths, call),
+            None => lender.call_exactly(needs, call),
+        }
+    }
+
+    fn forms(&self) -> Vec<Vec<u8>> {
+        self.members.iter().map(|member| self.version.encode(member)).collect()
+    }
+
     /// Resolves the members of one parity again, turned about and among others: whether each is left what it was.
-    fn is_same_again(&self, first: &Buffers, parity: usize, byte: u8, chance: &mut Chance) -> bool {
-        let own: Vec<Vec<u8>> = self.members.iter().map(|member| rows::encode(member)).collect();
+    fn is_same_again(
+        &self,
+        first: &Buffers,
+        parity: usize,
+        byte: u8,
+        lender: Option<&mut Lender>,
+        chance: &mut Chance,
+    ) -> bool {
+        let own = self.forms();
         let count = own.len() + chance.below(MOST + 1 - own.len());
         let turn = chance.below(count);
         let mut all: Vec<Vec<u8>> = (0..count).map(|_| changed(&own[chance.below(own.len())], chance)).collect();
@@ -93,8 +126,34 @@ impl Batch {
             all[(i + turn) % count] = own[*i].clone();
         }
         let mut again = self.buffers(count, byte, chance);
-        library::batch(&rows::encode(&self.prelude), &all, &mut again);
-        kept.iter().all(|i| self.part(&again, (i + turn) % count) == self.part(first, *i))
+        let (_, cleared) = self.call(&all, &mut again, lender, None);
+        cleared && kept.iter().all(|i| self.part(&again, (i + turn) % count) == self.part(first, *i))
+    }
+
+    /// What is wrong with the library's answer and with what it left, if something is: once, and among others.
+    fn differs(
+        &self,
+        (prelude, answers): (&Answer, &[Answer]),
+        mut lender: Option<&mut Lender>,
+        chance: &mut Chance,
+    ) -> Option<String> {
+        let byte = chance.next() as u8 | 1;
+        let old = self.buffers(self.members.len(), byte, chance);
+        let lengths = lender.is_some().then(|| Needs::inside(self.version).lengths(chance));
+        let mut new = old.clone();
+        let (packed, cleared) = self.call(&self.forms(), &mut new, lender.as_deref_mut(), lengths);
+        let short = lengths.is_some_and(|lengths| !Needs::inside(self.version).are_met(lengths));
+        let (wanted, left) = match short {
+            true => (3 << 32, old),
+            false => (prelude.packed(), self.left(prelude, answers, &old)),
+        };
+        let same = new == left;
+        if packed != wanted || !same || !cleared {
+            return Some(format!("{packed:#x}, expected {wanted:#x}; the buffers: {same}, the areas: {cleared}"));
+        }
+        let again = |parity| self.is_same_again(&new, parity, byte, lender.as_deref_mut(), chance);
+        let alone = short || (0..2).all(again);
+        (!alone).then(|| "a member is left something else among others".to_string())
     }
 }
 
@@ -114,33 +173,26 @@ fn changed(form: &[u8], chance: &mut Chance) -> Vec<u8> {
     bytes
 }
 
-/// Resolves so many batches, and prints a summary line; answers whether there was no difference.
-pub fn run(comparison: &Comparison, seed: u64, batches: u64) -> bool {
+/// Resolves so many batches, and prints a summary line; answers whether there was no difference. Where areas are lent they are of
+/// both versions and rule sets.
+pub fn run(comparison: &Comparison, seed: u64, batches: u64, lending: bool) -> bool {
     let mut found: BTreeMap<(bool, u32), u64> = BTreeMap::new();
+    let mut lender = lending.then(Lender::new);
     let (mut tried, mut number, mut members) = (0, 0, 0);
     while tried < batches {
         let mut chance = Chance::new(seed.rotate_left(32) ^ number);
         number += 1;
-        let Some(batch) = Batch::drawn(comparison, &mut chance) else { continue };
+        let version = lent::version(lending, &mut chance);
+        let Some(batch) = Batch::drawn(comparison, version, &mut chance) else { continue };
         let Some((prelude, answers)) = batch.answers(comparison, chance.next()) else { continue };
         tried += 1;
-        let byte = chance.next() as u8 | 1;
-        let old = batch.buffers(batch.members.len(), byte, &mut chance);
-        let mut new = old.clone();
-        let forms: Vec<Vec<u8>> = batch.members.iter().map(|member| rows::encode(member)).collect();
-        let packed = library::batch(&rows::encode(&batch.prelude), &forms, &mut new);
-        let right = packed == prelude.packed() && new == batch.left(&prelude, &answers, &old);
-        if !right || !(0..2).all(|parity| batch.is_same_again(&new, parity, byte, &mut chance)) {
-            println!(
-                "batch {} of seed {seed}: {packed:#x}, expected {:#x}; once right: {right}",
-                number - 1,
-                prelude.packed()
-            );
+        if let Some(words) = batch.differs((&prelude, &answers), lender.as_mut(), &mut chance) {
+            println!("batch {} of seed {seed}, version {version:?}: {words}", number - 1);
             batch.prelude.iter().for_each(|r| println!("  {r}"));
             return false;
         }
-        *found.entry((true, (packed >> 32) as u32)).or_default() += 1;
-        if packed >> 32 == 0 {
+        *found.entry((true, (prelude.packed() >> 32) as u32)).or_default() += 1;
+        if prelude.packed() >> 32 == 0 {
             members += answers.len();
             answers.iter().for_each(|answer| *found.entry((false, (answer.packed() >> 32) as u32)).or_default() += 1);
         }
@@ -171,7 +223,7 @@ struct Call {
 impl Call {
     /// One of few rows, or none: forms and lengths are damaged now and then, and buffers too short.
     fn draw(comparison: &Comparison, chance: &mut Chance) -> Option<Call> {
-        let Batch { prelude, members, share } = Batch::drawn(comparison, chance)?;
+        let Batch { prelude, members, share, .. } = Batch::drawn(comparison, FIRST, chance)?;
         if members.iter().chain([&prelude]).any(|form| form.len() > FEW_ROWS) {
             return None;
         }
@@ -221,15 +273,15 @@ impl Call {
         }
         let case = Case { form: self.prelude.clone(), out_len: self.rooms[0], fill: 0, choice: 0 };
         let prelude = comparison.expected(&case);
-        buffers[0] = output(&prelude, &rows::decode(&self.prelude), &buffers[0]);
+        buffers[0] = output(FIRST, &prelude, rows::decode(&self.prelude).len(), &buffers[0]);
         let mut shown = vec![format!("{}, the prelude", said(prelude.packed()))];
         if let Answer::Accepted(_) = prelude {
             let share = self.rooms[1] / self.members.len();
             let outer = rows::decode(&self.prelude);
             for (i, member) in self.members.iter().enumerate() {
-                let answer = inside(comparison, &outer, member, share);
+                let answer = inside(comparison, FIRST, &outer, member, share, 0);
                 let out = &mut buffers[1][i * share..(i + 1) * share];
-                out.copy_from_slice(&output(&answer, &rows::decode(member), out));
+                out.copy_from_slice(&output(FIRST, &answer, rows::decode(member).len(), out));
                 buffers[2][8 * i..8 * i + 8].copy_from_slice(&answer.packed().to_le_bytes());
                 shown.push(format!("{}, member {i}", said(answer.packed())));
                 if answer == Answer::Panicked {

@@ -3,9 +3,7 @@
 
 use crate::compare::{Case, Comparison};
 use crate::recognise;
-use crate::rows::{
-    Answer, CASE, CLOSE, DECL, EXPORT, FIELD, FIRST, FIRST_INSERTED, OPEN, OUTER, PATH, REF, Row, Version,
-};
+use crate::rows::{Answer, CASE, CLOSE, DECL, EXPORT, FIELD, FIRST_INSERTED, OPEN, OUTER, PATH, REF, Row, Version};
 use crate::shapes::Shapes;
 use std::collections::{BTreeMap, BTreeSet};
 use std::ops::Range;
@@ -130,7 +128,7 @@ impl<'r> Reading<'r> {
 /// Condition 1: the rows of the claim, held to the input's version with four times the rows.
 fn rows_of(version: Version, shapes: &Shapes, claim: &[u8]) -> Result<Vec<Row>, usize> {
     let claimed = Version { rows: 4 * version.rows, ..version };
-    if !claimed.begins(claim, 0) {
+    if !claimed.begins(claim) {
         return Err(0);
     }
     recognise::sized(claimed, claim).map_err(|(_, place)| place as usize)?;
@@ -312,15 +310,10 @@ fn conditions(version: Version, shapes: &Shapes, input: &[Row], claim: &[u8]) ->
     }
 }
 
-/// The verdict on a claim, and the input's answer.
-pub fn verdict(comparison: &Comparison, case: &Case, claim: &[u8]) -> Verdict {
-    verdict_as(FIRST, comparison, case, claim)
-}
-
-/// The same where the input is read as one of this version.
+/// The verdict on a claim, where the input is read as one of this version.
 pub fn verdict_as(version: Version, comparison: &Comparison, case: &Case, claim: &[u8]) -> Verdict {
     match comparison.expected_as(version, case) {
-        Answer::Accepted(_) => conditions(version, &comparison.shapes, &version.decode(&case.form), claim),
+        Answer::Accepted(_) => conditions(version, comparison.shapes_of(version), &version.decode(&case.form), claim),
         Answer::Refused { number, place } => Verdict::Refused { number, place },
         Answer::Panicked => panic!("the crate panicked"),
     }

@@ -1,9 +1,11 @@
 //! One form on both sides: the answer, the place, every byte written and every byte not written.
 
 use crate::chance::Chance;
+use crate::generate;
+use crate::newer;
 use crate::oracle::Oracle;
 use crate::recognise::recognise_as;
-use crate::rows::{Answer, FIRST, Version};
+use crate::rows::{Answer, FIRST, Row, Version};
 use crate::shapes::Shapes;
 
 /// A resolver as a C program calls it: `wnt_resolve`, or a copy of its answers with a planted change.
@@ -67,6 +69,8 @@ pub struct Outcome {
 
 pub struct Comparison {
     pub shapes: Shapes,
+    /// Those of rule set 1.
+    newer_shapes: Shapes,
     pub oracle: Oracle,
     pub subject: Subject,
 }
@@ -78,7 +82,7 @@ pub struct Difference {
 
 impl Comparison {
     pub fn new(oracle: Oracle, subject: Subject) -> Comparison {
-        Comparison { shapes: Shapes::new(), oracle, subject }
+        Comparison { shapes: Shapes::new(), newer_shapes: Shapes::newer(), oracle, subject }
     }
 
     /// The answer by document 01 for refusals 1 to 5, by the crate for everything else.
@@ -86,11 +90,31 @@ impl Comparison {
         self.expected_as(FIRST, case)
     }
 
-    /// The same for a form of this version.
+    /// The same for a form of this version, under rule set 1 by the reading of `newer`.
     pub fn expected_as(&self, version: Version, case: &Case) -> Answer {
-        match recognise_as(version, &self.shapes, &case.form, case.out_len) {
-            Ok(rows) => self.oracle.answer(&rows, case.choice),
+        match recognise_as(version, self.shapes_of(version), &case.form, case.out_len) {
+            Ok(rows) => self.answer_as(version, &rows, case.choice),
             Err((number, place)) => Answer::refused(number, place),
+        }
+    }
+
+    /// What is answered to the rows of a form of this version.
+    pub fn answer_as(&self, version: Version, rows: &[Row], choice: u64) -> Answer {
+        match version.rules {
+            0 => self.oracle.answer(rows, choice),
+            _ => newer::answer(&self.oracle, rows, choice).0,
+        }
+    }
+
+    pub fn shapes_of(&self, version: Version) -> &Shapes {
+        if version.rules == 0 { &self.shapes } else { &self.newer_shapes }
+    }
+
+    /// A random well-formed form of this version, though it may be too long or too deep.
+    pub fn form_of(&self, version: Version, chance: &mut Chance) -> Vec<Row> {
+        match version.rules {
+            0 => generate::form_of(version, &self.shapes, chance.next()),
+            _ => newer::form(&self.newer_shapes, chance),
         }
     }
 

@@ -5,7 +5,7 @@ use crate::damage::damage_as;
 use crate::generate;
 use crate::library;
 use crate::recognise::{Refusal, read_within, sized};
-use crate::rows::{FIRST, ROW, Row, SECOND, Version};
+use crate::rows::{FIRST, NEWER, ROW, Row, SECOND, Version};
 use crate::shapes::Shapes;
 use crate::source;
 use crate::vectors::{FILLED, Function, Lent, Sample, Vector, said};
@@ -18,27 +18,27 @@ struct Rules {
 
 /// The form as one of the version of this number, for an output of this length.
 fn converted(rules: &Rules, form: &[u8], number: u32, out_len: usize) -> Result<Vec<u8>, Refusal> {
-    let (from, set) = header_of(form).ok_or((1, 0))?;
+    let from = header_of(form).ok_or((1, 0))?;
     let to = [FIRST, SECOND].into_iter().find(|to| u32::from(to.number) == number).ok_or((1, 0))?;
     let count = sized(from, form)?;
     if out_len < to.form_size(count) {
         return Err((3, 0));
     }
-    let (rows, shapes) = (from.decode(form), &rules.shapes[usize::from(set)]);
+    let (rows, shapes) = (from.decode(form), &rules.shapes[usize::from(from.rules)]);
     read_within(shapes, &rows, from.scopes)?;
-    if to == FIRST && set != 0 {
+    if to == FIRST && from.rules != 0 {
         return Err((1, 0));
     }
     if count > to.rows {
         return Err((2, 0));
     }
     read_within(shapes, &rows, to.scopes)?;
-    Ok([to.head(count, set), form[from.header..].to_vec()].concat())
+    Ok([Version { rules: from.rules, ..to }.head(count), form[from.header..].to_vec()].concat())
 }
 
-/// The version and the rule set that a header is of.
-fn header_of(form: &[u8]) -> Option<(Version, u8)> {
-    [(FIRST, 0), (SECOND, 0), (SECOND, 1)].into_iter().find(|(version, set)| version.begins(form, *set))
+/// The version that a header is of.
+fn header_of(form: &[u8]) -> Option<Version> {
+    [FIRST, SECOND, NEWER].into_iter().find(|version| version.begins(form))
 }
 
 /// A form, the version that is asked for, and the output's length.
@@ -162,7 +162,7 @@ pub fn vectors(seed: u64, sample: &mut Sample) {
         if limit && !matches!(answer, Err((2 | 5, _))) {
             continue;
         }
-        let from = header_of(&asked.form).map_or("none".to_string(), |(from, set)| format!("{}.{set}", from.number));
+        let from = header_of(&asked.form).map_or("none".to_string(), |from| format!("{}.{}", from.number, from.rules));
         let to = if asked.version > 2 { 0 } else { asked.version };
         let vector = Vector {
             function: Function::Convert,

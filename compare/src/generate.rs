@@ -1,9 +1,7 @@
 //! Random well-formed forms, the same for the same seed: first rows by their shapes, then the operands.
 
 use crate::chance::Chance;
-use crate::rows::{
-    CASE, CLOSE, DECL, EXPORT, FIELD, FIRST, FIRST_INSERTED, OPEN, OUTER, PATH, REF, Row, SECOND, Version,
-};
+use crate::rows::{CASE, CLOSE, DECL, EXPORT, FIELD, FIRST, FIRST_INSERTED, OPEN, OUTER, PATH, REF, Row, Version};
 use crate::shapes::{COMPONENT, FIELDS, FOUR, Shape, Shapes, Want, allowed, values_of_e};
 use std::collections::HashSet;
 
@@ -57,15 +55,10 @@ impl Mood {
     }
 }
 
-/// A well-formed form of version 1, though it may be too long or too deep.
-pub fn form(shapes: &Shapes, seed: u64) -> Vec<Row> {
-    form_of(FIRST, shapes, seed)
-}
-
-/// The same for this version.
+/// A well-formed form of this version, though it may be too long or too deep.
 pub fn form_of(version: Version, shapes: &Shapes, seed: u64) -> Vec<Row> {
     let mut chance = Chance::new(seed);
-    let mood = if version == SECOND { Mood::larger(&mut chance) } else { Mood::of(&mut chance) };
+    let mood = if version == FIRST { Mood::of(&mut chance) } else { Mood::larger(&mut chance) };
     let mut sketch = Sketch { shapes, chance, mood, rows: Vec::new(), depth: 0 };
     let name = sketch.name();
     sketch.scope(COMPONENT, name);

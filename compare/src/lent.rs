@@ -3,16 +3,14 @@
 use crate::chance::Chance;
 use crate::compare::{Case, Comparison, after};
 use crate::library::{self, Areas, Slot};
-use crate::rows::{Answer, FIRST, SECOND, Version};
+use crate::rows::{Answer, FIRST, NEWER, RULES_AT, SECOND, Version};
 use crate::run::{is_form, stated_cases_hold};
 use crate::source::{self, Stage};
 use crate::tally::Tally;
 use crate::vectors::{self, FILLED, Function, Sample, Vector, said};
 use std::time::Instant;
 
-/// Where a header states its rule set, that of the newer tools, and one that there is not.
-const RULES_AT: usize = 5;
-const NEWER: u8 = 1;
+/// A rule set that there is not.
 const NONE: u8 = 2;
 
 /// The most elements that an area is longer than it must be.
@@ -21,46 +19,92 @@ const MORE: usize = 9;
 /// How long the areas are, in elements: two tables, the index of each, and the ends of fields.
 pub type Lengths = [usize; 5];
 
-/// The sizes of the areas for a version.
-fn sizes(version: Version) -> Lengths {
-    let slots = version.rows + 1;
-    [slots, slots, 2 * slots, 2 * slots, slots]
+/// For which forms areas are lent: those of a version, by themselves or inside the root of a prelude, whose names are then in
+/// the second table too.
+#[derive(Clone, Copy)]
+pub struct Needs {
+    version: Version,
+    inside: bool,
 }
 
-/// Lengths for a form of this version that are exact, longer, for the other version or, now and then, too short.
-pub fn lengths(version: Version, chance: &mut Chance) -> Lengths {
-    let mut lengths = sizes(version);
-    let one = chance.below(5);
-    match chance.below(40) {
-        0 => lengths[one] -= 1,
-        1 => lengths[one] = chance.below(lengths[one]),
-        2 => lengths = [0; 5],
-        3 => lengths = sizes(FIRST),
-        4..=5 => lengths = sizes(SECOND),
-        6..=10 => lengths[one] += 1 + chance.below(MORE),
-        _ => {}
+impl Needs {
+    pub fn of(version: Version) -> Needs {
+        Needs { version, inside: false }
     }
-    lengths
+
+    pub fn inside(version: Version) -> Needs {
+        Needs { version, inside: true }
+    }
+
+    /// The sizes of the areas.
+    fn sizes(self) -> Lengths {
+        let slots = self.version.rows + 1;
+        let more = if self.inside { slots } else { 0 };
+        [slots, slots + more, 2 * slots, 2 * slots + more, slots]
+    }
+
+    /// Lengths that are exact, longer, for the other version or, now and then, too short.
+    pub fn lengths(self, chance: &mut Chance) -> Lengths {
+        let mut lengths = self.sizes();
+        let one = chance.below(5);
+        match chance.below(40) {
+            0 => lengths[one] -= 1,
+            1 => lengths[one] = chance.below(lengths[one]),
+            2 => lengths = [0; 5],
+            3 => lengths = Needs { version: FIRST, ..self }.sizes(),
+            4..=5 => lengths = Needs { version: SECOND, ..self }.sizes(),
+            6..=10 => lengths[one] += 1 + chance.below(MORE),
+            _ => {}
+        }
+        lengths
+    }
+
+    /// Whether areas of these lengths are large enough.
+    pub fn are_met(self, lengths: Lengths) -> bool {
+        self.sizes().iter().zip(lengths).all(|(size, length)| length >= *size)
+    }
 }
 
-/// Whether areas of these lengths are large enough for a form of this version.
-pub fn are_enough(version: Version, lengths: Lengths) -> bool {
-    sizes(version).iter().zip(lengths).all(|(size, length)| length >= *size)
+/// The version of a random form: where areas are lent mostly the second, under either rule set.
+pub fn version(lending: bool, chance: &mut Chance) -> Version {
+    if lending { chance.pick(&[FIRST, SECOND, SECOND, NEWER, NEWER]) } else { FIRST }
 }
 
 /// A form with its output, and the lengths of its areas.
-struct Lent {
-    case: Case,
-    lengths: Lengths,
+pub struct Lent {
+    pub case: Case,
+    pub lengths: Lengths,
 }
 
 impl Lent {
     fn new(case: Case, chance: &mut Chance) -> Lent {
-        Lent { lengths: lengths(Version::of(&case.form), chance), case }
+        Lent { lengths: Needs::of(Version::of(&case.form)).lengths(chance), case }
     }
 
     fn exact(case: Case) -> Lent {
-        Lent { lengths: sizes(Version::of(&case.form)), case }
+        Lent { lengths: Needs::of(Version::of(&case.form)).sizes(), case }
+    }
+
+    /// The version that is asked for, and the form as one that is answered alike: without room where an area is too small.
+    pub fn asked(&self) -> (Version, Case) {
+        let version = asked_for(&self.case.form);
+        let out_len = if Needs::of(version).are_met(self.lengths) { self.case.out_len } else { 0 };
+        (version, Case { out_len, ..self.case.clone() })
+    }
+
+    /// What differs on the library's side from this answer, if something does.
+    pub fn differs(&self, lender: &mut Lender, answer: &Answer) -> Option<&'static str> {
+        let form = &self.case.form;
+        let mut out = self.case.pattern();
+        let wanted = after(answer, form, out.clone());
+        let call = |areas: &mut Areas| library::resolve_with(form, &mut out, areas);
+        let (packed, cleared) = lender.call(Needs::of(asked_for(form)), self.lengths, call);
+        match (packed == answer.packed(), out == wanted, cleared) {
+            (false, _, _) => Some("the answer"),
+            (_, false, _) => Some("the output"),
+            (_, _, false) => Some("a working area"),
+            _ => None,
+        }
     }
 }
 
@@ -75,25 +119,46 @@ const SLOT: Slot = [0xa5a5_0001; 6];
 const LINK: u16 = 0xa5a5;
 const END: u32 = 0xa5a5_0002;
 
-/// Whether the first `size` elements are zero, and those behind as they were filled.
-fn is_cleared<T: PartialEq>(area: &[T], size: usize, zero: T, filling: T) -> bool {
+/// Whether the first `size` elements are zero, and those behind as they were filled. Whole parts are looked at in one go, since
+/// the areas of version 2 are long.
+pub fn is_cleared<T: PartialEq>(area: &[T], size: usize, zero: T, filling: T) -> bool {
     let (front, behind) = area.split_at(size.min(area.len()));
-    front.iter().all(|one| *one == zero) && behind.iter().all(|one| *one == filling)
+    let is_all =
+        |part: &[T], held: &T| part.chunks(1024).all(|some| some.iter().fold(true, |same, one| same & (one == held)));
+    is_all(front, &zero) && is_all(behind, &filling)
+}
+
+/// The length of an area: mostly its size, else longer or too short.
+pub fn length(size: usize, chance: &mut Chance) -> usize {
+    match chance.below(40) {
+        0 => size - 1,
+        1 => chance.below(size),
+        2..=8 => size + chance.below(MORE),
+        _ => size,
+    }
+}
+
+/// What the library resolves a form of this version into: by `wnt_resolve`, or in areas where they are lent.
+pub fn resolve(lender: Option<&mut Lender>, version: Version, form: &[u8], out: &mut [u8]) -> u64 {
+    match lender {
+        Some(lender) => library::resolve_with(form, out, &mut lender.areas_of(version)),
+        None => library::resolve(form, out),
+    }
 }
 
 impl Lender {
     pub fn new() -> Lender {
-        let [slots, _, links, _, ends] = sizes(SECOND).map(|size| size + MORE);
+        let [entered, names, known, chains, ends] = Needs::inside(SECOND).sizes().map(|size| size + MORE);
         Lender {
-            slots: [vec![SLOT; slots], vec![SLOT; slots]],
-            links: [vec![LINK; links], vec![LINK; links]],
+            slots: [vec![SLOT; entered], vec![SLOT; names]],
+            links: [vec![LINK; known], vec![LINK; chains]],
             ends: vec![END; ends],
         }
     }
 
     /// The areas that a form of this version needs.
     pub fn areas_of(&mut self, version: Version) -> Areas<'_> {
-        self.areas(sizes(version))
+        self.areas(Needs::of(version).sizes())
     }
 
     /// The areas, of these lengths.
@@ -108,13 +173,13 @@ impl Lender {
         }
     }
 
-    /// Calls the library on a form in areas of these lengths, which are filled before; answers whether they are cleared after.
-    pub fn call(&mut self, form: &[u8], lengths: Lengths, call: impl FnOnce(&mut Areas) -> u64) -> (u64, bool) {
-        self.call_as(asked_for(form), lengths, call)
+    /// Calls the library in areas that are just large enough.
+    pub fn call_exactly(&mut self, needs: Needs, call: impl FnOnce(&mut Areas) -> u64) -> (u64, bool) {
+        self.call(needs, needs.sizes(), call)
     }
 
-    /// The same for a form of this version.
-    pub fn call_as(&mut self, version: Version, lengths: Lengths, call: impl FnOnce(&mut Areas) -> u64) -> (u64, bool) {
+    /// Calls the library in areas of these lengths, which are filled before; answers whether they are cleared after.
+    pub fn call(&mut self, needs: Needs, lengths: Lengths, call: impl FnOnce(&mut Areas) -> u64) -> (u64, bool) {
         let mut areas = self.areas(lengths);
         areas.entered.fill(SLOT);
         areas.names.fill(SLOT);
@@ -122,7 +187,7 @@ impl Lender {
         areas.chains.fill(LINK);
         areas.ends.fill(END);
         let answer = call(&mut areas);
-        let [entered, names, known, chains, ends] = sizes(version);
+        let [entered, names, known, chains, ends] = needs.sizes();
         let cleared = is_cleared(areas.entered, entered, [0; 6], SLOT)
             && is_cleared(areas.names, names, [0; 6], SLOT)
             && is_cleared(areas.known, known, 0, LINK)
@@ -134,30 +199,13 @@ impl Lender {
 
 /// The version that a header asks for; the first where it is of none.
 pub fn asked_for(form: &[u8]) -> Version {
-    if SECOND.begins(form, 0) { SECOND } else { FIRST }
+    [SECOND, NEWER].into_iter().find(|version| version.begins(form)).unwrap_or(FIRST)
 }
 
 /// The answer by documents 01 and 02 for refusals 1 to 5, by the crate for everything else.
 fn expected(comparison: &Comparison, lent: &Lent) -> Answer {
-    let (version, case) = (asked_for(&lent.case.form), &lent.case);
-    let room = if are_enough(version, lent.lengths) { case.out_len } else { 0 };
-    comparison.expected_as(version, &Case { out_len: room, ..case.clone() })
-}
-
-/// The answer that is expected, and what differs, if something does.
-fn check(comparison: &Comparison, lender: &mut Lender, lent: &Lent) -> (Answer, Option<&'static str>) {
-    let answer = expected(comparison, lent);
-    let mut out = lent.case.pattern();
-    let wanted = after(&answer, &lent.case.form, out.clone());
-    let form = &lent.case.form;
-    let (packed, cleared) = lender.call(form, lent.lengths, |areas| library::resolve_with(form, &mut out, areas));
-    let differs = match (packed == answer.packed(), out == wanted, cleared) {
-        (false, _, _) => Some("the answer"),
-        (_, false, _) => Some("the output"),
-        (_, _, false) => Some("a working area"),
-        _ => None,
-    };
-    (answer, differs)
+    let (version, case) = lent.asked();
+    comparison.expected_as(version, &case)
 }
 
 /// The forms that do not depend on a seed, and for each limit's form areas that are one element short or long.
@@ -168,7 +216,7 @@ fn fixed(comparison: &Comparison) -> Vec<(Stage, Lent)> {
             if stage == Stage::Stated {
                 let mut one_off = Vec::new();
                 for area in 0..5 {
-                    let sizes = sizes(version);
+                    let sizes = Needs::of(version).sizes();
                     for length in [0, sizes[area] - 1, sizes[area] + 1] {
                         let mut lengths = sizes;
                         lengths[area] = length;
@@ -188,7 +236,7 @@ fn random(comparison: &Comparison, seed: u64, number: u64) -> (Stage, Lent) {
     let version = if number % 16 < 4 { FIRST } else { SECOND };
     let (stage, mut case) = source::random_of(version, &comparison.shapes, seed, number);
     // Damage may ask for rule set 1, which has a comparison of its own (`newer`): here it asks for none.
-    if SECOND.begins(&case.form, NEWER) {
+    if NEWER.begins(&case.form) {
         case.form[RULES_AT] = NONE;
     }
     let mut chance = Chance::new(!seed ^ number.rotate_left(32));
@@ -242,7 +290,8 @@ pub fn run(comparison: &Comparison, seed: u64, count: u64) -> bool {
     let (mut tally, mut large, mut lender) = (Tally::default(), Large::default(), Lender::new());
     let forms = fixed(comparison).into_iter().chain((0..).map(|number| random(comparison, seed, number)));
     for (number, (stage, lent)) in forms.take(count as usize).enumerate() {
-        let (answer, differs) = check(comparison, &mut lender, &lent);
+        let answer = expected(comparison, &lent);
+        let differs = lent.differs(&mut lender, &answer);
         tally.count(stage, &lent.case, &answer);
         large.count(&lent.case.form, &answer);
         if !is_form(stage, &answer) {
@@ -293,7 +342,7 @@ pub fn vectors(comparison: &Comparison, seed: u64, sample: &mut Sample) {
 impl Lent {
     fn offer(&self, answer: &Answer, sample: &mut Sample) {
         let Lent { case, lengths } = self;
-        let sizes = sizes(asked_for(&case.form));
+        let sizes = Needs::of(asked_for(&case.form)).sizes();
         let out = after(answer, &case.form, vec![FILLED; case.out_len]);
         let areas = sizes.into_iter().zip(*lengths).map(|(size, length)| vectors::Lent::cleared(length, size));
         let vector = Vector {

@@ -179,6 +179,94 @@ unsafe extern "C" {
         work: *mut u8,
         work_len: usize,
     ) -> u64;
+    fn wnt_share_with(
+        form: *const u8,
+        form_len: usize,
+        out: *mut u8,
+        out_len: usize,
+        marked: *mut u8,
+        marked_len: usize,
+        table: *mut Slot,
+        table_len: usize,
+        index: *mut u16,
+        index_len: usize,
+        entered: *mut Slot,
+        entered_len: usize,
+        names: *mut Slot,
+        names_len: usize,
+        known: *mut u16,
+        known_len: usize,
+        chains: *mut u16,
+        chains_len: usize,
+        ends: *mut u32,
+        ends_len: usize,
+    ) -> u64;
+    fn wnt_unresolve_with(
+        form: *const u8,
+        form_len: usize,
+        out: *mut u8,
+        out_len: usize,
+        restored: *mut u8,
+        restored_len: usize,
+        again: *mut u8,
+        again_len: usize,
+        noted: *mut Note,
+        noted_len: usize,
+        entered: *mut Slot,
+        entered_len: usize,
+        names: *mut Slot,
+        names_len: usize,
+        known: *mut u16,
+        known_len: usize,
+        chains: *mut u16,
+        chains_len: usize,
+        ends: *mut u32,
+        ends_len: usize,
+    ) -> u64;
+    fn wnt_member_with(
+        prelude: *const u8,
+        prelude_len: usize,
+        member: *const u8,
+        member_len: usize,
+        out: *mut u8,
+        out_len: usize,
+        work: *mut u8,
+        work_len: usize,
+        entered: *mut Slot,
+        entered_len: usize,
+        names: *mut Slot,
+        names_len: usize,
+        known: *mut u16,
+        known_len: usize,
+        chains: *mut u16,
+        chains_len: usize,
+        ends: *mut u32,
+        ends_len: usize,
+    ) -> u64;
+    fn wnt_batch_with(
+        prelude: *const u8,
+        prelude_len: usize,
+        members: *const u8,
+        members_len: usize,
+        lengths: *const u32,
+        lengths_len: usize,
+        prelude_out: *mut u8,
+        prelude_out_len: usize,
+        outs: *mut u8,
+        outs_len: usize,
+        answers: *mut u8,
+        answers_len: usize,
+        entered: *mut Slot,
+        entered_len: usize,
+        names: *mut Slot,
+        names_len: usize,
+        known: *mut u16,
+        known_len: usize,
+        chains: *mut u16,
+        chains_len: usize,
+        ends: *mut u32,
+        ends_len: usize,
+    ) -> u64;
 }
 
 /// The answer of `wnt_resolve`, which may write into `out`.
@@ -476,6 +564,150 @@ pub fn batch(prelude: &[u8], members: &[Vec<u8>], into: &mut Buffers) -> u64 {
             into.outs.len(),
             into.answers.as_mut_ptr(),
             into.answers.len(),
+        )
+    }
+}
+
+/// The answer of `wnt_share_with`, which may write into all but the form.
+pub fn share_with(
+    form: &[u8],
+    out: &mut [u8],
+    marked: &mut [u8],
+    table: &mut [Slot],
+    index: &mut [u16],
+    areas: &mut Areas,
+) -> u64 {
+    let Areas { entered, names, known, chains, ends } = areas;
+    // SAFETY: all parts are valid for their lengths, and those that are written are apart from all others, for as long as the
+    // call lasts.
+    unsafe {
+        wnt_share_with(
+            form.as_ptr(),
+            form.len(),
+            out.as_mut_ptr(),
+            out.len(),
+            marked.as_mut_ptr(),
+            marked.len(),
+            table.as_mut_ptr(),
+            table.len(),
+            index.as_mut_ptr(),
+            index.len(),
+            entered.as_mut_ptr(),
+            entered.len(),
+            names.as_mut_ptr(),
+            names.len(),
+            known.as_mut_ptr(),
+            known.len(),
+            chains.as_mut_ptr(),
+            chains.len(),
+            ends.as_mut_ptr(),
+            ends.len(),
+        )
+    }
+}
+
+/// A note of the way back.
+pub type Note = [u32; 2];
+
+/// The answer of `wnt_unresolve_with`, which may write into all but the form.
+pub fn unresolve_with(
+    form: &[u8],
+    out: &mut [u8],
+    restored: &mut [u8],
+    again: &mut [u8],
+    noted: &mut [Note],
+    areas: &mut Areas,
+) -> u64 {
+    let Areas { entered, names, known, chains, ends } = areas;
+    // SAFETY: all parts are valid for their lengths, and those that are written are apart from all others, for as long as the
+    // call lasts.
+    unsafe {
+        wnt_unresolve_with(
+            form.as_ptr(),
+            form.len(),
+            out.as_mut_ptr(),
+            out.len(),
+            restored.as_mut_ptr(),
+            restored.len(),
+            again.as_mut_ptr(),
+            again.len(),
+            noted.as_mut_ptr(),
+            noted.len(),
+            entered.as_mut_ptr(),
+            entered.len(),
+            names.as_mut_ptr(),
+            names.len(),
+            known.as_mut_ptr(),
+            known.len(),
+            chains.as_mut_ptr(),
+            chains.len(),
+            ends.as_mut_ptr(),
+            ends.len(),
+        )
+    }
+}
+
+/// The answer of `wnt_member_with`, which may write into `out`, `work` and the areas.
+pub fn member_with(prelude: &[u8], member: &[u8], out: &mut [u8], work: &mut [u8], areas: &mut Areas) -> u64 {
+    let Areas { entered, names, known, chains, ends } = areas;
+    // SAFETY: all parts are valid for their lengths, and those that are written are apart from all others, for as long as the
+    // call lasts.
+    unsafe {
+        wnt_member_with(
+            prelude.as_ptr(),
+            prelude.len(),
+            member.as_ptr(),
+            member.len(),
+            out.as_mut_ptr(),
+            out.len(),
+            work.as_mut_ptr(),
+            work.len(),
+            entered.as_mut_ptr(),
+            entered.len(),
+            names.as_mut_ptr(),
+            names.len(),
+            known.as_mut_ptr(),
+            known.len(),
+            chains.as_mut_ptr(),
+            chains.len(),
+            ends.as_mut_ptr(),
+            ends.len(),
+        )
+    }
+}
+
+/// The answer of `wnt_batch_with`, which may write into the buffers and the areas.
+pub fn batch_with(prelude: &[u8], members: &[Vec<u8>], into: &mut Buffers, areas: &mut Areas) -> u64 {
+    let lengths: Vec<u32> = members.iter().map(|member| member.len() as u32).collect();
+    let all = members.concat();
+    let Buffers { prelude: prelude_out, outs, answers } = into;
+    let Areas { entered, names, known, chains, ends } = areas;
+    // SAFETY: all parts are valid for their lengths, and those that are written are apart from all others, for as long as the
+    // call lasts.
+    unsafe {
+        wnt_batch_with(
+            prelude.as_ptr(),
+            prelude.len(),
+            all.as_ptr(),
+            all.len(),
+            lengths.as_ptr(),
+            lengths.len(),
+            prelude_out.as_mut_ptr(),
+            prelude_out.len(),
+            outs.as_mut_ptr(),
+            outs.len(),
+            answers.as_mut_ptr(),
+            answers.len(),
+            entered.as_mut_ptr(),
+            entered.len(),
+            names.as_mut_ptr(),
+            names.len(),
+            known.as_mut_ptr(),
+            known.len(),
+            chains.as_mut_ptr(),
+            chains.len(),
+            ends.as_mut_ptr(),
+            ends.len(),
         )
     }
 }

@@ -76,18 +76,22 @@ compare --convert N [--seed S]                 convert N forms, and compare with
 compare --mend N [--seed S]                    mend N spoilt forms, and compare with a mender written for it
 compare --meant N [--seed S]                   ask what the names of N members mean, and compare with a second reading
 compare --moved N [--seed S]                   list the moved numbers of N forms, and compare with a second reading
-compare --moved-with N [--seed S]              the same for forms of both versions, in working areas that are lent
+compare --moved-with N [--seed S]              the same for forms of both versions and rule sets, in areas that are lent
 compare --sheet N [--seed S]                   hold a binding sheet against N forms, and compare with a second reading
-compare --sheet-with N [--seed S]              the same for forms of both versions, in working areas that are lent
+compare --sheet-with N [--seed S]              the same for forms of both versions and rule sets, in areas that are lent
 compare --check N [--seed S]                   check N claimed outputs, and compare with a checker written for it
-compare --check-with N [--seed S]              the same for inputs of both versions, in working areas that are lent
+compare --check-with N [--seed S]              the same for inputs of both versions and rule sets, in areas that are lent
 compare --check-bench N                        time checking beside resolving, the shortest of N calls each
 compare --moved-bench N                        time listing moved numbers beside resolving, the shortest of N calls each
 compare --share N [--seed S]                   resolve N forms with fewer aliases, and check and count them
+compare --share-with N [--seed S]              the same for forms of both versions and rule sets, in areas that are lent
 compare --told N [--seed S]                    compare on N forms what refusals tell besides
 compare --unresolve N [--seed S]               send N outputs of random forms back to names and round, and damaged ones
+compare --unresolve-with N [--seed S]          the same for outputs of both versions and rule sets, in areas that are lent
 compare --members N [--seed S]                 resolve N members inside preludes, and compare on trees that hold both
-compare --batches N [--seed S]                 the same for N batches, and each member again among other neighbours";
+compare --members-with N [--seed S]            the same for both versions and rule sets, in areas that are lent
+compare --batches N [--seed S]                 the same for N batches, and each member again among other neighbours
+compare --batches-with N [--seed S]            the same for both versions and rule sets, in areas that are lent";
 
 /// The value after `--name`, read as a number.
 fn number(arguments: &[String], name: &str) -> Option<u64> {
@@ -179,10 +183,47 @@ fn write_samples(arguments: &[String], folder: &str) -> bool {
     is_written(folder, samples::write_to(Path::new(folder), &comparison(), seed, count))
 }
 
+/// A run with this seed over so many forms, pairs or outputs; it answers whether there was no difference.
+type Run = fn(&compare::Comparison, u64, u64) -> bool;
+
+/// The runs by their names.
+const RUNS: &[(&str, Run)] = &[
+    ("--renaming", renaming::run),
+    ("--lent", lent::run),
+    ("--newer", newer::run),
+    ("--newer-reading", newer::read),
+    ("--convert", |_, seed, forms| convert::run(seed, forms)),
+    ("--mend", |_, seed, forms| spoil::run(seed, forms)),
+    ("--meant", |_, seed, pairs| meant::run(seed, pairs)),
+    ("--moved", |comparison, seed, forms| moved::run(comparison, seed, forms, false)),
+    ("--moved-with", |comparison, seed, forms| moved::run(comparison, seed, forms, true)),
+    ("--sheet", |comparison, seed, forms| sheet::run(comparison, seed, forms, false)),
+    ("--sheet-with", |comparison, seed, forms| sheet::run(comparison, seed, forms, true)),
+    ("--check", |comparison, seed, pairs| verify::run(comparison, seed, pairs, false)),
+    ("--check-with", |comparison, seed, pairs| verify::run(comparison, seed, pairs, true)),
+    ("--unresolve", |comparison, seed, outputs| names_back::run(comparison, seed, outputs, false)),
+    ("--unresolve-with", |comparison, seed, outputs| names_back::run(comparison, seed, outputs, true)),
+    ("--share", |comparison, seed, forms| share::run(comparison, seed, forms, false)),
+    ("--share-with", |comparison, seed, forms| share::run(comparison, seed, forms, true)),
+    ("--told", told::run),
+    ("--members", |comparison, seed, pairs| members::run(comparison, seed, pairs, false)),
+    ("--members-with", |comparison, seed, pairs| members::run(comparison, seed, pairs, true)),
+    ("--batches", |comparison, seed, batches| batches::run(comparison, seed, batches, false)),
+    ("--batches-with", |comparison, seed, batches| batches::run(comparison, seed, batches, true)),
+    ("--builds", |_, seed, pairs| builds::run(pairs, seed)),
+];
+
+/// The run that is asked for, with its count.
+fn asked_run(arguments: &[String]) -> Option<(Run, u64)> {
+    RUNS.iter().find_map(|(name, run)| Some((*run, number(arguments, name)?)))
+}
+
 fn main() -> ExitCode {
     let arguments: Vec<String> = std::env::args().skip(1).collect();
     let has = |name: &str| arguments.iter().any(|argument| argument == name);
-    let done = if let Some(file) = value(&arguments, "--bench") {
+    let done = if let Some((run, count)) = asked_run(&arguments) {
+        run(&comparison(), number(&arguments, "--seed").unwrap_or(1), count)
+    } else if let Some(file) = value(&arguments, "--bench") {
         bench(&arguments, file)
     } else if let Some(folder) = value(&arguments, "--shapes") {
         write_shapes(folder)
@@ -190,50 +231,12 @@ fn main() -> ExitCode {
         write_samples(&arguments, folder)
     } else if let Some(count) = number(&arguments, "--vectors") {
         write_vectors(&arguments, count)
-    } else if let Some(forms) = number(&arguments, "--renaming") {
-        renaming::run(&comparison(), number(&arguments, "--seed").unwrap_or(1), forms)
-    } else if let Some(forms) = number(&arguments, "--lent") {
-        lent::run(&comparison(), number(&arguments, "--seed").unwrap_or(1), forms)
-    } else if let Some(forms) = number(&arguments, "--newer") {
-        newer::run(&comparison(), number(&arguments, "--seed").unwrap_or(1), forms)
-    } else if let Some(forms) = number(&arguments, "--newer-reading") {
-        newer::read(&comparison(), number(&arguments, "--seed").unwrap_or(1), forms)
-    } else if let Some(forms) = number(&arguments, "--convert") {
-        convert::run(number(&arguments, "--seed").unwrap_or(1), forms)
-    } else if let Some(count) = number(&arguments, "--mend") {
-        spoil::run(number(&arguments, "--seed").unwrap_or(1), count)
-    } else if let Some(pairs) = number(&arguments, "--meant") {
-        meant::run(number(&arguments, "--seed").unwrap_or(1), pairs)
-    } else if let Some(forms) = number(&arguments, "--moved") {
-        moved::run(&comparison(), number(&arguments, "--seed").unwrap_or(1), forms, false)
-    } else if let Some(forms) = number(&arguments, "--moved-with") {
-        moved::run(&comparison(), number(&arguments, "--seed").unwrap_or(1), forms, true)
-    } else if let Some(forms) = number(&arguments, "--sheet") {
-        sheet::run(&comparison(), number(&arguments, "--seed").unwrap_or(1), forms, false)
-    } else if let Some(forms) = number(&arguments, "--sheet-with") {
-        sheet::run(&comparison(), number(&arguments, "--seed").unwrap_or(1), forms, true)
     } else if let Some(repetitions) = number(&arguments, "--check-bench") {
         bench::check(repetitions as usize);
         true
     } else if let Some(repetitions) = number(&arguments, "--moved-bench") {
         bench::moved(repetitions as usize);
         true
-    } else if let Some(pairs) = number(&arguments, "--check") {
-        verify::run(&comparison(), number(&arguments, "--seed").unwrap_or(1), pairs, false)
-    } else if let Some(pairs) = number(&arguments, "--check-with") {
-        verify::run(&comparison(), number(&arguments, "--seed").unwrap_or(1), pairs, true)
-    } else if let Some(outputs) = number(&arguments, "--unresolve") {
-        names_back::run(&comparison(), number(&arguments, "--seed").unwrap_or(1), outputs)
-    } else if let Some(forms) = number(&arguments, "--share") {
-        share::run(&comparison(), number(&arguments, "--seed").unwrap_or(1), forms)
-    } else if let Some(forms) = number(&arguments, "--told") {
-        told::run(&comparison(), number(&arguments, "--seed").unwrap_or(1), forms)
-    } else if let Some(pairs) = number(&arguments, "--members") {
-        members::run(&comparison(), number(&arguments, "--seed").unwrap_or(1), pairs)
-    } else if let Some(batches) = number(&arguments, "--batches") {
-        batches::run(&comparison(), number(&arguments, "--seed").unwrap_or(1), batches)
-    } else if let Some(pairs) = number(&arguments, "--builds") {
-        builds::run(pairs, number(&arguments, "--seed").unwrap_or(1))
     } else if has("--sensitivity") {
         sensitivity(number(&arguments, "--seed").unwrap_or(1))
     } else if arguments.is_empty() || has("--seconds") || has("--forms") || has("--seed") {

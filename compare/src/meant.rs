@@ -4,7 +4,8 @@
 use crate::chance::Chance;
 use crate::generate;
 use crate::library;
-use crate::rows::{self, CLOSE, DECL, EXPORT, FIELD, HEADER, OPEN, OUTER, REF, Row};
+use crate::newer;
+use crate::rows::{self, CLOSE, DECL, EXPORT, FIELD, FIRST, HEADER, NEWER, OPEN, OUTER, REF, Row, Version};
 use crate::shapes::Shapes;
 use crate::vectors::{Function, Sample, Vector};
 use std::collections::BTreeMap;
@@ -144,9 +145,14 @@ fn bytes(form: &[Row], version: u64) -> Vec<u8> {
 /// A prelude and a member. The member lacks some of its declarations, and the prelude's root has some that the member
 /// names; some preludes have a name by which the member asks for a scope.
 pub fn pair(shapes: &Shapes, chance: &mut Chance) -> (Vec<Row>, Vec<Row>) {
+    pair_of(FIRST, shapes, chance)
+}
+
+/// The same for this version, with its shapes.
+pub fn pair_of(version: Version, shapes: &Shapes, chance: &mut Chance) -> (Vec<Row>, Vec<Row>) {
     let missing = chance.pick(&[0, 20, 50, 90]);
-    let member = lacking(&generate::form(shapes, chance.next()), missing, chance);
-    let mut prelude = generate::form(shapes, chance.next());
+    let mut member = lacking(&generate::form_of(version, shapes, chance.next()), missing, chance);
+    let mut prelude = generate::form_of(version, shapes, chance.next());
     let offered = chance.pick(&[0, 10, 50, 90]);
     for (space, name) in names_in(&member) {
         if chance.percent(offered) {
@@ -157,6 +163,10 @@ pub fn pair(shapes: &Shapes, chance: &mut Chance) -> (Vec<Row>, Vec<Row>) {
     let asked: Vec<u32> = member.iter().filter(|r| r.code == OUTER && r.e == 3).map(|r| r.x).collect();
     if !asked.is_empty() && chance.percent(50) {
         prelude[0].x = chance.pick(&asked);
+    }
+    if version == NEWER {
+        newer::tame(&mut prelude, chance);
+        newer::tame(&mut member, chance);
     }
     (prelude, member)
 }

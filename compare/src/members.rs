@@ -3,16 +3,19 @@
 use crate::cases;
 use crate::chance::Chance;
 use crate::compare::Comparison;
-use crate::damage::damage;
-use crate::library;
-use crate::meant::pair;
-use crate::recognise::{recognise, recognise_as};
-use crate::rows::{self, Answer, CLOSE, DECL, FIELD, FIRST, HEADER, OPEN, OUTER, REF, Row, output_size};
+use crate::damage::damage_as;
+use crate::lent::{self, Lender, Lengths, Needs, asked_for, is_cleared};
+use crate::library::{self, Areas};
+use crate::meant::{pair, pair_of};
+use crate::recognise::recognise_as;
+use crate::rows::{self, Answer, CLOSE, DECL, FIELD, FIRST, OPEN, OUTER, REF, Row, Version, output_size};
 use crate::vectors::{FILLED, Function, Lent, Sample, Vector, said};
 use std::collections::BTreeMap;
 
 /// The bytes of the working area.
-const WORK: usize = 65480;
+fn work_for(version: Version) -> usize {
+    version.output_size(version.rows)
+}
 
 /// What is added to the number of a prelude's refusal.
 const OF_PRELUDE: u32 = 200;
@@ -84,14 +87,15 @@ fn last_scope(tree: &[Row], before: u32) -> Vec<Row> {
     rows
 }
 
-/// What is expected of a member.
-pub fn expected(comparison: &Comparison, prelude: &[Row], member: &[Row], choice: u64) -> Answer {
-    match comparison.oracle.answer(prelude, choice) {
+/// What is expected of a member, both forms of this version. Under rule set 1 the member is the last field of the tree, so that
+/// all of the prelude's are earlier.
+pub fn expected(comparison: &Comparison, version: Version, prelude: &[Row], member: &[Row], choice: u64) -> Answer {
+    match comparison.answer_as(version, prelude, choice) {
         Answer::Refused { number, place } => Answer::refused(OF_PRELUDE + number, place),
         Answer::Panicked => Answer::Panicked,
         Answer::Accepted(resolved) => {
             let inserted = resolved.iter().filter(|r| r.code == DECL && r.x >= FRESH).count() as u32;
-            match comparison.oracle.answer(&joined(prelude, member), choice) {
+            match comparison.answer_as(version, &joined(prelude, member), choice) {
                 Answer::Accepted(tree) => Answer::Accepted(last_scope(&tree, inserted)),
                 other => other,
             }
@@ -99,13 +103,13 @@ pub fn expected(comparison: &Comparison, prelude: &[Row], member: &[Row], choice
     }
 }
 
-/// What the output holds then.
-pub fn output(answer: &Answer, member: &[Row], old: &[u8]) -> Vec<u8> {
-    let size = output_size(member.len());
+/// What the output of a member with so many rows holds then.
+pub fn output(version: Version, answer: &Answer, member: usize, old: &[u8]) -> Vec<u8> {
+    let size = version.output_size(member);
     let mut out = old.to_vec();
     match answer {
         Answer::Accepted(rows) => {
-            let form = rows::encode(rows);
+            let form = version.encode(rows);
             out[..size].fill(0);
             out[..form.len()].copy_from_slice(&form);
         }
@@ -121,52 +125,47 @@ pub fn filled(len: usize, chance: &mut Chance) -> Vec<u8> {
     vec![byte; len]
 }
 
-/// A member that the crate can be asked for as a field of the prelude: its root's name is no component's there.
+/// Whether the crate can be asked for a member as a field of the prelude: its root's name is no component's there.
+fn is_askable(prelude: &[Row], member: &[Row]) -> bool {
+    member.first().is_none_or(|root| !has_component(prelude, root.x) && !has_component(member, root.x))
+}
+
+/// A member that the crate can be asked for so.
 pub fn askable(prelude: &[Row], mut member: Vec<Row>) -> Vec<Row> {
-    if has_component(prelude, member[0].x) || has_component(&member, member[0].x) {
+    if !is_askable(prelude, &member) {
         member[0].x = 0;
     }
     member
 }
 
-/// Whether both are within the limits of version 1.
-pub fn are_small(prelude: &[Row], member: &[Row]) -> bool {
-    prelude.len() <= 1023 && member.len() <= 1023 && depth(prelude) <= 32 && depth(member) <= 31
+/// Whether both are within the limits of a version.
+pub fn are_small(version: Version, prelude: &[Row], member: &[Row]) -> bool {
+    let most = version.rows;
+    let scopes = version.scopes;
+    prelude.len() <= most && member.len() <= most && depth(prelude) <= scopes && depth(member) < scopes
 }
 
-/// Resolves so many members, and prints a summary line; answers whether there was no difference.
-pub fn run(comparison: &Comparison, seed: u64, pairs: u64) -> bool {
+/// Resolves so many members, and prints a summary line; answers whether there was no difference. Where areas are lent the forms
+/// are of both versions and rule sets, and some are damaged.
+pub fn run(comparison: &Comparison, seed: u64, pairs: u64, lending: bool) -> bool {
     let mut found: BTreeMap<u32, u64> = BTreeMap::new();
-    let mut tried = 0;
-    let mut number = 0;
+    let mut lender = lending.then(Lender::new);
+    let (mut tried, mut number) = (0, 0);
     while tried < pairs {
         let mut chance = Chance::new(seed.rotate_left(32) ^ number);
         number += 1;
-        let (prelude, member) = pair(&comparison.shapes, &mut chance);
-        let member = askable(&prelude, member);
-        if !are_small(&prelude, &member) {
-            continue;
-        }
-        let answer = expected(comparison, &prelude, &member, chance.next());
+        let Some(asked) = Asked::drawn(comparison, &mut chance, lending) else { continue };
+        let answer = asked.expected(comparison, chance.next());
         if answer == Answer::Panicked {
             continue;
         }
         tried += 1;
-        let old = filled(output_size(member.len()) + chance.below(80), &mut chance);
-        let mut work = filled(WORK + chance.below(80), &mut chance);
-        let behind = work[WORK..].to_vec();
-        let mut out = old.clone();
-        let packed = library::member(&rows::encode(&prelude), &rows::encode(&member), &mut out, &mut work);
-        let clear = work[..WORK].iter().all(|b| *b == 0) && work[WORK..] == behind;
-        if packed != answer.packed() || out != output(&answer, &member, &old) || !clear {
-            println!("pair {} of seed {seed}: {packed:#x} and not {:#x}", number - 1, answer.packed());
-            println!("  {} rows of output, area cleared: {clear}", rows::decode(&out[..HEADER.max(out.len())]).len());
-            prelude.iter().for_each(|r| println!("  {r}"));
-            println!("  and the member");
-            member.iter().for_each(|r| println!("  {r}"));
+        if let Some(words) = asked.differs(&answer, lender.as_mut(), &mut chance) {
+            println!("pair {} of seed {seed}: {words}", number - 1);
+            asked.print();
             return false;
         }
-        *found.entry((packed >> 32) as u32).or_default() += 1;
+        *found.entry((answer.packed() >> 32) as u32).or_default() += 1;
     }
     for (refusal, members) in found {
         println!("{members} members: {}", if refusal == 0 { "accepted".into() } else { format!("refusal {refusal}") });
@@ -181,50 +180,117 @@ const LOOKED: u64 = 30_000;
 const FEW_ROWS: usize = 30;
 const EACH: usize = 4;
 
-/// A prelude and a member, damaged now and then, and the lengths of the output and the area.
+/// A prelude and a member, and the lengths of the output and the area, and of the tables where these are lent.
 struct Asked {
     prelude: Vec<u8>,
     member: Vec<u8>,
     room: usize,
     work: usize,
+    tables: Option<Lengths>,
 }
 
 impl Asked {
+    /// One for a vector: of version 1 and of few rows, damaged now and then, with enough room and too little.
     fn draw(comparison: &Comparison, chance: &mut Chance) -> Option<Asked> {
-        let (prelude, mut member) = pair(&comparison.shapes, chance);
-        if has_component(&prelude, member[0].x) || has_component(&member, member[0].x) {
-            member[0].x = 0;
-        }
+        let (prelude, member) = pair(&comparison.shapes, chance);
+        let member = askable(&prelude, member);
         if prelude.len() > FEW_ROWS || member.len() > FEW_ROWS {
             return None;
         }
         let enough = output_size(member.len());
         let room = if chance.percent(5) { chance.below(enough) } else { enough + chance.below(9) };
-        let work = if chance.percent(5) { chance.below(WORK) } else { WORK + chance.below(9) };
-        let spoilt = |rows: &[Row], chance: &mut Chance| {
-            if chance.percent(10) { damage(rows, chance) } else { rows::encode(rows) }
-        };
-        Some(Asked { prelude: spoilt(&prelude, chance), member: spoilt(&member, chance), room, work })
+        let size = work_for(FIRST);
+        let work = if chance.percent(5) { chance.below(size) } else { size + chance.below(9) };
+        let (prelude, member) = (sent(FIRST, &prelude, chance), sent(FIRST, &member, chance));
+        Some(Asked { prelude, member, room, work, tables: None })
+    }
+
+    /// One for a run, whose forms are within the limits.
+    fn drawn(comparison: &Comparison, chance: &mut Chance, lending: bool) -> Option<Asked> {
+        let version = lent::version(lending, chance);
+        let (prelude, member) = pair_of(version, comparison.shapes_of(version), chance);
+        let member = askable(&prelude, member);
+        if !are_small(version, &prelude, &member) {
+            return None;
+        }
+        let (enough, size) = (version.output_size(member.len()), work_for(version));
+        if !lending {
+            let (room, work) = (enough + chance.below(80), size + chance.below(80));
+            let (prelude, member) = (version.encode(&prelude), version.encode(&member));
+            return Some(Asked { prelude, member, room, work, tables: None });
+        }
+        let (room, work) = (lent::length(enough, chance), lent::length(size, chance));
+        let tables = Some(Needs::inside(version).lengths(chance));
+        let (prelude, member) = (sent(version, &prelude, chance), sent(version, &member, chance));
+        let can = is_askable(&asked_for(&prelude).decode(&prelude), &asked_for(&member).decode(&member));
+        can.then_some(Asked { prelude, member, room, work, tables })
+    }
+
+    /// The version that the prelude is read as.
+    fn version(&self) -> Version {
+        if self.tables.is_some() { asked_for(&self.prelude) } else { FIRST }
     }
 
     /// What is expected: by the recogniser for refusals 1 to 5 of either form, else by the crate.
-    fn expected(&self, comparison: &Comparison) -> Answer {
-        let area = if self.work < WORK { 0 } else { WORK };
-        let prelude = match recognise(&comparison.shapes, &self.prelude, area) {
+    fn expected(&self, comparison: &Comparison, choice: u64) -> Answer {
+        let version = self.version();
+        let size = work_for(version);
+        let met = self.tables.is_none_or(|lengths| Needs::inside(version).are_met(lengths));
+        let area = if met && self.work >= size { size } else { 0 };
+        let prelude = match recognise_as(version, comparison.shapes_of(version), &self.prelude, area) {
             Ok(prelude) => prelude,
             Err((number, place)) => return Answer::refused(OF_PRELUDE + number, place),
         };
-        if let Answer::Refused { number, place } = comparison.oracle.answer(&prelude, 0) {
+        if let Answer::Refused { number, place } = comparison.answer_as(version, &prelude, choice) {
             return Answer::refused(OF_PRELUDE + number, place);
         }
-        inside(comparison, &prelude, &self.member, self.room)
+        inside(comparison, version, &prelude, &self.member, self.room, choice)
+    }
+
+    /// What the library does otherwise than this answer wants it, if it does.
+    fn differs(&self, answer: &Answer, lender: Option<&mut Lender>, chance: &mut Chance) -> Option<String> {
+        let Asked { prelude, member, room, work, tables } = self;
+        let (version, old) = (self.version(), filled(*room, chance));
+        let (mut out, mut work) = (old.clone(), vec![FILLED; *work]);
+        let (packed, cleared) = match lender.zip(*tables) {
+            Some((lender, lengths)) => {
+                let call = |areas: &mut Areas| library::member_with(prelude, member, &mut out, &mut work, areas);
+                lender.call(Needs::inside(version), lengths, call)
+            }
+            None => (library::member(prelude, member, &mut out, &mut work), true),
+        };
+        let clear = cleared && is_cleared(&work, work_for(version), 0, FILLED);
+        let same = out == output(version, answer, version.count(member), &old);
+        let right = packed == answer.packed() && same && clear;
+        let words = || format!("{packed:#x}, wanted {:#x}; the output: {same}, the areas: {clear}", answer.packed());
+        (!right).then(words)
+    }
+
+    fn print(&self) {
+        let version = self.version();
+        println!("  lengths {} and {}, tables {:?}", self.room, self.work, self.tables);
+        version.decode(&self.prelude).iter().for_each(|r| println!("  {r}"));
+        println!("  and the member");
+        version.decode(&self.member).iter().for_each(|r| println!("  {r}"));
     }
 }
 
-/// What is expected of a member's bytes inside an accepted prelude.
-pub fn inside(comparison: &Comparison, prelude: &[Row], member: &[u8], room: usize) -> Answer {
-    match recognise_as(FIRST.one_scope_less(), &comparison.shapes, member, room) {
-        Ok(member) => expected(comparison, prelude, &member, 0),
+/// The bytes of a form, damaged now and then.
+fn sent(version: Version, rows: &[Row], chance: &mut Chance) -> Vec<u8> {
+    if chance.percent(10) { damage_as(version, rows, chance) } else { version.encode(rows) }
+}
+
+/// What is expected of a member's bytes inside an accepted prelude of this version.
+pub fn inside(
+    comparison: &Comparison,
+    version: Version,
+    prelude: &[Row],
+    member: &[u8],
+    room: usize,
+    choice: u64,
+) -> Answer {
+    match recognise_as(version.one_scope_less(), comparison.shapes_of(version), member, room) {
+        Ok(member) => expected(comparison, version, prelude, &member, choice),
         Err((number, place)) => Answer::refused(number, place),
     }
 }
@@ -239,19 +305,26 @@ pub fn vectors(comparison: &Comparison, seed: u64, sample: &mut Sample) {
     let root = rows::encode(&cases::deep(1)[0]);
     for form in (FIRST.scopes - 1..FIRST.scopes + 2).flat_map(cases::deep) {
         let (deep, room) = (rows::encode(&form), output_size(form.len()));
-        Asked { prelude: root.clone(), member: deep.clone(), room, work: WORK }.offer(comparison, sample);
-        Asked { prelude: deep, member: root.clone(), room, work: WORK }.offer(comparison, sample);
+        let asked = |prelude: &[u8], member: &[u8]| Asked {
+            prelude: prelude.to_vec(),
+            member: member.to_vec(),
+            room,
+            work: work_for(FIRST),
+            tables: None,
+        };
+        asked(&root, &deep).offer(comparison, sample);
+        asked(&deep, &root).offer(comparison, sample);
     }
 }
 
 impl Asked {
     fn offer(self, comparison: &Comparison, sample: &mut Sample) {
-        let answer = self.expected(comparison);
+        let answer = self.expected(comparison, 0);
         if answer == Answer::Panicked {
             return;
         }
-        let Asked { prelude, member, room, work } = self;
-        let out = output(&answer, &rows::decode(&member), &vec![FILLED; room]);
+        let Asked { prelude, member, room, work, .. } = self;
+        let out = output(FIRST, &answer, rows::decode(&member).len(), &vec![FILLED; room]);
         let aliases = match &answer {
             Answer::Accepted(rows) => rows.iter().filter(|row| row.code == DECL && row.x >= FRESH).count().min(2),
             _ => 0,
@@ -261,7 +334,7 @@ impl Asked {
             number: 0,
             answer: answer.packed(),
             inputs: vec![prelude, member],
-            lent: vec![Lent::holding(&out), Lent::cleared(work, WORK)],
+            lent: vec![Lent::holding(&out), Lent::cleared(work, work_for(FIRST))],
         };
         sample.offer([format!("{}, {aliases} aliases", said(vector.answer))], EACH, &vector);
     }

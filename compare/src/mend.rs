@@ -1,7 +1,9 @@
 //! A mender of its own, after request R-11: what becomes of a spoilt form, and the list of changes.
 
 use crate::recognise::read_within;
-use crate::rows::{CASE, CLOSE, DECL, EXPORT, FIELD, FIRST, OPEN, OUTER, PATH, REF, ROW, SECOND, Version};
+use crate::rows::{
+    CASE, CLOSE, DECL, EXPORT, FIELD, FIRST, NEWER, OPEN, OUTER, PATH, REF, ROW, RULES_AT, SECOND, Version,
+};
 use crate::shapes::Shapes;
 
 /// The fields whose e says something: a builtin's code, and whether an export has an ascribed type.
@@ -71,23 +73,18 @@ fn kept(rows: &[&[u8]]) -> (usize, usize) {
     (rows.len(), open)
 }
 
-/// The version and the rule set whose header a spoilt form begins with. Byte 5 of version 1 is mended, and so is not asked.
-fn header_of(form: &[u8]) -> Option<(Version, u8)> {
-    let begins = |version: Version| form.len() >= version.header && form[..5] == version.head(0, 0)[..5];
-    if begins(FIRST) {
-        Some((FIRST, 0))
-    } else if begins(SECOND) && form[5] < 2 {
-        Some((SECOND, form[5]))
-    } else {
-        None
-    }
+/// The version whose header a spoilt form begins with. Byte 5 of version 1 is mended, and so is not asked.
+fn header_of(form: &[u8]) -> Option<Version> {
+    let begins = |version: Version| form.len() >= version.header && form[..5] == version.head(0)[..5];
+    let asks = |version: Version| version == FIRST || form[RULES_AT] == version.rules;
+    [FIRST, SECOND, NEWER].into_iter().find(|version| begins(*version) && asks(*version))
 }
 
 /// The pieces of a form that begins as one of this version does: all that can change, in the form's order.
-fn pieces(version: Version, set: u8, form: &[u8]) -> Vec<Change> {
+fn pieces(version: Version, form: &[u8]) -> Vec<Change> {
     let rows: Vec<&[u8]> = form[version.header..].chunks_exact(ROW).collect();
     let (stay, open) = kept(&rows);
-    let head = version.head(stay + open, set);
+    let head = version.head(stay + open);
     let piece = |at: usize, before: &[u8], now: Vec<u8>| Change { at, before: before.to_vec(), now };
     let behind = 6 + version.counting;
     let mut all: Vec<Change> = [(5, 6), (6, behind), (behind, version.header)]
@@ -131,8 +128,8 @@ fn changed(form: &[u8], changes: &[Change]) -> Vec<u8> {
 
 /// A refusal, or the mended form and the changes. The shapes are those of the two rule sets.
 fn mended(shapes: &[Shapes; 2], form: &[u8], room: usize, space: usize) -> Result<(Vec<u8>, Vec<Change>), (u32, u32)> {
-    let (version, set) = header_of(form).ok_or((1, 0))?;
-    let mut changes = pieces(version, set, form);
+    let version = header_of(form).ok_or((1, 0))?;
+    let mut changes = pieces(version, form);
     changes.retain(|change| change.before != change.now);
     let now = changed(form, &changes);
     let rows = (now.len() - version.header) / ROW;
@@ -142,7 +139,7 @@ fn mended(shapes: &[Shapes; 2], form: &[u8], room: usize, space: usize) -> Resul
     if room < now.len() || space < listed(&changes).len() {
         return Err((3, 0));
     }
-    read_within(&shapes[usize::from(set)], &version.decode(&now), version.scopes)?;
+    read_within(&shapes[usize::from(version.rules)], &version.decode(&now), version.scopes)?;
     Ok((now, changes))
 }
 

@@ -5,10 +5,9 @@ use crate::cases;
 use crate::chance::Chance;
 use crate::compare::{Case, Comparison, after};
 use crate::damage::damage_as;
-use crate::generate;
-use crate::lent::{self, Lender, Lengths};
+use crate::lent::{self, Lender, Lengths, Needs};
 use crate::library;
-use crate::rows::{Answer, CLOSE, DECL, FIELD, FIRST, FIRST_INSERTED, OPEN, OUTER, PATH, REF, Row, SECOND, Version};
+use crate::rows::{Answer, CLOSE, DECL, FIELD, FIRST, FIRST_INSERTED, OPEN, OUTER, PATH, REF, Row, Version};
 use crate::vectors::{FILLED, Function, Lent, Sample, Vector, said};
 use std::collections::BTreeSet;
 
@@ -171,16 +170,16 @@ struct Wanted {
 }
 
 impl Asked {
-    /// One for the function that is lent areas, mostly of version 2, or for the other.
+    /// One for the function that is lent areas, or for the other.
     fn draw(comparison: &Comparison, chance: &mut Chance, lending: bool) -> Asked {
-        let version = if lending && chance.percent(80) { SECOND } else { FIRST };
-        let form = numbered(&generate::form_of(version, &comparison.shapes, chance.next()), chance);
+        let version = lent::version(lending, chance);
+        let form = numbered(&comparison.form_of(version, chance), chance);
         let longer =
             |chance: &mut Chance, share: usize| share + chance.below(20) - usize::from(chance.percent(3) && share > 0);
         let (moved, apart) = (longer(chance, 16 * form.len()), longer(chance, 12 * form.len()));
         let bytes = if chance.percent(3) { damage_as(version, &form, chance) } else { version.encode(&form) };
         let case = Case::new(bytes, chance);
-        Asked { case, moved, apart, areas: lending.then(|| lent::lengths(version, chance)) }
+        Asked { case, moved, apart, areas: lending.then(|| Needs::of(version).lengths(chance)) }
     }
 
     /// The version that the form is read as.
@@ -193,7 +192,7 @@ impl Asked {
         let Asked { case, moved, apart, areas } = self;
         let version = self.version();
         let count = version.count(&case.form);
-        let enough = areas.is_none_or(|lengths| lent::are_enough(version, lengths));
+        let enough = areas.is_none_or(|lengths| Needs::of(version).are_met(lengths));
         let room = if enough && *moved >= 16 * count && *apart >= 12 * count { case.out_len } else { 0 };
         let answer = comparison.expected_as(version, &Case { out_len: room, ..case.clone() });
         let out = after(&answer, &case.form, vec![FILLED; case.out_len]);
@@ -245,7 +244,8 @@ fn one(
     let [out, moved, apart] = &mut buffers;
     let (got, cleared) = match lender.zip(asked.areas) {
         Some((lender, lengths)) => {
-            lender.call(form, lengths, |areas| library::moved_with(form, out, moved, apart, areas))
+            let call = |areas: &mut library::Areas| library::moved_with(form, out, moved, apart, areas);
+            lender.call(Needs::of(asked.version()), lengths, call)
         }
         None => (library::moved(form, out, moved, apart), true),
     };
@@ -258,7 +258,7 @@ fn one(
 }
 
 /// Compares on so many forms; the first that differs is printed and ends the run. Where areas are lent the forms are of both
-/// versions.
+/// versions and rule sets.
 pub fn run(comparison: &Comparison, seed: u64, forms: u64, lending: bool) -> bool {
     let mut counts = Counts::default();
     let mut lender = lending.then(Lender::new);

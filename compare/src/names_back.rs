@@ -2,17 +2,23 @@
 
 use crate::chance::Chance;
 use crate::compare::Comparison;
-use crate::damage::damage;
-use crate::library;
+use crate::damage::{damage, damage_as};
+use crate::lent::{self, Lender, Needs, asked_for, is_cleared};
+use crate::library::{self, Note};
 use crate::moved::places;
-use crate::rows::{self, DECL, EXPORT, FIELD, FIRST_INSERTED, HEADER, OPEN, OUTER, PATH, REF, ROW, Row};
+use crate::rows::{self, DECL, EXPORT, FIELD, FIRST, FIRST_INSERTED, OPEN, OUTER, PATH, REF, Row, SECOND, Version};
 use crate::source;
 use crate::vectors::{FILLED, Function, Lent, Sample, Vector, said};
 
-/// The sizes of the working areas, and how much more is lent.
-const RESTORED: usize = 16_376;
-const AGAIN: usize = 65_480;
+/// The sizes of the working areas for version 1, and how much more is lent.
+const RESTORED: usize = FIRST.form_size(FIRST.rows);
+const AGAIN: usize = FIRST.output_size(FIRST.rows);
 const BEHIND: usize = 5;
+
+/// What the areas are filled with, and the output.
+const AREA: u8 = 0x5a;
+const NOTE: Note = [0x5a5a_5a5a; 2];
+const OUT: u8 = 0xa5;
 
 /// The answer to bytes of which no input is.
 const NO_INPUT: u64 = 14 << 32;
@@ -21,38 +27,81 @@ const NO_INPUT: u64 = 14 << 32;
 const TRIED: usize = 4_000;
 
 /// What gives the resolved form of an input, if it is accepted.
-type Resolver<'r> = &'r dyn Fn(&[u8]) -> Option<Vec<u8>>;
+type Resolver<'r> = &'r mut dyn FnMut(&[u8]) -> Option<Vec<u8>>;
 
-/// The resolved form by the library.
-fn resolved(form: &[u8]) -> Option<Vec<u8>> {
-    let mut out = vec![0; rows::output_size(rows::MOST_ROWS)];
-    let answer = library::resolve(form, &mut out);
-    if answer >> 32 != 0 {
-        return None;
+/// The library as a run calls it: by `wnt_unresolve` or, where areas are lent, by `wnt_unresolve_with`.
+struct Called {
+    lender: Option<Lender>,
+    restored: Vec<u8>,
+    again: Vec<u8>,
+    noted: Vec<Note>,
+}
+
+impl Called {
+    fn new(lending: bool) -> Called {
+        let most = if lending { SECOND } else { FIRST };
+        Called {
+            lender: lending.then(Lender::new),
+            restored: vec![AREA; most.form_size(most.rows) + BEHIND],
+            again: vec![AREA; most.output_size(most.rows) + BEHIND],
+            noted: vec![NOTE; 4 * most.rows + BEHIND],
+        }
     }
-    out.truncate(HEADER + ROW * answer as usize);
-    Some(out)
-}
 
-/// What the library gives for bytes: the answer, and the output, of which so much is lent. The areas must come back as the
-/// contract says.
-fn unresolved(claim: &[u8], room: usize) -> Option<(u64, Vec<u8>)> {
-    let mut out = vec![0xa5; room];
-    let (mut restored, mut again) = (vec![0x5a; RESTORED + BEHIND], vec![0x5a; AGAIN + BEHIND]);
-    let answer = library::unresolve(claim, &mut out, &mut restored, &mut again);
-    let is_clear = |area: &[u8], size: usize| {
-        area[..size].iter().all(|byte| *byte == 0) && area[size..].iter().all(|byte| *byte == 0x5a)
-    };
-    (is_clear(&restored, RESTORED) && is_clear(&again, AGAIN)).then_some((answer, out))
-}
+    /// The version that a form is read as.
+    fn version(&self, form: &[u8]) -> Version {
+        if self.lender.is_some() { asked_for(form) } else { FIRST }
+    }
 
-/// Whether the answer gives an input that resolves to the claim, and leaves what lies behind it.
-fn goes_round(claim: &[u8], answer: u64, out: &[u8]) -> bool {
-    let size = HEADER + ROW * answer as usize;
-    answer >> 32 == 0
-        && size <= out.len()
-        && out[size..].iter().all(|byte| *byte == 0xa5)
-        && resolved(&out[..size]).is_some_and(|again| again == claim)
+    /// The resolved form of an input, if it is accepted.
+    fn resolved(&mut self, form: &[u8]) -> Option<Vec<u8>> {
+        let version = self.version(form);
+        let mut out = vec![0; version.output_size(version.count(form).min(version.rows))];
+        let answer = lent::resolve(self.lender.as_mut(), version, form, &mut out);
+        if answer >> 32 != 0 {
+            return None;
+        }
+        out.truncate(version.form_size(answer as usize));
+        Some(out)
+    }
+
+    /// What the library gives for bytes: the answer, and the output, of which so much is lent. The areas, one of which may be
+    /// one element short, must come back as the contract says.
+    fn unresolved(&mut self, claim: &[u8], room: usize, short: Option<usize>) -> Option<(u64, Vec<u8>)> {
+        let version = self.version(claim);
+        let sizes = [version.form_size(version.rows), version.output_size(version.rows), 4 * version.rows];
+        let mut lengths = sizes.map(|size| size + BEHIND);
+        if let Some(one) = short {
+            lengths[one] = sizes[one] - 1;
+        }
+        let mut out = vec![OUT; room];
+        let (restored, again) = (&mut self.restored[..lengths[0]], &mut self.again[..lengths[1]]);
+        let noted = &mut self.noted[..lengths[2]];
+        restored.fill(AREA);
+        again.fill(AREA);
+        noted.fill(NOTE);
+        let (answer, cleared) = match &mut self.lender {
+            Some(lender) => {
+                let call = |areas: &mut library::Areas| {
+                    library::unresolve_with(claim, &mut out, restored, again, noted, areas)
+                };
+                let (answer, cleared) = lender.call_exactly(Needs::of(version), call);
+                (answer, cleared && is_cleared(noted, sizes[2], [0; 2], NOTE))
+            }
+            None => (library::unresolve(claim, &mut out, restored, again), true),
+        };
+        let clear = is_cleared(restored, sizes[0], 0, AREA) && is_cleared(again, sizes[1], 0, AREA);
+        (cleared && clear).then_some((answer, out))
+    }
+
+    /// Whether the answer gives an input that resolves to the claim, and leaves what lies behind it.
+    fn goes_round(&mut self, claim: &[u8], answer: u64, out: &[u8]) -> bool {
+        let size = self.version(claim).form_size(answer as usize);
+        answer >> 32 == 0
+            && size <= out.len()
+            && out[size..].iter().all(|byte| *byte == OUT)
+            && self.resolved(&out[..size]).is_some_and(|again| again == claim)
+    }
 }
 
 /// The rows with few places and small numbers, so that references and aliases are easily taken for one another.
@@ -156,8 +205,8 @@ fn versions(field: &[Row], waiting: &[Vec<Row>], names: &[u32]) -> Vec<Vec<Row>>
 
 /// Whether some input has these rows as its output; none if there are too many to try. Inserted fields are those with a fresh
 /// name. A written number can stand for every name that is found in its own scope, so that no more names are tried.
-fn has_input(claim: &[u8], resolved: Resolver) -> Option<bool> {
-    let all = rows::decode(claim);
+fn has_input(version: Version, claim: &[u8], resolved: Resolver) -> Option<bool> {
+    let all = version.decode(claim);
     let mut names: Vec<u32> = all.iter().filter(|row| row.code == DECL).map(|row| row.x).collect();
     names.retain(|name| (1..FIRST_INSERTED).contains(name));
     names.sort_unstable();
@@ -190,7 +239,7 @@ fn has_input(claim: &[u8], resolved: Resolver) -> Option<bool> {
         return Some(false);
     }
     extend(&mut inputs, &[all[at..].to_vec()]);
-    Some(inputs.iter().any(|rows| resolved(&rows::encode(rows)).is_some_and(|out| out == claim)))
+    Some(inputs.iter().any(|rows| resolved(&version.encode(rows)).is_some_and(|out| out == claim)))
 }
 
 // ---- the run
@@ -205,40 +254,51 @@ struct Counts {
 }
 
 /// An output that must go round; whether it did.
-fn try_output(claim: &[u8], chance: &mut Chance, counts: &mut Counts) -> bool {
+fn try_output(called: &mut Called, claim: &[u8], chance: &mut Chance, counts: &mut Counts) -> bool {
+    let version = called.version(claim);
     counts.inserted +=
-        rows::decode(claim).iter().filter(|row| row.code == DECL && row.x >= FIRST_INSERTED).count() as u64;
-    let Some((answer, out)) = unresolved(claim, RESTORED + chance.below(9)) else { return false };
-    if !goes_round(claim, answer, &out) {
+        version.decode(claim).iter().filter(|row| row.code == DECL && row.x >= FIRST_INSERTED).count() as u64;
+    let room = version.form_size(version.rows) + chance.below(9);
+    let Some((answer, out)) = called.unresolved(claim, room, None) else { return false };
+    if !called.goes_round(claim, answer, &out) {
         return false;
     }
     counts.round += 1;
-    // one byte too few
-    let size = HEADER + ROW * answer as usize;
-    matches!(unresolved(claim, size - 1), Some((answer, out)) if answer == 3 << 32 && out.iter().all(|byte| *byte == 0xa5))
+    // one byte too few, or one element of an area
+    let short = (called.lender.is_some() && chance.percent(10)).then(|| chance.below(3));
+    let room = version.form_size(answer as usize) - usize::from(short.is_none());
+    let Some((answer, out)) = called.unresolved(claim, room, short) else { return false };
+    answer == 3 << 32 && out.iter().all(|byte| *byte == OUT)
 }
 
 /// A damaged output; whether it was refused as it must be.
-fn try_damaged(claim: &[u8], counts: &mut Counts) -> bool {
+fn try_damaged(called: &mut Called, claim: &[u8], counts: &mut Counts) -> bool {
     counts.damaged += 1;
-    let Some((answer, out)) = unresolved(claim, RESTORED) else { return false };
-    let refused = answer == NO_INPUT && out.iter().all(|byte| *byte == 0xa5);
-    if answer == NO_INPUT && rows::decode(claim).len() <= 24 {
-        let Some(found) = has_input(claim, &resolved) else { return refused };
+    let version = called.version(claim);
+    let Some((answer, out)) = called.unresolved(claim, version.form_size(version.rows), None) else { return false };
+    let refused = answer == NO_INPUT && out.iter().all(|byte| *byte == OUT);
+    if answer == NO_INPUT && version.decode(claim).len() <= 24 {
+        let found = has_input(version, claim, &mut |form| called.resolved(form));
+        let Some(found) = found else { return refused };
         counts.searched += 1;
         return refused && !found;
     }
     counts.given += u64::from(answer >> 32 == 0);
-    refused || goes_round(claim, answer, &out)
+    refused || called.goes_round(claim, answer, &out)
 }
 
-/// Sends so many outputs round, with damaged ones beside them, and prints a summary line; answers whether all was right.
-pub fn run(comparison: &Comparison, seed: u64, outputs: u64) -> bool {
-    let mut counts = Counts::default();
+/// Sends so many outputs round, with damaged ones beside them, and prints a summary line; answers whether all was right. Where
+/// areas are lent they are of both versions and rule sets.
+pub fn run(comparison: &Comparison, seed: u64, outputs: u64, lending: bool) -> bool {
+    let (mut counts, mut called) = (Counts::default(), Called::new(lending));
     let mut number = 0;
     while counts.round < outputs {
         let mut chance = Chance::new(seed.rotate_left(17) ^ number);
-        let mut input = rows::decode(&source::random(&comparison.shapes, seed, number).1.form);
+        let version = lent::version(lending, &mut chance);
+        let mut input = match lending {
+            true => comparison.form_of(version, &mut chance),
+            false => rows::decode(&source::random(&comparison.shapes, seed, number).1.form),
+        };
         number += 1;
         if chance.percent(60) {
             crowded(&mut input, &mut chance);
@@ -246,13 +306,13 @@ pub fn run(comparison: &Comparison, seed: u64, outputs: u64) -> bool {
         if input.first().is_none_or(|row| row.code != OPEN) {
             continue;
         }
-        let Some(claim) = resolved(&rows::encode(&input)) else { continue };
-        let mut right = try_output(&claim, &mut chance, &mut counts);
-        let mut spoilt = rows::decode(&claim);
+        let Some(claim) = called.resolved(&version.encode(&input)) else { continue };
+        let mut right = try_output(&mut called, &claim, &mut chance, &mut counts);
+        let mut spoilt = version.decode(&claim);
         if chance.percent(50) {
             crowded(&mut spoilt, &mut chance);
         }
-        right = right && try_damaged(&damage(&spoilt, &mut chance), &mut counts);
+        right = right && try_damaged(&mut called, &damage_as(version, &spoilt, &mut chance), &mut counts);
         if !right {
             println!("form {} of seed {seed} does not go round, or is refused wrongly", number - 1);
             return false;
@@ -380,7 +440,7 @@ pub fn vectors(comparison: &Comparison, seed: u64, sample: &mut Sample) {
         let asked = Asked { claim, room: bytes.len() + chance.below(9), areas: exact, input: Some(bytes.clone()) };
         asked.offer(&shown(&input, &back), sample);
         let none = Asked { claim: spoilt, input: None, ..asked };
-        if has_input(&none.claim, &|form| comparison.resolved(form)) == Some(false) {
+        if has_input(FIRST, &none.claim, &mut |form| comparison.resolved(form)) == Some(false) {
             none.offer(&["no input"], sample);
         }
         let asked = Asked { claim: comparison.resolved(&bytes).expect("it goes round"), input: Some(bytes), ..none };

@@ -2,13 +2,13 @@
 //! R-8; and the same rows under rule set 0 beside the crate as it is.
 
 use crate::chance::Chance;
-use crate::compare::{Case, Comparison, after};
+use crate::compare::{Case, Comparison};
 use crate::damage::damage_as;
-use crate::lent::{Lender, Lengths, are_enough, asked_for, lengths};
-use crate::library;
-use crate::recognise::{Refusal, read_within, sized};
-use crate::rows::{Answer, Row, SECOND};
-use crate::shapes::Shapes;
+use crate::lent::{Lender, Lent, Needs};
+use crate::oracle::Oracle;
+use crate::recognise::{read_within, recognise_as};
+use crate::rows::{Answer, NEWER, RULES_AT, Row};
+pub use forms::{form, tame};
 use late::{Late, SLIPS, Slip};
 use outline::{Outline, Time};
 use std::collections::BTreeMap;
@@ -26,10 +26,6 @@ const NOT_EARLIER: u32 = 13;
 /// One of so many forms is damaged.
 const DAMAGED: u64 = 8;
 
-/// The rule set that a header asks for, and where it stands.
-const NEWER: u8 = 1;
-const RULES_AT: usize = 5;
-
 /// What the crate says of the rows of a form: its answer, carried back, and when it refuses.
 struct Asked {
     outline: Outline,
@@ -38,9 +34,9 @@ struct Asked {
 }
 
 impl Asked {
-    fn new(comparison: &Comparison, rows: &[Row], choice: u64) -> Asked {
+    fn new(oracle: &Oracle, rows: &[Row], choice: u64) -> Asked {
         let outline = Outline::of(rows);
-        match comparison.oracle.answer(&crate_form::asked(rows, &outline), choice) {
+        match oracle.answer(&crate_form::asked(rows, &outline), choice) {
             Answer::Accepted(out) => {
                 Asked { answer: Answer::Accepted(crate_form::back(rows, &out)), refused: None, outline }
             }
@@ -72,88 +68,47 @@ impl Asked {
     }
 }
 
-/// A form with its output, and the lengths of its areas.
-struct Lent {
-    case: Case,
-    lengths: Lengths,
+/// The answer of rule set 1 to the rows of a form, and the late name that is refused, if one is.
+pub fn answer(oracle: &Oracle, rows: &[Row], choice: u64) -> (Answer, Option<Late>) {
+    Asked::new(oracle, rows, choice).filtered(rows, Slip::None)
 }
 
-/// What a run needs besides the forms.
-struct Newer<'c> {
-    comparison: &'c Comparison,
-    shapes: Shapes,
+/// The answer that is expected, and the late name that is refused, if one is.
+fn expected(comparison: &Comparison, lent: &Lent) -> (Answer, Option<Late>) {
+    let (version, case) = lent.asked();
+    if version != NEWER {
+        return (comparison.expected_as(version, &case), None);
+    }
+    match recognise_as(NEWER, comparison.shapes_of(NEWER), &case.form, case.out_len) {
+        Ok(rows) => answer(&comparison.oracle, &rows, case.choice),
+        Err((number, place)) => (Answer::refused(number, place), None),
+    }
 }
 
-impl Newer<'_> {
-    /// The rows of a form of rule set 1 that can be resolved into an output of this length.
-    fn recognise(&self, form: &[u8], room: usize) -> Result<Vec<Row>, Refusal> {
-        let count = sized(SECOND, form)?;
-        if room < SECOND.output_size(count) {
-            return Err((3, 0));
-        }
-        let rows = SECOND.decode(form);
-        read_within(&self.shapes, &rows, SECOND.scopes).map(|()| rows)
+/// The form of this number under rule set 1, and whether it is damaged.
+fn drawn(comparison: &Comparison, seed: u64, number: u64) -> (Lent, bool) {
+    let mut chance = Chance::new(seed.rotate_left(32) ^ number ^ 0x52_3800);
+    let rows = comparison.form_of(NEWER, &mut chance);
+    let damaged = number % DAMAGED == 0;
+    let mut form = if damaged { damage_as(NEWER, &rows, &mut chance) } else { NEWER.encode(&rows) };
+    if let Some(rules) = form.get_mut(RULES_AT).filter(|rules| **rules == 0) {
+        *rules = NEWER.rules;
     }
+    let lengths = Needs::of(NEWER).lengths(&mut chance);
+    (Lent { case: Case::new(form, &mut chance), lengths }, damaged)
+}
 
-    /// The answer that is expected, and the late name that is refused, if one is.
-    fn expected(&self, lent: &Lent) -> (Answer, Option<Late>) {
-        let (case, newer) = (&lent.case, SECOND.begins(&lent.case.form, NEWER));
-        let version = if newer { SECOND } else { asked_for(&case.form) };
-        let room = if are_enough(version, lent.lengths) { case.out_len } else { 0 };
-        if !newer {
-            return (self.comparison.expected_as(version, &Case { out_len: room, ..case.clone() }), None);
-        }
-        match self.recognise(&case.form, room) {
-            Ok(rows) => Asked::new(self.comparison, &rows, case.choice).filtered(&rows, Slip::None),
-            Err((number, place)) => (Answer::refused(number, place), None),
-        }
+/// Whether the reading answers what is stated.
+fn stated_cases_hold(comparison: &Comparison) -> bool {
+    let answered = |rows: &[Row]| {
+        let case = Case { form: NEWER.encode(rows), out_len: usize::MAX, fill: 0, choice: 0 };
+        comparison.expected_as(NEWER, &case)
+    };
+    let wrong: Vec<_> = stated::cases().into_iter().filter(|case| answered(&case.rows) != case.answer).collect();
+    for case in &wrong {
+        println!("{}: stated {:?}, read {:?}", case.name, case.answer, answered(&case.rows));
     }
-
-    /// What differs on the library's side, if something does.
-    fn differs(&self, lender: &mut Lender, lent: &Lent, answer: &Answer) -> Option<&'static str> {
-        let form = &lent.case.form;
-        let mut out = lent.case.pattern();
-        let mut wanted = after(answer, form, out.clone());
-        let newer = SECOND.begins(form, NEWER);
-        if newer && matches!(answer, Answer::Accepted(_)) {
-            wanted[RULES_AT] = NEWER;
-        }
-        let version = if newer { SECOND } else { asked_for(form) };
-        let call = |areas: &mut library::Areas| library::resolve_with(form, &mut out, areas);
-        let (packed, cleared) = lender.call_as(version, lent.lengths, call);
-        match (packed == answer.packed(), out == wanted, cleared) {
-            (false, _, _) => Some("the answer"),
-            (_, false, _) => Some("the output"),
-            (_, _, false) => Some("a working area"),
-            _ => None,
-        }
-    }
-
-    /// The form of this number under rule set 1; its rows, and whether they are damaged.
-    fn form(&self, seed: u64, number: u64) -> (Vec<Row>, Lent, bool) {
-        let mut chance = Chance::new(seed.rotate_left(32) ^ number ^ 0x52_3800);
-        let rows = forms::form(&self.shapes, &mut chance);
-        let damaged = number % DAMAGED == 0;
-        let mut form = if damaged { damage_as(SECOND, &rows, &mut chance) } else { SECOND.encode(&rows) };
-        if let Some(rules) = form.get_mut(RULES_AT).filter(|rules| **rules == 0) {
-            *rules = NEWER;
-        }
-        let lengths = lengths(SECOND, &mut chance);
-        (rows, Lent { case: Case::new(form, &mut chance), lengths }, damaged)
-    }
-
-    /// Whether the reading answers what is stated.
-    fn stated_cases_hold(&self) -> bool {
-        let answered = |rows: &[Row]| match read_within(&self.shapes, rows, SECOND.scopes) {
-            Ok(()) => Asked::new(self.comparison, rows, 0).filtered(rows, Slip::None).0,
-            Err((number, place)) => Answer::refused(number, place),
-        };
-        let wrong: Vec<_> = stated::cases().into_iter().filter(|case| answered(&case.rows) != case.answer).collect();
-        for case in &wrong {
-            println!("{}: stated {:?}, read {:?}", case.name, case.answer, answered(&case.rows));
-        }
-        wrong.is_empty()
-    }
+    wrong.is_empty()
 }
 
 /// Counts of what a run has seen.
@@ -223,22 +178,21 @@ impl Tally {
 
 /// Compares on so many forms under rule set 1, and on the same rows under rule set 0; answers whether there was no difference.
 pub fn run(comparison: &Comparison, seed: u64, count: u64) -> bool {
-    let newer = Newer { comparison, shapes: Shapes::newer() };
-    if !newer.stated_cases_hold() {
+    if !stated_cases_hold(comparison) {
         return false;
     }
     let start = Instant::now();
     let (mut tally, mut today, mut lender) = (Tally::default(), Tally::default(), Lender::new());
     for number in 0..count {
-        let (_, lent, damaged) = newer.form(seed, number);
+        let (lent, damaged) = drawn(comparison, seed, number);
         let mut older = Lent { case: lent.case.clone(), lengths: lent.lengths };
-        if let Some(rules) = older.case.form.get_mut(RULES_AT).filter(|rules| **rules == NEWER) {
+        if let Some(rules) = older.case.form.get_mut(RULES_AT).filter(|rules| **rules == NEWER.rules) {
             *rules = 0;
         }
         for (lent, tally) in [(&lent, &mut tally), (&older, &mut today)] {
-            let (answer, late) = newer.expected(lent);
+            let (answer, late) = expected(comparison, lent);
             tally.count(&answer, late.as_ref());
-            if let Some(what) = newer.differs(&mut lender, lent, &answer) {
+            if let Some(what) = lent.differs(&mut lender, &answer) {
                 let Case { form, out_len, .. } = &lent.case;
                 println!(
                     "form {number}, damaged: {damaged}: {what} differs; output of {out_len}, areas of {:?}",
@@ -262,21 +216,20 @@ pub fn run(comparison: &Comparison, seed: u64, count: u64) -> bool {
 
 /// Reads so many forms under rule set 1 without the library; answers whether the stated cases hold and each deliberate error shows.
 pub fn read(comparison: &Comparison, seed: u64, count: u64) -> bool {
-    let newer = Newer { comparison, shapes: Shapes::newer() };
-    if !newer.stated_cases_hold() {
+    if !stated_cases_hold(comparison) {
         return false;
     }
     let mut tally = Tally::default();
     for number in 0..count {
-        let (_, lent, damaged) = newer.form(seed, number);
-        let (answer, late) = newer.expected(&lent);
+        let (lent, damaged) = drawn(comparison, seed, number);
+        let (answer, late) = expected(comparison, &lent);
         tally.count(&answer, late.as_ref());
         if damaged {
             continue;
         }
-        let rows = SECOND.decode(&lent.case.form);
-        match read_within(&newer.shapes, &rows, SECOND.scopes) {
-            Ok(()) => tally.try_slips(&Asked::new(comparison, &rows, lent.case.choice), &rows, number),
+        let rows = NEWER.decode(&lent.case.form);
+        match read_within(comparison.shapes_of(NEWER), &rows, NEWER.scopes) {
+            Ok(()) => tally.try_slips(&Asked::new(&comparison.oracle, &rows, lent.case.choice), &rows, number),
             Err((4, row)) => {
                 println!("form {number} was to be well-formed and is not, at row {row}");
                 return false;

@@ -1,6 +1,6 @@
 //! Refusals 1 to 5 of document 01: which bytes are a form, and where others stop being one.
 
-use crate::rows::{CLOSE, DECL, FIELD, FIRST, OPEN, REF, Row, Version};
+use crate::rows::{CLOSE, DECL, FIELD, OPEN, REF, Row, Version};
 use crate::shapes::{COMPONENT, Shape, Shapes, Want, allowed, sound_field, sound_path};
 
 /// A refusal number and its place.
@@ -29,14 +29,9 @@ enum Bad {
     Depth,
 }
 
-/// The rows of a form of version 1 that can be resolved into an output of this length.
-pub fn recognise(shapes: &Shapes, form: &[u8], out_len: usize) -> Result<Vec<Row>, Refusal> {
-    recognise_as(FIRST, shapes, form, out_len)
-}
-
-/// The same for a form of this version.
+/// The rows of a form of this version that can be resolved into an output of this length.
 pub fn recognise_as(version: Version, shapes: &Shapes, form: &[u8], out_len: usize) -> Result<Vec<Row>, Refusal> {
-    if !version.begins(form, 0) {
+    if !version.begins(form) {
         return Err((1, 0));
     }
     let count = sized(version, form)?;

@@ -16,41 +16,50 @@ pub const EXPORT: u8 = 9;
 pub const FIRST_INSERTED: u32 = 1 << 31;
 pub const HEADER: usize = 8;
 pub const ROW: usize = 16;
-pub const MOST_ROWS: usize = FIRST.rows;
 
-/// A version of the row form: its number, the length of its header and of the row count in it, its limits.
+/// A version of the row form under a rule set: their numbers, the length of the header and of the row count in it, the limits.
 #[derive(Clone, Copy, Debug, PartialEq, Eq)]
 pub struct Version {
     pub number: u8,
+    pub rules: u8,
     pub header: usize,
     pub counting: usize,
     pub rows: usize,
     pub scopes: usize,
 }
 
-pub const FIRST: Version = Version { number: 1, header: HEADER, counting: 2, rows: 1023, scopes: 32 };
-pub const SECOND: Version = Version { number: 2, header: 16, counting: 4, rows: 16_383, scopes: 64 };
+pub const FIRST: Version = Version { number: 1, rules: 0, header: HEADER, counting: 2, rows: 1023, scopes: 32 };
+pub const SECOND: Version = Version { number: 2, rules: 0, header: 16, counting: 4, rows: 16_383, scopes: 64 };
+/// The second version under the rule set of the newer tools.
+pub const NEWER: Version = Version { rules: 1, ..SECOND };
+
+/// Where a header states its rule set.
+pub const RULES_AT: usize = 5;
 
 impl Version {
-    /// The version whose number a form has; the first where it has neither.
+    /// The version whose number a form has, and rule set 1 if it states that; the first where it has neither number.
     pub fn of(form: &[u8]) -> Version {
-        if form.get(3..5) == Some(&[2, 0]) { SECOND } else { FIRST }
+        match (form.get(3..RULES_AT), form.get(RULES_AT)) {
+            (Some([2, 0]), Some(1)) => NEWER,
+            (Some([2, 0]), _) => SECOND,
+            _ => FIRST,
+        }
     }
 
-    /// A header that states this row count, which is cut if it does not fit, and this rule set.
-    pub fn head(self, count: usize, rules: u8) -> Vec<u8> {
+    /// A header that states this row count, which is cut if it does not fit.
+    pub fn head(self, count: usize) -> Vec<u8> {
         let mut bytes = b"WNT".to_vec();
-        bytes.extend([self.number, 0, rules]);
+        bytes.extend([self.number, 0, self.rules]);
         bytes.extend(&(count as u64).to_le_bytes()[..self.counting]);
         bytes.resize(self.header, 0);
         bytes
     }
 
-    /// Whether a form begins with a header of this version and rule set, whatever its row count is.
-    pub fn begins(self, form: &[u8], rules: u8) -> bool {
+    /// Whether a form begins with a header of this version, whatever its row count is.
+    pub fn begins(self, form: &[u8]) -> bool {
         let count = 6..6 + self.counting;
         form.len() >= self.header && {
-            let wanted = self.head(0, rules);
+            let wanted = self.head(0);
             (0..self.header).all(|at| count.contains(&at) || form[at] == wanted[at])
         }
     }
@@ -67,18 +76,18 @@ impl Version {
     }
 
     /// The bytes of a form of this many rows.
-    pub fn form_size(self, rows: usize) -> usize {
+    pub const fn form_size(self, rows: usize) -> usize {
         self.header + ROW * rows
     }
 
     /// How long an output must be for a form of this many rows.
-    pub fn output_size(self, rows: usize) -> usize {
+    pub const fn output_size(self, rows: usize) -> usize {
         self.header + 4 * ROW * rows
     }
 
     /// The bytes of a form with these rows.
     pub fn encode(self, rows: &[Row]) -> Vec<u8> {
-        let mut bytes = self.head(rows.len(), 0);
+        let mut bytes = self.head(rows.len());
         bytes.reserve(ROW * rows.len());
         for row in rows {
             row.encode_into(&mut bytes);

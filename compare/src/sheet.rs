@@ -2,11 +2,10 @@
 
 use crate::chance::Chance;
 use crate::compare::Comparison;
-use crate::generate;
-use crate::lent::{self, Lender, Lengths};
+use crate::lent::{self, Lender, Lengths, Needs, is_cleared};
 use crate::library;
 use crate::moved::{Scopes, numbered, places};
-use crate::rows::{DECL, FIELD, FIRST, FIRST_INSERTED, OUTER, REF, Row, SECOND, Version};
+use crate::rows::{DECL, FIELD, FIRST, FIRST_INSERTED, OUTER, REF, Row, Version};
 use crate::vectors::{FILLED, Function, Lent, Sample, Vector, said};
 
 /// The bytes of the working area.
@@ -137,10 +136,10 @@ struct Case {
 }
 
 impl Case {
-    /// One for the function that is lent more areas, mostly of version 2, or for the other.
+    /// One for the function that is lent more areas, or for the other.
     fn draw(comparison: &Comparison, chance: &mut Chance, lending: bool) -> Case {
-        let version = if lending && chance.percent(80) { SECOND } else { FIRST };
-        let mut form = placed(&generate::form_of(version, &comparison.shapes, chance.next()), chance);
+        let version = lent::version(lending, chance);
+        let mut form = placed(&comparison.form_of(version, chance), chance);
         if chance.percent(50) {
             form = numbered(&form, chance);
         }
@@ -155,13 +154,13 @@ impl Case {
         let claim = claimed(&bytes, resolved.as_deref().unwrap_or(&[]), chance);
         let room = (8 * count + chance.below(20)).saturating_sub(if chance.percent(5) { 20 } else { 0 });
         let work = if chance.percent(3) { chance.below(area(version)) } else { area(version) + chance.below(9) };
-        let areas = lending.then(|| lent::lengths(version, chance));
+        let areas = lending.then(|| Needs::of(version).lengths(chance));
         Case { version, form, resolved, claim, slots, sheet, room, work, areas }
     }
 
     /// Whether all working areas are large enough.
     fn can_work(&self) -> bool {
-        self.work >= area(self.version) && self.areas.is_none_or(|areas| lent::are_enough(self.version, areas))
+        self.work >= area(self.version) && self.areas.is_none_or(|areas| Needs::of(self.version).are_met(areas))
     }
 
     /// The answer by document 02, and the answers that are written.
@@ -259,14 +258,14 @@ fn one(
     let (got, cleared) = match lender.zip(case.areas) {
         Some((lender, lengths)) => {
             let read = library::Sheet { form: &form, resolved: &case.claim, sheet: &case.sheet };
-            lender.call(&form, lengths, |areas| library::sheet_with(&read, &mut answers, &mut work, areas))
+            let call = |areas: &mut library::Areas| library::sheet_with(&read, &mut answers, &mut work, areas);
+            lender.call(Needs::of(case.version), lengths, call)
         }
         None => (library::sheet(&form, &case.claim, &case.sheet, &mut answers, &mut work), true),
     };
     let (wanted, written) = case.wanted();
     counts.count(wanted, &written);
-    let zeroed = work.len().min(area(case.version));
-    let clean = work[..zeroed].iter().all(|byte| *byte == 0) && work[zeroed..].iter().all(|byte| *byte == FILLED);
+    let clean = is_cleared(&work, area(case.version), 0, FILLED);
     if got == wanted && answers == held(&written, case.room) && clean && cleared {
         return Ok(());
     }
@@ -276,7 +275,7 @@ fn one(
 }
 
 /// Compares on so many forms; the first that differs is printed and ends the run. Where more areas are lent the forms are of
-/// both versions.
+/// both versions and rule sets.
 pub fn run(comparison: &Comparison, seed: u64, forms: u64, lending: bool) -> bool {
     let mut counts = Counts::default();
     let mut lender = lending.then(Lender::new);

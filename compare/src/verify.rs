@@ -5,11 +5,10 @@ use crate::chance::Chance;
 use crate::claims::{Reading, Verdict, verdict_as};
 use crate::compare::{Case, Comparison};
 use crate::damage::damage_as;
-use crate::generate;
-use crate::lent::{self, Lender};
+use crate::lent::{self, Lender, Needs, is_cleared};
 use crate::library;
 use crate::partner::Partner;
-use crate::rows::{Answer, FIRST, HEADER, ROW, Row, SECOND, Version};
+use crate::rows::{Answer, FIRST, HEADER, ROW, Row, Version};
 use crate::vectors::{Function, Lent, Sample, Vector};
 use crate::wrong;
 use std::collections::BTreeMap;
@@ -19,7 +18,7 @@ pub const SLOTS: usize = 2046;
 pub const LINKS: usize = 3070;
 
 /// Their sizes for a version.
-fn sizes(version: Version) -> (usize, usize) {
+pub fn sizes(version: Version) -> (usize, usize) {
     (2 * version.rows, 1024 + 2 * version.rows)
 }
 
@@ -82,10 +81,10 @@ fn ours(version: Version, form: &[u8]) -> Vec<u8> {
 /// What a resolver writes.
 type Writes<'a> = &'a dyn Fn(Version, &[u8]) -> Vec<u8>;
 
-/// An input with a claim, where areas are lent mostly of version 2. Of an input that is refused any bytes will do.
+/// An input with a claim. Of an input that is refused any bytes will do.
 fn pair(comparison: &Comparison, writes: Writes, chance: &mut Chance, lending: bool) -> Pair {
-    let version = if lending && chance.percent(80) { SECOND } else { FIRST };
-    let rows = generate::form_of(version, &comparison.shapes, chance.next());
+    let version = lent::version(lending, chance);
+    let rows = comparison.form_of(version, chance);
     let form = if chance.percent(3) { damage_as(version, &rows, chance) } else { version.encode(&rows) };
     let version = if lending { lent::asked_for(&form) } else { FIRST };
     let input = Case { out_len: usize::MAX, ..Case::exact(form, chance) };
@@ -118,7 +117,7 @@ fn claim(
         }
         Kind::Others if chance.percent(50) => form.to_vec(),
         Kind::Others => {
-            let other = generate::form_of(version, &comparison.shapes, chance.next());
+            let other = comparison.form_of(version, chance);
             writes(version, &version.encode(&other))
         }
     }
@@ -130,7 +129,7 @@ pub fn areas(chance: &mut Chance) -> (usize, usize) {
 }
 
 /// The same for an input of this version.
-fn areas_of(version: Version, chance: &mut Chance) -> (usize, usize) {
+pub fn areas_of(version: Version, chance: &mut Chance) -> (usize, usize) {
     let (slots, links) = sizes(version);
     match chance.below(40) {
         0 => (slots - 1, links),
@@ -141,11 +140,6 @@ fn areas_of(version: Version, chance: &mut Chance) -> (usize, usize) {
     }
 }
 
-/// What an area holds after the call: zeros up to its size, and behind that what it held.
-pub fn left<T: Copy>(length: usize, size: usize, zero: T, held: T) -> Vec<T> {
-    (0..length).map(|at| if at < size { zero } else { held }).collect()
-}
-
 /// The verdict by the text where the areas are long enough or not: refusal 3 comes behind 1 and 2.
 fn expected(comparison: &Comparison, pair: &Pair, enough: bool) -> Verdict {
     let verdict = verdict_as(pair.version, comparison, &pair.input, &pair.claim);
@@ -153,9 +147,9 @@ fn expected(comparison: &Comparison, pair: &Pair, enough: bool) -> Verdict {
     if before || enough { verdict } else { Verdict::Refused { number: 3, place: 0 } }
 }
 
-/// Whether areas of these lengths are long enough for the pair.
-fn are_enough(pair: &Pair, slots: usize, links: usize) -> bool {
-    let (least_slots, least_links) = sizes(pair.version);
+/// Whether areas of these lengths are long enough for an input of this version.
+pub fn are_enough(version: Version, slots: usize, links: usize) -> bool {
+    let (least_slots, least_links) = sizes(version);
     slots >= least_slots && links >= least_links
 }
 
@@ -168,20 +162,20 @@ fn is_same(
 ) -> (Verdict, u64, bool) {
     let (slots, links) = areas_of(pair.version, chance);
     let (mut table, mut index) = (vec![SLOT; slots], vec![LINK; links]);
-    let (form, enough) = (&pair.input.form, are_enough(pair, slots, links));
+    let (form, enough) = (&pair.input.form, are_enough(pair.version, slots, links));
     let (found, cleared, enough) = match lender {
         Some(lender) => {
-            let lengths = lent::lengths(pair.version, chance);
+            let (needs, lengths) = (Needs::of(pair.version), Needs::of(pair.version).lengths(chance));
             let call =
                 |areas: &mut library::Areas| library::check_with(form, &pair.claim, &mut table, &mut index, areas);
-            let (found, cleared) = lender.call(form, lengths, call);
-            (found, cleared, enough && lent::are_enough(pair.version, lengths))
+            let (found, cleared) = lender.call(needs, lengths, call);
+            (found, cleared, enough && needs.are_met(lengths))
         }
         None => (library::check(form, &pair.claim, &mut table, &mut index), true, enough),
     };
     let wanted = expected(comparison, pair, enough);
     let (most, all) = sizes(pair.version);
-    let clean = cleared && table == left(slots, most, [0; 6], SLOT) && index == left(links, all, 0, LINK);
+    let clean = cleared && is_cleared(&table, most, [0; 6], SLOT) && is_cleared(&index, all, 0, LINK);
     (wanted, found, clean && found == wanted.packed())
 }
 
@@ -208,7 +202,7 @@ fn counted(verdict: Verdict) -> String {
 }
 
 /// Checks so many pairs, and prints a summary; answers whether there was no difference. Where areas are lent the inputs are of
-/// both versions.
+/// both versions and rule sets.
 pub fn run(comparison: &Comparison, seed: u64, pairs: u64, lending: bool) -> bool {
     let mut lender = lending.then(Lender::new);
     let mut tally: BTreeMap<(Kind, String), u64> = BTreeMap::new();
@@ -267,7 +261,7 @@ fn deep() -> Vec<Pair> {
 
 /// Takes a pair with areas of these lengths.
 fn offer(comparison: &Comparison, pair: Pair, (slots, links): (usize, usize), sample: &mut Sample) {
-    let verdict = expected(comparison, &pair, are_enough(&pair, slots, links));
+    let verdict = expected(comparison, &pair, are_enough(pair.version, slots, links));
     let vector = Vector {
         function: Function::Check,
         number: 0,

@@ -2,7 +2,7 @@
 
 use crate::chance::Chance;
 use crate::damage::damage_as;
-use crate::rows::{CLOSE, DECL, EXPORT, FIELD, FIRST_INSERTED, OPEN, OUTER, PATH, REF, Row, Version};
+use crate::rows::{CLOSE, DECL, EXPORT, FIELD, FIRST_INSERTED, OPEN, OUTER, PATH, REF, RULES_AT, Row, Version};
 
 /// The bytes of a claim after one change of a kind, now and then after two.
 pub fn spoilt(version: Version, claim: &[Row], input: &[Row], chance: &mut Chance) -> Vec<u8> {
@@ -172,7 +172,7 @@ fn header(version: Version, rows: &[Row], chance: &mut Chance) -> Vec<u8> {
     let zeros = version.header - (6 + version.counting);
     match chance.below(5 + usize::from(zeros > 0)) {
         0 => bytes[3] = 3 - version.number,
-        1 => bytes[5] = 1,
+        1 => bytes[RULES_AT] ^= 1,
         2 => bytes[6] = bytes[6].wrapping_add(1),
         3 => bytes.truncate(bytes.len() - 16),
         4 => bytes.truncate(chance.below(version.header + 1)),

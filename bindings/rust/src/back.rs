@@ -1,6 +1,7 @@
 //! Back to names: an input whose output a resolved form is.
 
-use crate::{Refusal, MAX_FORM_SIZE, MAX_OUT_SIZE};
+use crate::versions::rows_or_refusal;
+use crate::{Refusal, Version, WorkingArea, MAX_FORM_SIZE, MAX_OUT_SIZE};
 
 extern "C" {
     fn wnt_unresolve(
@@ -12,6 +13,28 @@ extern "C" {
         restored_len: usize,
         again: *mut u8,
         again_len: usize,
+    ) -> u64;
+    fn wnt_unresolve_with(
+        form: *const u8,
+        form_len: usize,
+        out: *mut u8,
+        out_len: usize,
+        restored: *mut u8,
+        restored_len: usize,
+        again: *mut u8,
+        again_len: usize,
+        noted: *mut [u32; 2],
+        noted_len: usize,
+        entered: *mut [u32; 6],
+        entered_len: usize,
+        names: *mut [u32; 6],
+        names_len: usize,
+        known: *mut u16,
+        known_len: usize,
+        chains: *mut u16,
+        chains_len: usize,
+        ends: *mut u32,
+        ends_len: usize,
     ) -> u64;
 }
 
@@ -55,9 +78,45 @@ pub fn unresolve_into(form: &[u8], out: &mut [u8], restored: &mut [u8], again: &
             again.len(),
         )
     };
-    let (number, rest) = ((answer >> 32) as u32, answer as u32);
-    match number {
-        0 => Ok(rest as usize),
-        _ => Err(Refusal::of(number, rest)),
-    }
+    rows_or_refusal(answer)
+}
+
+/// The same as [`unresolve`] for a resolved form of either version and rule set, in a working area that is lent: the input is
+/// one that [`resolve_with`](crate::resolve_with) turns into the very bytes of the form.
+///
+/// The other buffers have the room that is needed. So it is refused with [`Refusal::Room`] only if the form is of version 2
+/// and the area for version 1.
+pub fn unresolve_with(form: &[u8], area: &mut WorkingArea) -> Result<Vec<u8>, Refusal> {
+    let version = Version::of(form).unwrap_or(Version::One);
+    let most = version.max_rows();
+    let (mut out, mut restored) = (vec![0; version.form_size(most)], vec![0; version.form_size(most)]);
+    let (mut again, mut noted) = (vec![0; version.out_size(most)], vec![[0; 2]; 4 * most]);
+    // SAFETY: every buffer is valid for its length while the call lasts, and all that are written are borrowed alone, so
+    // that none overlaps another. The library keeps no pointer.
+    let answer = unsafe {
+        wnt_unresolve_with(
+            form.as_ptr(),
+            form.len(),
+            out.as_mut_ptr(),
+            out.len(),
+            restored.as_mut_ptr(),
+            restored.len(),
+            again.as_mut_ptr(),
+            again.len(),
+            noted.as_mut_ptr(),
+            noted.len(),
+            area.entered.as_mut_ptr(),
+            area.entered.len(),
+            area.names.as_mut_ptr(),
+            area.names.len(),
+            area.known.as_mut_ptr(),
+            area.known.len(),
+            area.chains.as_mut_ptr(),
+            area.chains.len(),
+            area.ends.as_mut_ptr(),
+            area.ends.len(),
+        )
+    };
+    out.truncate(version.form_size(rows_or_refusal(answer)?));
+    Ok(out)
 }

@@ -129,7 +129,7 @@ pub fn sheet_into(
     }
 }
 
-/// The same as [`sheet`] for forms of either version, in a working area that is lent. `resolved` must be what
+/// The same as [`sheet`] for forms of either version and rule set, in a working area that is lent. `resolved` must be what
 /// [`crate::resolve_with`] gives for `form`.
 ///
 /// It is refused with [`Refusal::Room`] also: the form is of version 2 and the area for version 1.

@@ -105,7 +105,7 @@ pub fn check_with(form: &[u8], claim: &[u8], table: &mut [[u32; 6]], index: &mut
     verdict(answer)
 }
 
-/// The same for an input of either version; the claim must have its header but for the count.
+/// The same for an input of either version and rule set; the claim must have its header but for the count.
 ///
 /// Its table and index have the sizes that the check needs. So it is refused with [`Refusal::Room`] only if the input is of
 /// version 2 and the working area for version 1.

@@ -1,6 +1,10 @@
 //! Resolving with fewer aliases.
 
-use crate::{form_size, out_size, rows_in, Refusal, CHECK_LINKS, CHECK_SLOTS};
+use crate::versions::rows_or_refusal;
+use crate::{
+    form_size, out_size, rows_in, Refusal, Version, WorkingArea, CHECK_LINKS, CHECK_LINKS_2, CHECK_SLOTS,
+    CHECK_SLOTS_2, ROW_SIZE,
+};
 
 extern "C" {
     fn wnt_share(
@@ -12,6 +16,28 @@ extern "C" {
         slots: usize,
         index: *mut u16,
         links: usize,
+    ) -> u64;
+    fn wnt_share_with(
+        form: *const u8,
+        form_len: usize,
+        out: *mut u8,
+        out_len: usize,
+        marked: *mut u8,
+        marked_len: usize,
+        table: *mut [u32; 6],
+        table_len: usize,
+        index: *mut u16,
+        index_len: usize,
+        entered: *mut [u32; 6],
+        entered_len: usize,
+        names: *mut [u32; 6],
+        names_len: usize,
+        known: *mut u16,
+        known_len: usize,
+        chains: *mut u16,
+        chains_len: usize,
+        ends: *mut u32,
+        ends_len: usize,
     ) -> u64;
 }
 
@@ -47,9 +73,47 @@ pub fn share_into(form: &[u8], out: &mut [u8], table: &mut [[u32; 6]], index: &m
             links,
         )
     };
-    let (number, rest) = ((answer >> 32) as u32, answer as u32);
-    match number {
-        0 => Ok(rest as usize),
-        _ => Err(Refusal::of(number, rest)),
-    }
+    rows_or_refusal(answer)
+}
+
+/// The same as [`share`] for a form of either version and rule set, in a working area that is lent.
+///
+/// It is refused as [`crate::resolve_with`] refuses it. Its other buffers have the room that the form needs.
+pub fn share_with(form: &[u8], area: &mut WorkingArea) -> Result<Vec<u8>, Refusal> {
+    let version = Version::of(form).unwrap_or(Version::One);
+    let (slots, links) = match version {
+        Version::One => (CHECK_SLOTS, CHECK_LINKS),
+        Version::Two => (CHECK_SLOTS_2, CHECK_LINKS_2),
+    };
+    let (mut table, mut index) = (vec![[0; 6]; slots], vec![0; links]);
+    let mut marked = vec![0; ROW_SIZE * version.max_rows()];
+    let mut out = vec![0; version.out_size(version.rows_in(form))];
+    // SAFETY: every buffer is valid for its length while the call lasts, and all that are written are borrowed alone, so
+    // that none overlaps another. The library keeps no pointer.
+    let answer = unsafe {
+        wnt_share_with(
+            form.as_ptr(),
+            form.len(),
+            out.as_mut_ptr(),
+            out.len(),
+            marked.as_mut_ptr(),
+            marked.len(),
+            table.as_mut_ptr(),
+            table.len(),
+            index.as_mut_ptr(),
+            index.len(),
+            area.entered.as_mut_ptr(),
+            area.entered.len(),
+            area.names.as_mut_ptr(),
+            area.names.len(),
+            area.known.as_mut_ptr(),
+            area.known.len(),
+            area.chains.as_mut_ptr(),
+            area.chains.len(),
+            area.ends.as_mut_ptr(),
+            area.ends.len(),
+        )
+    };
+    out.truncate(version.form_size(rows_or_refusal(answer)?));
+    Ok(out)
 }

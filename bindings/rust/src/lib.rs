@@ -1,11 +1,10 @@
 //! Resolves the names of a WebAssembly component, given as rows, into index numbers.
 //!
 //! A form is a header of 8 bytes and rows of 16 bytes; `docs/RULES.md` has both, and all rules. The work is done by
-//! `wnt_resolve` of the proved static library, whose answer and output are fixed for every input. This crate only lends
-//! it the buffers and puts its answer into a `Result`. Larger forms are of version 2, with a header of 16 bytes:
-//! [`resolve_with`] takes both versions, in a [`WorkingArea`], and [`convert`] goes from one to the other.
 //! `wnt_resolve_told` of the proved static library, whose answer and output are fixed for every input. This crate only lends
-//! it the buffers and puts its answer into a `Result`.
+//! it the buffers and puts its answer into a `Result`. Larger forms are of version 2, with a header of 16 bytes, and may ask
+//! for the rule set of the newer tools: [`resolve_with`] and the other functions with a [`WorkingArea`] take both versions
+//! and rule sets, and [`convert`] goes from one version to the other.
 //!
 //! ```
 //! // The empty component: its OPEN and its CLOSE. It has no names and is resolved to itself.
@@ -34,7 +33,7 @@ mod rows;
 mod space;
 mod versions;
 
-pub use back::{unresolve, unresolve_into};
+pub use back::{unresolve, unresolve_into, unresolve_with};
 pub use bindings::{
     sheet, sheet_bytes, sheet_into, sheet_with, Binding, Slot, ANSWER_SIZE, MAX_SLOTS, SHEET_AREA_SIZE, SLOT_SIZE,
 };
@@ -43,8 +42,10 @@ pub use claims::{
     check, check_either, check_either_with, check_with, Condition, Verdict, CHECK_LINKS, CHECK_LINKS_2, CHECK_SLOTS,
     CHECK_SLOTS_2,
 };
-pub use fewer::{share, share_into};
-pub use members::{batch, batch_into, meant, member, Batch, Meant, Of, Refused, MAX_MEMBERS};
+pub use fewer::{share, share_into, share_with};
+pub use members::{
+    batch, batch_into, batch_into_with, batch_with, meant, member, member_with, Batch, Meant, Of, Refused, MAX_MEMBERS,
+};
 pub use mending::{mend, Change};
 pub use numbers::{moved, moved_with, Apart, Moved, Numbers};
 pub use refusal::Refusal;

@@ -1,6 +1,7 @@
 //! Members inside a prelude: one of them resolved, a batch of them, and which declaration a name means.
 
-use crate::{form_size, out_size, rows_in, Refusal, HEADER_SIZE, MAX_OUT_SIZE, ROW_SIZE};
+use crate::versions::rows_or_refusal;
+use crate::{out_size, rows_in, Refusal, Version, WorkingArea, HEADER_SIZE, MAX_OUT_SIZE, ROW_SIZE};
 
 /// What the library adds to the number of a prelude's refusal.
 const OF_PRELUDE: u32 = 200;
@@ -31,6 +32,50 @@ extern "C" {
         answers_len: usize,
     ) -> u64;
     fn wnt_meant(prelude: *const u8, prelude_len: usize, member: *const u8, member_len: usize, row: u32) -> u64;
+    fn wnt_member_with(
+        prelude: *const u8,
+        prelude_len: usize,
+        member: *const u8,
+        member_len: usize,
+        out: *mut u8,
+        out_len: usize,
+        work: *mut u8,
+        work_len: usize,
+        entered: *mut [u32; 6],
+        entered_len: usize,
+        names: *mut [u32; 6],
+        names_len: usize,
+        known: *mut u16,
+        known_len: usize,
+        chains: *mut u16,
+        chains_len: usize,
+        ends: *mut u32,
+        ends_len: usize,
+    ) -> u64;
+    fn wnt_batch_with(
+        prelude: *const u8,
+        prelude_len: usize,
+        members: *const u8,
+        members_len: usize,
+        lengths: *const u32,
+        lengths_len: usize,
+        out: *mut u8,
+        out_len: usize,
+        outs: *mut u8,
+        outs_len: usize,
+        answers: *mut u8,
+        answers_len: usize,
+        entered: *mut [u32; 6],
+        entered_len: usize,
+        names: *mut [u32; 6],
+        names_len: usize,
+        known: *mut u16,
+        known_len: usize,
+        chains: *mut u16,
+        chains_len: usize,
+        ends: *mut u32,
+        ends_len: usize,
+    ) -> u64;
 }
 
 /// The form in which a declaration stands.
@@ -71,12 +116,55 @@ pub fn member(prelude: &[u8], member: &[u8]) -> Result<Vec<u8>, Refused> {
             work.len(),
         )
     };
+    let rows = rows_or_refused(answer)?;
+    out.truncate(Version::One.form_size(rows));
+    Ok(out)
+}
+
+/// The same for a prelude and a member of either version and rule set, in a working area of
+/// [`WorkingArea::for_members`] that is lent. A member whose version or rule set is not the prelude's is refused with
+/// [`Refusal::Header`].
+///
+/// The other buffers have the room that is needed. So the prelude is refused with [`Refusal::Room`] only if the area is too
+/// small for its version.
+pub fn member_with(prelude: &[u8], member: &[u8], area: &mut WorkingArea) -> Result<Vec<u8>, Refused> {
+    let version = Version::of(prelude).unwrap_or(Version::One);
+    let mut out = vec![0; version.out_size(version.rows_in(member))];
+    let mut work = vec![0; version.out_size(version.max_rows())];
+    // SAFETY: every buffer is valid for its length while the call lasts, and all that are written are borrowed alone, so
+    // that none overlaps another. The library keeps no pointer.
+    let answer = unsafe {
+        wnt_member_with(
+            prelude.as_ptr(),
+            prelude.len(),
+            member.as_ptr(),
+            member.len(),
+            out.as_mut_ptr(),
+            out.len(),
+            work.as_mut_ptr(),
+            work.len(),
+            area.entered.as_mut_ptr(),
+            area.entered.len(),
+            area.names.as_mut_ptr(),
+            area.names.len(),
+            area.known.as_mut_ptr(),
+            area.known.len(),
+            area.chains.as_mut_ptr(),
+            area.chains.len(),
+            area.ends.as_mut_ptr(),
+            area.ends.len(),
+        )
+    };
+    let rows = rows_or_refused(answer)?;
+    out.truncate(version.form_size(rows));
+    Ok(out)
+}
+
+/// The rows of a member that an answer says, or which form is refused.
+fn rows_or_refused(answer: u64) -> Result<usize, Refused> {
     let (number, rest) = ((answer >> 32) as u32, answer as u32);
     match number {
-        0 => {
-            out.truncate(form_size(rest as usize));
-            Ok(out)
-        }
+        0 => Ok(rest as usize),
         OF_PRELUDE.. => Err(Refused { of: Of::Prelude, why: Refusal::of(number - OF_PRELUDE, rest) }),
         _ => Err(Refused { of: Of::Member, why: Refusal::of(number, rest) }),
     }
@@ -102,25 +190,40 @@ pub struct Batch {
 /// A refusal is that of the prelude, or [`Refusal::RowCount`] where there is no member or more than [`MAX_MEMBERS`]. What
 /// a member comes to depends on the prelude and on the member alone.
 pub fn batch(prelude: &[u8], members: &[&[u8]]) -> Result<Batch, Refusal> {
-    let lengths: Vec<u32> = members.iter().map(|member| member.len().try_into().unwrap_or(u32::MAX)).collect();
-    let share = members.iter().map(|member| out_size(rows_in(member))).max().unwrap_or(0);
-    let mut out = vec![0; out_size(rows_in(prelude))];
-    let mut outs = vec![0; share * members.len()];
-    let mut answers = vec![0; ANSWER * members.len()];
-    let rows = batch_into(prelude, &members.concat(), &lengths, &mut out, &mut outs, &mut answers)?;
-    out.truncate(form_size(rows));
-    let each = outs.chunks(share).zip(answers.chunks(ANSWER));
-    let members = each.map(|(out, answer)| resolved(out, u64::from_le_bytes(answer.try_into().unwrap()))).collect();
-    Ok(Batch { prelude: out, members })
+    batch_as(Version::One, prelude, members, batch_into)
 }
 
-/// The form in a member's share, or its refusal.
-fn resolved(share: &[u8], answer: u64) -> Result<Vec<u8>, Refusal> {
-    let (number, rest) = ((answer >> 32) as u32, answer as u32);
-    match number {
-        0 => Ok(share[..form_size(rest as usize)].to_vec()),
-        _ => Err(Refusal::of(number, rest)),
-    }
+/// The same for forms of either version and rule set, each member as [`member_with`] does, in a working area of
+/// [`WorkingArea::for_members`] that is lent. A member whose version or rule set is not the prelude's is refused with
+/// [`Refusal::Header`], and the prelude with [`Refusal::Room`] if the area is too small for its version.
+pub fn batch_with(prelude: &[u8], members: &[&[u8]], area: &mut WorkingArea) -> Result<Batch, Refusal> {
+    let version = Version::of(prelude).unwrap_or(Version::One);
+    batch_as(version, prelude, members, |prelude, members, lengths, out, outs, answers| {
+        batch_into_with(prelude, members, lengths, out, outs, answers, area)
+    })
+}
+
+/// A batch of this version, which is resolved into lent buffers by `into`.
+fn batch_as(
+    version: Version,
+    prelude: &[u8],
+    members: &[&[u8]],
+    into: impl FnOnce(&[u8], &[u8], &[u32], &mut [u8], &mut [u8], &mut [u8]) -> Result<usize, Refusal>,
+) -> Result<Batch, Refusal> {
+    let lengths: Vec<u32> = members.iter().map(|member| member.len().try_into().unwrap_or(u32::MAX)).collect();
+    let needed = |form: &[u8]| version.out_size(version.rows_in(form));
+    let share = members.iter().map(|member| needed(member)).max().unwrap_or(0);
+    let mut out = vec![0; needed(prelude)];
+    let mut outs = vec![0; share * members.len()];
+    let mut answers = vec![0; ANSWER * members.len()];
+    let rows = into(prelude, &members.concat(), &lengths, &mut out, &mut outs, &mut answers)?;
+    out.truncate(version.form_size(rows));
+    let resolved = |(share, answer): (&[u8], &[u8])| {
+        let rows = rows_or_refusal(u64::from_le_bytes(answer.try_into().expect("eight bytes are eight")))?;
+        Ok(share[..version.form_size(rows)].to_vec())
+    };
+    let members = outs.chunks(share).zip(answers.chunks(ANSWER)).map(resolved).collect();
+    Ok(Batch { prelude: out, members })
 }
 
 /// Resolves a prelude into `out`, and members into equal shares of `outs`, and gives the number of rows of the prelude.
@@ -153,11 +256,48 @@ pub fn batch_into(
             answers.len(),
         )
     };
-    let (number, rest) = ((answer >> 32) as u32, answer as u32);
-    match number {
-        0 => Ok(rest as usize),
-        _ => Err(Refusal::of(number, rest)),
-    }
+    rows_or_refusal(answer)
+}
+
+/// The same for forms of either version and rule set, in a working area of [`WorkingArea::for_members`] that is lent.
+pub fn batch_into_with(
+    prelude: &[u8],
+    members: &[u8],
+    lengths: &[u32],
+    out: &mut [u8],
+    outs: &mut [u8],
+    answers: &mut [u8],
+    area: &mut WorkingArea,
+) -> Result<usize, Refusal> {
+    // SAFETY: every buffer is valid for its length while the call lasts, and all that are written are borrowed alone, so
+    // that none overlaps another. The library keeps no pointer.
+    let answer = unsafe {
+        wnt_batch_with(
+            prelude.as_ptr(),
+            prelude.len(),
+            members.as_ptr(),
+            members.len(),
+            lengths.as_ptr(),
+            lengths.len(),
+            out.as_mut_ptr(),
+            out.len(),
+            outs.as_mut_ptr(),
+            outs.len(),
+            answers.as_mut_ptr(),
+            answers.len(),
+            area.entered.as_mut_ptr(),
+            area.entered.len(),
+            area.names.as_mut_ptr(),
+            area.names.len(),
+            area.known.as_mut_ptr(),
+            area.known.len(),
+            area.chains.as_mut_ptr(),
+            area.chains.len(),
+            area.ends.as_mut_ptr(),
+            area.ends.len(),
+        )
+    };
+    rows_or_refusal(answer)
 }
 
 /// A declaration that a name means.

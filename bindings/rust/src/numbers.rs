@@ -95,7 +95,7 @@ pub fn moved(form: &[u8]) -> Result<Numbers, Refusal> {
     Ok(Numbers { resolved: out, moved, apart })
 }
 
-/// The same for a form of either version, in a working area that is lent.
+/// The same for a form of either version and rule set, in a working area that is lent.
 ///
 /// The buffers have the room that the form needs. So it is refused with [`Refusal::Room`] only if the form is of version 2
 /// and the area for version 1.

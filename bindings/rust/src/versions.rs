@@ -92,8 +92,8 @@ impl Version {
     }
 }
 
-/// What [`resolve_with`] and the other functions for both versions work in: two tables, the index of each, and the ends of fields. It can be used for any number of
-/// calls, and is zero after each.
+/// What [`resolve_with`] and the other functions for both versions and rule sets work in: two tables, the index of each, and the
+/// ends of fields. It can be used for any number of calls, and is zero after each.
 #[derive(Clone, Debug)]
 pub struct WorkingArea {
     pub(crate) entered: Vec<Slot>,
@@ -106,18 +106,30 @@ pub struct WorkingArea {
 impl WorkingArea {
     /// An area for forms of that version: 61,440 bytes for the first, 983,040 for the second, which serves both.
     pub fn new(version: Version) -> WorkingArea {
+        WorkingArea::with_more(version, 0)
+    }
+
+    /// An area for members inside a prelude too, whose root is then among their names: 88,064 bytes for the first version,
+    /// 1,409,024 for the second. [`member_with`](crate::member_with) and [`batch_with`](crate::batch_with) need it, and it
+    /// serves every other function as well.
+    pub fn for_members(version: Version) -> WorkingArea {
+        WorkingArea::with_more(version, version.max_rows() + 1)
+    }
+
+    /// An area whose second table has so many slots more.
+    fn with_more(version: Version, more: usize) -> WorkingArea {
         let slots = version.max_rows() + 1;
         WorkingArea {
             entered: vec![[0; 6]; slots],
-            names: vec![[0; 6]; slots],
+            names: vec![[0; 6]; slots + more],
             known: vec![0; 2 * slots],
-            chains: vec![0; 2 * slots],
+            chains: vec![0; 2 * slots + more],
             ends: vec![0; slots],
         }
     }
 }
 
-/// Resolves a form of either version and gives the resolved one, of the same version, without anything behind it.
+/// Resolves a form of either version and rule set and gives the resolved one, of the same, without anything behind it.
 ///
 /// Its output has the room that the form needs. So it is refused with [`Refusal::Room`] only if the form is of version 2
 /// and the area for version 1.
@@ -129,7 +141,7 @@ pub fn resolve_with(form: &[u8], area: &mut WorkingArea) -> Result<Vec<u8>, Refu
     Ok(out)
 }
 
-/// Resolves a form of either version into `out` and gives the number of rows written.
+/// Resolves a form of either version and rule set into `out` and gives the number of rows written.
 ///
 /// What `out` needs, and what it holds afterwards, is as for [`resolve_into`](crate::resolve_into), with the sizes of the
 /// form's version.
@@ -172,7 +184,7 @@ pub fn convert(form: &[u8], version: Version) -> Result<Vec<u8>, Refusal> {
 }
 
 /// The rows that an answer says, or its refusal.
-fn rows_or_refusal(answer: u64) -> Result<usize, Refusal> {
+pub(crate) fn rows_or_refusal(answer: u64) -> Result<usize, Refusal> {
     let (number, rest) = ((answer >> 32) as u32, answer as u32);
     match number {
         0 => Ok(rest as usize),

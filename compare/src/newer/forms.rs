@@ -1,11 +1,11 @@
 //! Random forms of version 2 for rule set 1, rich in names that are late at every place, and in names that are just in time.
 
-use super::crate_form::heap_type;
+use super::crate_form::heap_before_path;
 use super::late::{Looked, Slip, Stands, instance_space, is_here_only, late};
 use super::outline::Outline;
 use crate::chance::Chance;
 use crate::generate;
-use crate::rows::{DECL, FIELD, OUTER, REF, Row, SECOND};
+use crate::rows::{DECL, FIELD, NEWER, OUTER, REF, Row};
 use crate::shapes::{COMPONENT, Shapes};
 use std::collections::HashMap;
 
@@ -22,7 +22,7 @@ fn names(rows: &[Row], outline: &Outline) -> Names {
 
 /// The rows of a form, well-formed under rule set 1 though it may be too long or too deep.
 pub fn form(shapes: &Shapes, chance: &mut Chance) -> Vec<Row> {
-    let mut rows = generate::form_of(SECOND, shapes, chance.next());
+    let mut rows = generate::form_of(NEWER, shapes, chance.next());
     let outline = Outline::of(&rows);
     let names = names(&rows, &outline);
     let turned = chance.pick(&[0, 10, 30, 60]);
@@ -31,14 +31,21 @@ pub fn form(shapes: &Shapes, chance: &mut Chance) -> Vec<Row> {
             turn(&mut rows, at, &outline, &names, chance);
         }
     }
+    tame(&mut rows, chance);
+    rows
+}
+
+/// Puts names that are in time, or numbers, for most of the late ones, so that a run comes further.
+pub fn tame(rows: &mut [Row], chance: &mut Chance) {
+    let outline = Outline::of(rows);
+    let names = names(rows, &outline);
     let left = chance.pick(&[0, 0, 2, 10, 40, 100]);
-    for late in late(&outline, &rows, Slip::None) {
+    for late in late(&outline, rows, Slip::None) {
         if !chance.percent(left) {
-            mend(&mut rows, late.row, &outline, &names, chance);
+            mend(rows, late.row, &outline, &names, chance);
         }
     }
-    number_heap_types(&mut rows, &outline);
-    rows
+    number_heap_types(rows, &outline);
 }
 
 /// Whether a field stands where it is wanted: before, in or behind the one in which a name lies.
@@ -116,11 +123,11 @@ fn mend(rows: &mut [Row], at: usize, outline: &Outline, names: &Names, chance: &
     }
 }
 
-/// Heap types of resources in the scopes of types become numbers: the crate cannot be asked for a name there.
+/// Heap types of resources before a path become numbers in the scopes of types: the crate cannot be asked for a name there.
 fn number_heap_types(rows: &mut [Row], outline: &Outline) {
     for at in 0..rows.len() {
         let in_type = outline.scopes[outline.scope_of[at]].kind != COMPONENT;
-        if rows[at].code == FIELD && in_type && heap_type(rows, at) == Some(true) {
+        if rows[at].code == FIELD && in_type && heap_before_path(rows, at) {
             (rows[at + 2].e, rows[at + 2].x) = (0, 3);
         }
     }

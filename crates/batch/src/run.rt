@@ -21,7 +21,7 @@ ghost use Rattle.limits.specs.Held.{setting};
 ghost use Rattle.batching.specs.Batch.{preludeOf, afterPrelude, sharesAfter};
 ghost use Rattle.batching.specs.BatchBytes.{cut, packedBatch, answersAfter};
 ghost use Rattle.batching.specs.BatchCalls.{batchCall, batchLeaves};
-ghost use Rattle.inside.specs.Areas.{SuitsIf};
+ghost use Rattle.inside.specs.Areas.{SuitsIf, Same};
 
 // The prelude, of the setting at place i, into its own output, `resolved`, and if it is not refused the members.
 fn resolve_all(
@@ -89,6 +89,7 @@ pub fn batch_in(
     requires { ⌜ SuitsIf i (length (now resolved)) (now entered) (now names) (now known) (now chains) (now ends) ⌝ }
     ensures { λ r. ⌜ r ≡ batchCall (setting i ∷ []) false (now (prelude .entry)) (now (members .entry)) (now (lengths .entry)) (record { prelude = now (resolved .entry); outs = now (outs .entry); answers = now (answers .entry) }) ⌝ }
     ensures { λ _. ⌜ record { prelude = now (resolved .exit); outs = now (outs .exit); answers = now (answers .exit) } ≡ batchLeaves (setting i ∷ []) false (now (prelude .entry)) (now (members .entry)) (now (lengths .entry)) (record { prelude = now (resolved .entry); outs = now (outs .entry); answers = now (answers .entry) }) ⌝ }
+    ensures { λ _. ⌜ Same (now (entered .entry)) (now (entered .exit)) (now (names .entry)) (now (names .exit)) (now (known .entry)) (now (known .exit)) (now (chains .entry)) (now (chains .exit)) (now (ends .entry)) (now (ends .exit)) ⌝ }
 {
     if are_bad(lengths, members) {
         return refused(ROW_COUNT);

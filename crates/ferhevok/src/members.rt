@@ -1,8 +1,11 @@
 // The C functions for members inside a prelude.
 use batch::run::batch;
+use batch_with::batch_with;
 use meant::Declared;
 use meant::meant_at;
 use member::member as resolve_member;
+use member_with::run::member_with;
+use names::Slot;
 use packed::packed_refusal;
 ghost use mathlib.Core.Path.{_≡_};
 ghost use mathlib.Core.Bool.{false};
@@ -10,6 +13,9 @@ ghost use lib.Dec.{ltb};
 ghost use lib.ListN.{length};
 ghost use Rattle.rules.specs.Versions.{base};
 ghost use Rattle.batching.specs.BatchCalls.{memberCall, memberLeaves, batchCall, batchLeaves, cleared};
+ghost use Rattle.resolver_with.specs.Served.{served, asked};
+ghost use Rattle.resolver_with.specs.Areas.{lentOf};
+ghost use Rattle.member_with.specs.Areas.{areaFor, isSmall, shortWith, TablesCleared};
 ghost use Rattle.ferhevok.specs.Meant.{packedDeclared, meantRow};
 
 // The highest row that a form can number.
@@ -47,6 +53,38 @@ pub extern "C" fn wnt_member(prelude: &[u8], member: &[u8], out: &mut [u8], work
     packed_refusal(resolve_member(prelude, member, out, work))
 }
 
+// The same of any version and rule set, in working areas that are lent. After every return all of them are zero up to the sizes of the
+// prelude's version.
+#[no_mangle]
+pub extern "C" fn wnt_member_with(
+    prelude: &[u8],
+    member: &[u8],
+    out: &mut [u8],
+    work: &mut [u8],
+    entered: &mut [Slot],
+    names: &mut [Slot],
+    known: &mut [u16],
+    chains: &mut [u16],
+    ends: &mut [u32],
+) -> u64
+    ensures { λ r. ⌜ r ≡ memberCall served (shortWith (now (prelude .entry)) (length (now (work .entry))) (lentOf (now (entered .entry)) (now (names .entry)) (now (known .entry)) (now (chains .entry)) (now (ends .entry)))) (now (prelude .entry)) (areaFor (asked (now (prelude .entry)) .version)) (now (member .entry)) (length (now (out .entry))) ⌝ }
+    ensures { λ _. ⌜ now (out .exit) ≡ memberLeaves served (shortWith (now (prelude .entry)) (length (now (work .entry))) (lentOf (now (entered .entry)) (now (names .entry)) (now (known .entry)) (now (chains .entry)) (now (ends .entry)))) (now (prelude .entry)) (areaFor (asked (now (prelude .entry)) .version)) (now (member .entry)) (now (out .entry)) ⌝ }
+    ensures { λ _. ⌜ now (work .exit) ≡ cleared 0 (areaFor (asked (now (prelude .entry)) .version)) (now (work .entry)) ⌝ }
+    ensures { λ _. ⌜ TablesCleared (asked (now (prelude .entry)) .version) (now (entered .entry)) (now (entered .exit)) (now (names .entry)) (now (names .exit)) (now (known .entry)) (now (known .exit)) (now (chains .entry)) (now (chains .exit)) (now (ends .entry)) (now (ends .exit)) ⌝ }
+{
+    packed_refusal(member_with(
+        prelude,
+        member,
+        out,
+        work,
+        entered,
+        names,
+        known,
+        chains,
+        ends,
+    ))
+}
+
 // Resolves a batch: the prelude into `resolved`, and each member into its share of `outs`.
 #[no_mangle]
 pub extern "C" fn wnt_batch(
@@ -61,4 +99,39 @@ pub extern "C" fn wnt_batch(
     ensures { λ _. ⌜ record { prelude = now (resolved .exit); outs = now (outs .exit); answers = now (answers .exit) } ≡ batchLeaves base false (now (prelude .entry)) (now (members .entry)) (now (lengths .entry)) (record { prelude = now (resolved .entry); outs = now (outs .entry); answers = now (answers .entry) }) ⌝ }
 {
     batch(prelude, members, lengths, resolved, outs, answers)
+}
+
+// The same of any version and rule set, in tables that are lent. After every return they are zero up to the sizes of the prelude's
+// version.
+#[no_mangle]
+pub extern "C" fn wnt_batch_with(
+    prelude: &[u8],
+    members: &[u8],
+    lengths: &[u32],
+    resolved: &mut [u8],
+    outs: &mut [u8],
+    answers: &mut [u8],
+    entered: &mut [Slot],
+    names: &mut [Slot],
+    known: &mut [u16],
+    chains: &mut [u16],
+    ends: &mut [u32],
+) -> u64
+    ensures { λ r. ⌜ r ≡ batchCall served (isSmall (asked (now (prelude .entry)) .version) (lentOf (now (entered .entry)) (now (names .entry)) (now (known .entry)) (now (chains .entry)) (now (ends .entry)))) (now (prelude .entry)) (now (members .entry)) (now (lengths .entry)) (record { prelude = now (resolved .entry); outs = now (outs .entry); answers = now (answers .entry) }) ⌝ }
+    ensures { λ _. ⌜ record { prelude = now (resolved .exit); outs = now (outs .exit); answers = now (answers .exit) } ≡ batchLeaves served (isSmall (asked (now (prelude .entry)) .version) (lentOf (now (entered .entry)) (now (names .entry)) (now (known .entry)) (now (chains .entry)) (now (ends .entry)))) (now (prelude .entry)) (now (members .entry)) (now (lengths .entry)) (record { prelude = now (resolved .entry); outs = now (outs .entry); answers = now (answers .entry) }) ⌝ }
+    ensures { λ _. ⌜ TablesCleared (asked (now (prelude .entry)) .version) (now (entered .entry)) (now (entered .exit)) (now (names .entry)) (now (names .exit)) (now (known .entry)) (now (known .exit)) (now (chains .entry)) (now (chains .exit)) (now (ends .entry)) (now (ends .exit)) ⌝ }
+{
+    batch_with(
+        prelude,
+        members,
+        lengths,
+        resolved,
+        outs,
+        answers,
+        entered,
+        names,
+        known,
+        chains,
+        ends,
+    )
 }

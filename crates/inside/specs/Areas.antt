@@ -27,3 +27,11 @@ pub record Suits (i : ℕ) (e n : List Slot) (k c m : List ℕ) : Type 0 where
 -- the same where the form whose root it is has room to be resolved; where it has none, no form is walked inside it
 abbrev pub SuitsIf : (i room : ℕ) (e n : List Slot) (k c m : List ℕ) → Type 0
 SuitsIf i room e n k c m = 0 < room → Suits i e n k c m
+
+-- the tables come back as long as they were
+pub record Same (e e′ n n′ : List Slot) (k k′ c c′ m m′ : List ℕ) : Type 0 where
+  pub entered : length e′ ≡ length e
+  pub names : length n′ ≡ length n
+  pub known : length k′ ≡ length k
+  pub chains : length c′ ≡ length c
+  pub ends : length m′ ≡ length m

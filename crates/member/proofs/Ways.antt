@@ -173,7 +173,7 @@ pub suits-same : (i : ℕ) (e n e′ n′ : List Slot) (k c m k′ c′ m′ : L
 suits-same i e n e′ n′ k c m k′ c′ m′ suits p q r s t =
     record { entered = p ∙ suits .entered; names = q ∙ suits .names; known = r ∙ suits .known; chains = s ∙ suits .chains; ends = t ∙ suits .ends }
 
-none-long : (l : List ℕ) → length l ≡ 0 → l ≡ []
+pub none-long : (l : List ℕ) → length l ≡ 0 → l ≡ []
 none-long [] e = refl
 none-long (x ∷ l) e = absurd (omega arith)
 

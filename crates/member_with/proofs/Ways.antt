@@ -31,10 +31,10 @@ use Rattle.resolver_with.specs.Areas.{slotsFor, linksFor, lentOf, roomy, cleare
 use Rattle.resolver_with.specs.With.{Ran}
 use Rattle.resolver_with.proofs.Asked.{setting-asked}
 use Rattle.resolver_with.proofs.Runs.{able-at}
-use Rattle.inside.specs.Areas.{bothFor, chainsFor, SuitsIf}
+use Rattle.inside.specs.Areas.{bothFor, chainsFor, SuitsIf, Same}
 use Rattle.inside.specs.Run.{Resolves}
 use Rattle.member.proofs.Ways.{told-low, told-answers, told-stays, inside-answers, inside-leaves, lent-ran, lent-left, as-answered, as-left, as-cleared}
-use Rattle.member_with.specs.Areas.{areaFor, isSmall, shortWith, TablesCleared, Large, Same, SameArea}
+use Rattle.member_with.specs.Areas.{areaFor, isSmall, shortWith, TablesCleared, Large, SameArea}
 
 -- ---- are_small, clear_tables
 
@@ -130,10 +130,10 @@ module _ (i room : ℕ) (e n : List Slot) (k c m : List ℕ) (se sn sk sc sm a b
         ends = front-is _ sm g m pm eg (s .1);
       }
 
-  pub tables-left : (e₁ e′ n₁ n′ : List Slot) (k₁ k′ c₁ c′ m₁ m′ : List ℕ) → Same (take a e) e₁ (take b n) n₁ (take d k) k₁ (take f c) c₁ (take g m) m₁
-      → TablesCleared (setting i .version) (e₁ ++ drop a e) e′ (n₁ ++ drop b n) n′ (k₁ ++ drop d k) k′ (c₁ ++ drop f c) c′ (m₁ ++ drop g m) m′
+  pub tables-left : (e₁ e′ n₁ n′ : List Slot) (k₁ k′ c₁ c′ m₁ m′ : List ℕ) → TablesCleared (setting i .version) (e₁ ++ drop a e) e′ (n₁ ++ drop b n) n′ (k₁ ++ drop d k) k′ (c₁ ++ drop f c) c′ (m₁ ++ drop g m) m′
+      → Same (take a e) e₁ (take b n) n₁ (take d k) k₁ (take f c) c₁ (take g m) m₁
       → TablesCleared (setting i .version) e e′ n n′ k k′ c c′ m m′
-  tables-left e₁ e′ n₁ n′ k₁ k′ c₁ c′ m₁ m′ same t =
+  tables-left e₁ e′ n₁ n′ k₁ k′ c₁ c′ m₁ m′ t same =
       record {
         entered = recleared emptySlot _ se a e e₁ e′ pe ea (same .entered) (t .entered);
         names = recleared emptySlot _ sn b n n₁ n′ pn eb (same .names) (t .names);
@@ -159,7 +159,7 @@ module _ (i size work : ℕ) (is : size ≡ areaFor (setting i .version)) (small
 -- ---- member_with
 
 -- there is no room where a table is too small
-not-small : (x small : Bool) (size : ℕ) → 0 < roomWith (x || small) size → small ≡ false
+pub not-small : (x small : Bool) (size : ℕ) → 0 < roomWith (x || small) size → small ≡ false
 unfolding roomWith if_then_else_
 not-small true true size h = absurd (omega arith)
 not-small false true size h = absurd (omega arith)
@@ -173,6 +173,10 @@ one-answer prelude work member room = rw (setting-asked prelude)
 one-writes : (prelude : List ℕ) (work : ℕ) (member old : List ℕ) → memberOutput served prelude work member old ≡ memberOutput (asked prelude ∷ []) prelude work member old
 unfolding memberOutput
 one-writes prelude work member old = rw (setting-asked prelude)
+
+-- the tables go by what the prelude asks for
+pub tables-asked : (i : ℕ) (prelude : List ℕ) → setting i ≡ asked prelude → (e e′ n n′ : List Slot) (k k′ c c′ m m′ : List ℕ) → TablesCleared (setting i .version) e e′ n n′ k k′ c c′ m m′ → TablesCleared (asked prelude .version) e e′ n n′ k k′ c c′ m m′
+tables-asked i prelude asks e e′ n n′ k k′ c c′ m m′ t = subst (λ (s : Setting). TablesCleared (s .version) e e′ n n′ k k′ c c′ m m′) asks t
 
 module _ (i : ℕ) (prelude : List ℕ) (asks : setting i ≡ asked prelude) (work : List ℕ) (e n : List Slot) (k c m : List ℕ) (small : Bool) (tested : small ≡ isSmall (setting i .version) (lentOf e n k c m)) (room : ℕ)
     (is : room ≡ roomWith (ltb (length work) (areaFor (setting i .version)) || small) (areaFor (setting i .version))) (less : room ≤ length work) where
@@ -206,6 +210,3 @@ module _ (i : ℕ) (prelude : List ℕ) (asks : setting i ≡ asked prelude) (wo
       → work′ ≡ calls.cleared 0 (areaFor (asked prelude .version)) work
   with-cleared area work′ size q fits same h =
       as-cleared work area work′ room size less (omega (arith, q, fits)) (same .long) h ∙ ap (λ (x : ℕ). calls.cleared 0 x work) (q ∙ ap (λ (s : Setting). areaFor (s .version)) asks)
-
-  pub with-tables : (e′ n′ : List Slot) (k′ c′ m′ : List ℕ) → TablesCleared (setting i .version) e e′ n n′ k k′ c c′ m m′ → TablesCleared (asked prelude .version) e e′ n n′ k k′ c c′ m m′
-  with-tables e′ n′ k′ c′ m′ t = subst (λ (s : Setting). TablesCleared (s .version) e e′ n n′ k k′ c c′ m m′) asks t

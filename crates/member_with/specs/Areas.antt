@@ -40,14 +40,6 @@ pub record TablesCleared (v : Version) (e e′ n n′ : List Slot) (k k′ c c�
 abbrev pub Large : (i room : ℕ) → areas.Lent → Type 0
 Large i room l = 0 < room → isSmall (setting i .version) l ≡ false
 
--- the tables come back as long as they were
-pub record Same (e e′ n n′ : List Slot) (k k′ c c′ m m′ : List ℕ) : Type 0 where
-  pub entered : length e′ ≡ length e
-  pub names : length n′ ≡ length n
-  pub known : length k′ ≡ length k
-  pub chains : length c′ ≡ length c
-  pub ends : length m′ ≡ length m
-
--- and so does the prelude's area
+-- the prelude's area comes back as long as it was
 pub record SameArea (l l′ : List ℕ) : Type 0 where
   pub long : length l′ ≡ length l

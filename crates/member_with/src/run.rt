@@ -28,8 +28,8 @@ ghost use Rattle.batching.specs.BatchCalls.{roomWith, cleared};
 ghost use Rattle.resolver.specs.Meaning.{numbers, ruled};
 ghost use Rattle.resolver_with.specs.Served.{served, asked};
 ghost use Rattle.resolver_with.specs.Areas.{lentOf};
-ghost use Rattle.inside.specs.Areas.{SuitsIf};
-ghost use Rattle.member_with.specs.Areas.{areaFor, shortWith, TablesCleared, Large, Same, SameArea};
+ghost use Rattle.inside.specs.Areas.{SuitsIf, Same};
+ghost use Rattle.member_with.specs.Areas.{areaFor, shortWith, TablesCleared, Large, SameArea};
 
 // The prelude, of the setting at place i, is resolved into `area`, and the member inside its root into `out`. There is no area where a
 // table is too small.

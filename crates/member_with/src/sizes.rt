@@ -13,21 +13,21 @@ ghost use Rattle.inside.specs.Areas.{bothFor, chainsFor};
 ghost use Rattle.member_with.specs.Areas.{areaFor, isSmall, TablesCleared};
 
 // How many slots the table of names has for a form of the setting at place i inside a root.
-pub(crate) fn both_for(i: usize) -> usize
+pub fn both_for(i: usize) -> usize
     ensures { λ r. ⌜ (r ≡ bothFor (setting i .version)) × (r ≤ 32768) ⌝ }
 {
     2 * slots_for(i)
 }
 
 // How many numbers the index of that table has.
-pub(crate) fn chains_for(i: usize) -> usize
+pub fn chains_for(i: usize) -> usize
     ensures { λ r. ⌜ (r ≡ chainsFor (setting i .version)) × (r ≤ 49152) ⌝ }
 {
     3 * slots_for(i)
 }
 
 // The bytes of the area in which a prelude is resolved: as many as its version's longest output takes.
-pub(crate) fn area_for(i: usize) -> usize
+pub fn area_for(i: usize) -> usize
     ensures { λ r. ⌜ r ≡ areaFor (setting i .version) ⌝ }
 {
     let slots = slots_for(i);
@@ -35,7 +35,7 @@ pub(crate) fn area_for(i: usize) -> usize
 }
 
 // Whether one of the tables is below its size, by their lengths.
-pub(crate) fn are_small(
+pub fn are_small(
     i: usize,
     entered: usize,
     names: usize,
@@ -53,7 +53,7 @@ pub(crate) fn are_small(
 }
 
 // The tables are handed back empty.
-pub(crate) fn clear_tables(
+pub fn clear_tables(
     i: usize,
     entered: &mut [Slot],
     names: &mut [Slot],

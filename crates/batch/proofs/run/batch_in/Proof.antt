@@ -1,4 +1,6 @@
 -- `batch::run::batch_in` meets its contract.
+use mathlib.Core.Path.{refl}
+use native.Mathlib.Omega.{arith}
 use borrow.Author.Needs.{needs}
 use Rattle.batch.proofs.Ways.{wholes}
 use Rattle.batch.proofs.run.batch_in.Statement.{statement}
@@ -10,11 +12,11 @@ batch-in-spec =
     (tie.spec
     (λ c κs. search needs)  -- are-bad-requires
     (λ c κs. search needs)  -- refused-requires
-    (λ c. (search wholes, search wholes))  -- returns
+    (λ c. (search wholes, (search wholes, record { entered = refl; names = refl; known = refl; chains = refl; ends = refl })))  -- returns
     (λ c κs. search needs)  -- is-short-requires
     (λ c κs. search needs)  -- refused-requires-2
     (λ c. search needs)  -- same-length
-    (λ c. (search wholes, search wholes))  -- returns-2
+    (λ c. (search wholes, (search wholes, record { entered = refl; names = refl; known = refl; chains = refl; ends = refl })))  -- returns-2
     (λ c κs. (search wholes, search wholes, c .before .before .before .before .before .before .before .before .before .before .before .before .before .before .before .before .before .before .before .before .before .before .pre))  -- resolve-all-requires
     (λ c. search needs)  -- same-length-2
     (λ c. search needs)  -- same-length-3
@@ -24,4 +26,4 @@ batch-in-spec =
     (λ c. search needs)  -- same-length-7
     (λ c. search needs)  -- same-length-8
     (λ c. search needs)  -- same-length-9
-    (λ c. (search wholes, search wholes)))  -- returns-3
+    (λ c. (search wholes, (search wholes, record { entered = omega (arith, c .before .before .before .before .before .before .before .entered .given); names = omega (arith, c .before .before .before .before .before .before .names .given); known = omega (arith, c .before .before .before .before .before .known .given); chains = omega (arith, c .before .before .before .chains .given); ends = omega (arith, c .before .ends .given) }))))  -- returns-3
