@@ -426,10 +426,11 @@ uint64_t wnt_check(const uint8_t *form, size_t form_len, const uint8_t *claim, s
                    size_t table_len, uint16_t *index, size_t index_len);
 
 /* The same for an input of version 1 or 2 under either rule set, to whose header but for the count the claim's must be equal
- * (else WNT_NO_FORM, row 0). Under rule set 1 the input's refusals are those of wnt_resolve_with, 13 among them; of the claim
- * nothing more is asked than under rule set 0. `table` and `index` have the sizes of the input's version; the areas of
- * wnt_resolve_with come besides, for the steps on the input. An area that is too small is refusal 3 as above, and after every
- * return all seven are zero up to their sizes for that version; a header of no version and rule set counts as version 1 there:
+ * (else WNT_NO_FORM, row 0). Under rule set 1 the input's refusals are those of wnt_resolve_with, 13 among them, and the claim
+ * has to be a form of that rule set; that its aliases stand before what uses them is asked under neither. `table` and `index`
+ * have the sizes of the input's version; the areas of wnt_resolve_with come besides, for the steps on the input. An area that
+ * is too small is refusal 3 as above, and after every return all seven are zero up to their sizes for that version; a header
+ * of no version and rule set counts as version 1 there:
  *
  *     wnt_check_with(form, form_len, claim, claim_len, table, WNT_CHECK_SLOTS_2, index, WNT_CHECK_LINKS_2,
  *                    WNT_LENT(&work)) */
