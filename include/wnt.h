@@ -167,11 +167,11 @@ static inline const char *wnt_text(uint32_t number)
 }
 
 /* The stack that is enough for any call. Measured on x86-64 (compare/stack.c) at the driver of the examples and at 32 open
- * scopes: wnt_resolve 66,552 and 92,416 bytes, wnt_resolve_told 66,584 and 92,448, wnt_moved 66,632 and 92,496, wnt_sheet
- * 66,664 and 92,528, wnt_check 71,672 and 97,536, wnt_share 120,984 and 146,848, wnt_unresolve 128,232 and 154,096,
- * wnt_mend 5,607, wnt_compare 5,744, wnt_convert 5,600, wnt_meant 576; at the driver in itself and at 31 open scopes
- * wnt_member 94,768 and 116,272, wnt_batch 94,800 and 116,304. The functions whose tables are lent take 8,240 to 8,416
- * bytes at the driver, and at the 64 scopes of version 2 at most 58,192. It does not depend on the rows. */
+ * scopes: wnt_resolve 67,248 and 97,324 bytes, wnt_resolve_told 67,280 and 97,356, wnt_moved 67,328 and 97,404, wnt_sheet
+ * 67,360 and 97,436, wnt_check 67,376 and 97,452, wnt_share 116,608 and 146,684, wnt_unresolve 128,552 and 158,700,
+ * wnt_mend 5,783, wnt_compare 5,832, wnt_convert 5,688, wnt_meant 576; at the driver in itself and at 31 open scopes
+ * wnt_member 155,280 and 184,348, wnt_batch 96,520 and 124,860. The functions whose tables are lent take 7,320 to 14,008
+ * bytes at the driver, and at the 64 scopes of version 2 at most 71,948. It does not depend on the rows. */
 #define WNT_STACK_SIZE 196608
 
 /* The answer's upper half: one of the numbers above. */
@@ -257,7 +257,7 @@ struct wnt_work_2 {
  * with fewer elements than its size for that version is refusal 3, as an output that is too short. What the areas hold
  * before does not matter. After every return, refusals too, each is zero up to its size for the form's version, or to its
  * end where it is shorter, and unchanged beyond; a header of no version and rule set counts as version 1 there. No area may
- * overlap another buffer. A call takes less than 64 KiB of stack. */
+ * overlap another buffer. A call takes less than 72 KiB of stack. */
 uint64_t wnt_resolve_with(const uint8_t *form, size_t form_len, uint8_t *out, size_t out_len, wnt_slot *entered,
                           size_t entered_len, wnt_slot *names, size_t names_len, uint16_t *known, size_t known_len,
                           uint16_t *chains, size_t chains_len, uint32_t *ends, size_t ends_len);
@@ -426,10 +426,11 @@ uint64_t wnt_check(const uint8_t *form, size_t form_len, const uint8_t *claim, s
                    size_t table_len, uint16_t *index, size_t index_len);
 
 /* The same for an input of version 1 or 2 under either rule set, to whose header but for the count the claim's must be equal
- * (else WNT_NO_FORM, row 0). Under rule set 1 the input's refusals are those of wnt_resolve_with, 13 among them; of the claim
- * nothing more is asked than under rule set 0. `table` and `index` have the sizes of the input's version; the areas of
- * wnt_resolve_with come besides, for the steps on the input. An area that is too small is refusal 3 as above, and after every
- * return all seven are zero up to their sizes for that version; a header of no version and rule set counts as version 1 there:
+ * (else WNT_NO_FORM, row 0). Under rule set 1 the input's refusals are those of wnt_resolve_with, 13 among them, and the claim
+ * has to be a form of that rule set; that its aliases stand before what uses them is asked under neither. `table` and `index`
+ * have the sizes of the input's version; the areas of wnt_resolve_with come besides, for the steps on the input. An area that
+ * is too small is refusal 3 as above, and after every return all seven are zero up to their sizes for that version; a header
+ * of no version and rule set counts as version 1 there:
  *
  *     wnt_check_with(form, form_len, claim, claim_len, table, WNT_CHECK_SLOTS_2, index, WNT_CHECK_LINKS_2,
  *                    WNT_LENT(&work)) */
