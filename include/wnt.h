@@ -390,7 +390,8 @@ uint64_t wnt_compare(const uint8_t *left, size_t left_len, const uint8_t *right,
                      uint8_t *list, size_t list_len);
 
 /* The sizes of the two working areas of wnt_check, for an input of version 1: slots of six numbers of four bytes each, and
- * numbers of two bytes. Together they are 55,244 bytes. Those for version 2 are of wnt_check_with and wnt_share_with alone, and are 853,964. */
+ * numbers of two bytes. Together they are 55,244 bytes. Those for version 2 are of wnt_check_with and wnt_share_with alone,
+ * and are 853,964. */
 #define WNT_CHECK_SLOTS 2046
 #define WNT_CHECK_LINKS 3070
 #define WNT_CHECK_SLOTS_2 32766
