@@ -1,4 +1,6 @@
 // The commands resolve and check: a form resolved into a file, and forms of which it is said whether they are accepted.
+pub mod batch;
+
 use command::arguments::behind;
 use command::arguments::has_words;
 use command::arguments::wrong_count;

@@ -1,5 +1,6 @@
 // The commands show and explain: a form in words, and what the references with one place mean.
 mod asked;
+pub mod draw;
 mod numbers;
 mod told;
 
