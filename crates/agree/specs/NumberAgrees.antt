@@ -1,5 +1,5 @@
 -- The number of a reference: the code takes it from the reference's own slots, or finds its name in the scope; the rules find it by the name that step B gave it.
-use mathlib.Core.Path.{_≡_, refl, sym, _∙_}
+use mathlib.Core.Path.{_≡_, refl, sym, ap, _∙_}
 use mathlib.Core.Logic.{_⊎_, inl, inr}
 use mathlib.Core.Option.{Option, none, some}
 use mathlib.Core.List.{List, [], _∷_, _++_, append-assoc}
@@ -13,18 +13,19 @@ use Rattle.kit.proofs.Laws.{yes!, no!, tests}
 use Rattle.rules.specs.Rows.{Index, Num, Id}
 use Rattle.rules.specs.Tree.{Declaration, Operand, ref, outer, case, operandRow, operandRows, pathRows}
 use Rattle.rules.specs.Shapes.{declared}
-use Rattle.rules.specs.Rules.{tableOf, Outside, ok, Env, find, fresh, Expanded, as-it-is, through, expandOperand, expandOperands, headsDecls, outerAlias, exportAlias, pathAliases}
+use Rattle.rules.specs.Rules.{tableOf, Outside, ok, Env, find, Lookup, found, absent, lookUp, fresh, Expanded, as-it-is, through, expandOperand, expandOperands, headsDecls, outerAlias, exportAlias, pathAliases}
+use Rattle.rules.specs.Laws.Entries.{numbered, OfSpace, look-number, look-space}
 use Rattle.rules.specs.Laws.Results.{ok-same, holds-of}
 use Rattle.rules.specs.Laws.Meaning.Runs.{operand-grown}
 use Rattle.rows.specs.Taken.{asIndex}
 use Rattle.names.specs.Table.{Slot, numberOf, pastOf, slotsIn}
-use Rattle.names.specs.Stands.{foundOf, Opens}
-use Rattle.names.proofs.Storey.{find-stands}
+use Rattle.names.specs.Stands.{lookupOf, Opens}
+use Rattle.names.proofs.Storey.{look-opens}
 use Rattle.write.specs.declared.own.Numbered.{Numbered}
 use Rattle.write.specs.declared.own.Numbered.the-variants.{Is, Unknown}
 use Rattle.write.specs.State.{followingT}
 use Rattle.write.specs.Alias.{slotAt}
-use Rattle.write.specs.Own.{aheadT, foundT, nameNumberT, atNumberT, refNumberT}
+use Rattle.write.specs.Own.{aheadT, lookedT, nameNumberT, atNumberT, refNumberT}
 use Rattle.agree.specs.Slots.{insertedSlot, insertedSlots, ifOk, operandsSlots}
 use Rattle.agree.specs.SlotLaws.{inserted-length, aliases-length}
 use Rattle.agree.specs.Cursor.{Left, left-next, left-past, Under, Apart, apart-append, operands-apart, find-new, not-inserted, is-inserted}
@@ -33,10 +34,10 @@ use Rattle.agree.specs.ChainAgrees.{newDecl, under-new, path-last, path-
 use Rattle.agree.specs.RefAgrees.{referTo, number-made, name-made, path-made}
 use Rattle.agree.specs.AliasAgrees.{FitOperand, FitOperands, heads-append, operands-made, grown-under}
 
--- a number that was found, and the next slot
-abbrev pub answered : Option ℕ → (alias : ℕ) → Numbered
-answered none alias = Unknown
-answered (some n) alias = Is n alias
+-- a number that was found in a space, and the next slot
+abbrev pub answered : (space : ℕ) → Option ℕ → (alias : ℕ) → Numbered
+answered space none alias = Unknown space
+answered space (some n) alias = Is n alias
 
 module _ (ds : List Declaration) (names : List Slot) (here : List ℕ) where
   -- step B made `now` of a reference, whose own slots are those between the two lists
@@ -45,7 +46,7 @@ module _ (ds : List Declaration) (names : List Slot) (here : List ℕ) where
     pub is : ref space index [] z ≡ now
     pub after : ℕ
     pub numbers : (alias : ℕ) → Left names (pastOf here) alias slots
-        → Left names (pastOf here) (alias + after) rest × (refNumberT names here alias (referTo space at paths z row) ≡ answered (indexIn ds space index) (alias + after))
+        → Left names (pastOf here) (alias + after) rest × (refNumberT names here alias (referTo space at paths z row) ≡ answered space (indexIn ds space index) (alias + after))
 
 -- the slots of a chain: the last has the number that its fresh name has
 module _ (ds : List Declaration) (names : List Slot) (to row space z : ℕ) where
@@ -83,10 +84,10 @@ module _ (env : Env) (names : List Slot) (here : List ℕ) (opens : Opens names 
   unfolding refNumberT atNumberT asIndex pick
   number-refers n rest = record { index = Num n; is = refl; after = 0; numbers = λ alias l. (rw (add-zero alias) l, rw (add-zero alias)) }
 
-  found-is : (o : Option ℕ) (alias : ℕ) → foundT (foundOf o) alias ≡ answered o alias
-  unfolding foundT
-  found-is none alias = refl
-  found-is (some n) alias = refl
+  looked-is : (l : Lookup) (alias : ℕ) → OfSpace space l → lookedT (lookupOf l) alias ≡ answered space (numbered l) alias
+  unfolding lookedT numbered
+  looked-is (absent asked) alias same = ap Unknown same
+  looked-is (found n row) alias same = refl
 
   -- a name that is looked up in the scope
   name-refers : (name : ℕ) (rest : List Slot) → Apart row rest → Refers (tableOf env) names here space (Id name) [] z row (ref space (Id name) [] z) rest rest
@@ -96,7 +97,7 @@ module _ (env : Env) (names : List Slot) (here : List ℕ) (opens : Opens names 
         index = Id name;
         is = refl;
         after = 0;
-        numbers = λ alias l. (rw (add-zero alias) l, rw (add-zero alias, not-inserted names here alias row rest l a, find-stands space name _ (tableOf env) (opens .stands)) (found-is (find (tableOf env) space name) alias));
+        numbers = λ alias l. (rw (add-zero alias) l, rw (add-zero alias, not-inserted names here alias row rest l a, look-opens space name names here env opens, ← look-number (env .entries) space name) (looked-is (lookUp (env .entries) space name) alias (look-space (env .entries) space name)));
       }
 
   outer-refers : (name k d n : ℕ) (before after : List Declaration) (rest : List Slot) → tableOf env ≡ before ++ (newDecl space k z ∷ after) → Under (fresh k) before

@@ -4,8 +4,8 @@ use mathlib.Core.List.{List}
 use Prim.Native.Nat.{ℕ, zero, suc, _≤_, _<_}
 use lib.Dec.{ltb}
 use Rattle.kit.specs.Pick.{pick}
-use Rattle.names.specs.Table.{Slot, between, findIn}
-use Rattle.index.specs.Chain.{headsIn, chainOf, isMeantT, foundT}
+use Rattle.names.specs.Table.{Slot, between, firstSlot, countedSlot}
+use Rattle.index.specs.Chain.{headsIn, chainOf, isMeantT}
 use Rattle.index.specs.Indexed.{lastOn, lastNamed, Indexed, endOf}
 
 -- the first of the first k slots, from `from` to `to`, that has the name, counted from 1; `found` where none has
@@ -30,7 +30,7 @@ pub record Chained (table : List Slot) (index : List ℕ) (space name p : ℕ) :
 -- slots behind p were gone through, `found` is the first of them that has the name, and what is left to do gives the answer
 pub record Follows (table : List Slot) (index : List ℕ) (from to space name p found : ℕ) : Type 0 where
   pub chained : Chained table index space name p
-  pub right : foundT table (firstBelow table from to space name p found) ≡ findIn (between from to table) space name
+  pub right : countedSlot table (firstBelow table from to space name p found) ≡ firstSlot (between from to table) space name
 
 -- slots behind p were gone through, and none of them has the name, of all that lie below the end of the first `depth` scopes
 pub record Climbs (table : List Slot) (index : List ℕ) (scopes : List (List ℕ)) (depth space name p : ℕ) : Type 0 where

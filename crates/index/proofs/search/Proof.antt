@@ -18,14 +18,14 @@ search-spec =
     μ-loop
     (λ c κs. search follows)  -- heads-of-requires
     (λ c κs. search follows)  -- chain-of-requires
-    (λ c κs. search follows)  -- find-requires
+    (λ c κs. search follows)  -- first-slot-requires
     (λ c. search follows)  -- returns
     (λ c. search follows)  -- add-if2
-    (λ c κs. search follows)  -- find-requires-2
+    (λ c κs. search follows)  -- first-slot-requires-2
     (λ c. search follows)  -- returns-2
     (λ c κs. search follows)  -- at-requires
     (λ c. search follows)  -- loop-holds
-    (λ c κs. search follows)  -- find-requires-3
+    (λ c κs. search follows)  -- first-slot-requires-3
     (λ c. search follows)  -- returns-3
     (λ c. search follows)  -- sub-left
     (λ c. search follows)  -- sub-is-meant
@@ -36,5 +36,4 @@ search-spec =
     (λ c κs. search follows)  -- at-requires-2
     (λ c. search follows)  -- loop-less
     (λ c. search follows)  -- loop-again
-    (λ c κs. search follows)  -- said-requires
     (λ c. search follows))  -- returns-4

@@ -1,6 +1,5 @@
 -- `index::search_from` meets its contract.
 use Rattle.index.proofs.Storey.{follows}
-use Rattle.index.proofs.Laws.{packs}
 use borrow.Author.Needs.{needs}
 use Rattle.index.proofs.search_from.Statement.{statement}
 use Rattle.index.proofs.search_from.Tie as tie
@@ -13,8 +12,7 @@ search-from-spec =
     (λ c. search needs)  -- sub-link-at
     (λ c κs. search needs)  -- link-at-requires
     (λ c κs. search needs)  -- at-requires
-    (λ c κs. search needs)  -- said-at-requires
+    (λ c κs. search needs)  -- if-meant-requires
     (λ c. search follows)  -- returns
-    (λ c κs. search needs)  -- search-packed-requires
-    (λ c κs. search needs)  -- unpacked-requires
-    (λ c. search packs))  -- returns
+    (λ c κs. search needs)  -- search-requires
+    (λ c. search follows))  -- returns-2

@@ -8,10 +8,10 @@ pub name-in-spec : {M : Type 1} → statement M
 name-in-spec =
     tie.close
     (tie.spec
-    (λ c. search needs)  -- array-read-find
-    (λ c. search needs)  -- array-read-find-2
-    (λ c κs. search needs)  -- find-requires
-    (λ c. search needs)  -- enum-told
+    (λ c. search needs)  -- array-read-look-up
+    (λ c. search needs)  -- array-read-look-up-2
+    (λ c κs. search needs)  -- look-up-requires
+    (λ c. search needs)  -- enum-known-space
     (λ c. search needs)  -- enum-known-number
     (λ c. search needs)  -- array-read-is-late
     (λ c. search needs)  -- array-read-is-late-2

@@ -1,8 +1,8 @@
--- `index::said` meets its contract.
-use Rattle.index.proofs.Laws.{ways}
+-- `names::said` meets its contract.
+use Rattle.names.proofs.Laws.{ways}
 use borrow.Author.Needs.{needs}
-use Rattle.index.proofs.said.Statement.{statement}
-use Rattle.index.proofs.said.Tie as tie
+use Rattle.names.proofs.said.Statement.{statement}
+use Rattle.names.proofs.said.Tie as tie
 
 pub said-spec : {M : Type 1} → statement M
 said-spec = tie.close (tie.spec
