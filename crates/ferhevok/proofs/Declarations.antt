@@ -1,7 +1,8 @@
 -- The number that each declaration is packed into.
 use mathlib.Core.Path.{_≡_, refl, ap, _∙_}
 use mathlib.Core.List.{List}
-use Prim.Native.Nat.{ℕ, _+_, _≤_, _<_}
+use native.Mathlib.Omega.{arith}
+use Prim.Native.Nat.{ℕ, _+_, _*_, _≤_, _<_}
 use borrow.Author.Needs.{needs}
 use Rattle.kit.proofs.Laws.{yes!, no!, tests}
 use Rattle.meant.specs.declared.Declared.{Declared}
@@ -10,11 +11,11 @@ use Rattle.meant.specs.Part.{meantT}
 use Rattle.ferhevok.specs.Meant.{packedDeclared, meantRow}
 
 module _ (d : Declared) where
-  pub packs-member : (row : ℕ) → d ≡ Member row → 4294967296 + row ≡ packedDeclared d
-  packs-member row e = rw e
+  pub packs-member : (row n : ℕ) → d ≡ Member row → n ≡ 1 * 4294967296 + row → n ≡ packedDeclared d
+  packs-member row n e h = rw e (omega (arith, h))
 
-  pub packs-prelude : (row : ℕ) → d ≡ Prelude row → 8589934592 + row ≡ packedDeclared d
-  packs-prelude row e = rw e
+  pub packs-prelude : (row n : ℕ) → d ≡ Prelude row → n ≡ 2 * 4294967296 + row → n ≡ packedDeclared d
+  packs-prelude row n e h = rw e (omega (arith, h))
 
 module _ (prelude member : List ℕ) (row : ℕ) where
   pub past-rows : 65535 < row → 0 ≡ packedDeclared (meantRow prelude member row)

@@ -53,8 +53,8 @@ packs-mend a x r e h = rw e at h
 -- ---- of moved numbers
 
 module _ (a : moves.Answer) where
-  pub packs-listed : (n : Listed) → a ≡ moving.Listed n → n .apart * 65536 + n .moved ≡ packed (moved.meaning a)
-  packs-listed n e = rw e (omega arith)
+  pub packs-listed : (n : Listed) (r : ℕ) → a ≡ moving.Listed n → r ≡ n .apart * 65536 + n .moved → r ≡ packed (moved.meaning a)
+  packs-listed n r e h = rw e (omega (arith, h))
 
   pub packs-unlisted : (r : Refusal) (n : ℕ) → a ≡ moving.Refused r → n ≡ r .number * 4294967296 + r .place → n ≡ packed (moved.meaning a)
   packs-unlisted r n e h = rw e h

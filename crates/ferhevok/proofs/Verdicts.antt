@@ -13,8 +13,8 @@ module _ (v : Verdict) where
   pub packs-yes : v ≡ Yes → 0 ≡ packedVerdict (meaning v)
   packs-yes e = rw e
 
-  pub packs-no : (condition row : ℕ) → v ≡ No condition row → (100 + condition) * 4294967296 + row ≡ packedVerdict (meaning v)
-  packs-no condition row e = rw e
+  pub packs-no : (condition row n : ℕ) → v ≡ No condition row → n ≡ (100 + condition) * 4294967296 + row → n ≡ packedVerdict (meaning v)
+  packs-no condition row n e h = rw e h
 
   pub packs-refusal : (r : Refusal) (n : ℕ) → v ≡ Refused r → n ≡ r .number * 4294967296 + r .place → n ≡ packedVerdict (meaning v)
   packs-refusal r n e h = rw e h

@@ -3,6 +3,7 @@ use check_with::check_with as judge_with;
 use claim_check::Verdict;
 use claim_check::run::check;
 use names::Slot;
+use packed::packed_no;
 use packed::packed_refusal;
 ghost use mathlib.Core.Path.{_≡_};
 ghost use lib.ListN.{length};
@@ -20,7 +21,7 @@ fn packed_verdict(verdict: Verdict) -> u64
 {
     match verdict {
         Verdict::Yes => 0,
-        Verdict::No { condition, row } => (100 + (condition as u64)) * 4294967296 + (row as u64),
+        Verdict::No { condition, row } => packed_no(condition, row),
         Verdict::Refused(refusal) => packed_refusal(refusal),
     }
 }

@@ -7,6 +7,7 @@ use member::member as resolve_member;
 use member_with::run::member_with;
 use names::Slot;
 use packed::packed_refusal;
+use packed::packed_row;
 ghost use mathlib.Core.Path.{_≡_};
 ghost use mathlib.Core.Bool.{false};
 ghost use lib.Dec.{ltb};
@@ -21,13 +22,18 @@ ghost use Rattle.ferhevok.specs.Meant.{packedDeclared, meantRow};
 // The highest row that a form can number.
 const LAST: u32 = 65535;
 
+// The forms that a declaration can be of, as numbers.
+const MEMBER: u8 = 1;
+
+const PRELUDE: u8 = 2;
+
 // The form of the declaration, 1 for the member and 2 for the prelude, times 2^32 plus its row; 0 where there is none.
 fn packed_declared(declared: Declared) -> u64
     ensures { λ r. ⌜ r ≡ packedDeclared declared ⌝ }
 {
     match declared {
-        Declared::Member(row) => 4294967296 + (row as u64),
-        Declared::Prelude(row) => 8589934592 + (row as u64),
+        Declared::Member(row) => packed_row(MEMBER, row),
+        Declared::Prelude(row) => packed_row(PRELUDE, row),
         Declared::Nowhere => 0,
     }
 }

@@ -3,6 +3,7 @@ use moved::run::Answer;
 use moved::run::moved as list_moved;
 use moved_with::moved_with as list_moved_with;
 use names::Slot;
+use packed::packed_counts;
 use packed::packed_refusal;
 ghost use mathlib.Core.Path.{_≡_};
 ghost use Rattle.rules.specs.Versions.{base};
@@ -18,7 +19,7 @@ fn packed_lists(answer: Answer) -> u64
     ensures { λ r. ⌜ r ≡ packed (meaning answer) ⌝ }
 {
     match answer {
-        Answer::Listed(lists) => (lists.apart as u64) * 65536 + (lists.moved as u64),
+        Answer::Listed(lists) => packed_counts(lists.apart, lists.moved),
         Answer::Refused(refusal) => packed_refusal(refusal),
     }
 }

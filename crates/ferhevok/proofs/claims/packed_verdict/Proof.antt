@@ -10,11 +10,7 @@ packed-verdict-spec =
     (tie.spec
     (λ c. search needs)  -- enum-known-condition
     (λ c. search needs)  -- enum-known-row
-    (λ c. search needs)  -- cast-result
-    (λ c. search needs)  -- add-result
-    (λ c. search needs)  -- mul-result
-    (λ c. search needs)  -- cast-result-2
-    (λ c. search needs)  -- add-result-2
+    (λ c κs. search needs)  -- packed-no-requires
     (λ c. search needs)  -- enum-known-refusal
     (λ c κs. search needs)  -- packed-refusal-requires
     (λ c. search verdicts)  -- returns

@@ -9,11 +9,9 @@ packed-declared-spec =
     tie.close
     (tie.spec
     (λ c. search needs)  -- enum-known-declared
-    (λ c. search needs)  -- cast-result
-    (λ c. search needs)  -- add-result
+    (λ c κs. search needs)  -- packed-row-requires
     (λ c. search needs)  -- enum-known-declared-2
-    (λ c. search needs)  -- cast-result-2
-    (λ c. search needs)  -- add-result-2
+    (λ c κs. search needs)  -- packed-row-requires-2
     (λ c. search needs)  -- enum-told
     (λ c. search declarations)  -- returns
     (λ c. search declarations)  -- returns-2

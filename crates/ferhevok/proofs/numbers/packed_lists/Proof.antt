@@ -9,10 +9,7 @@ packed-lists-spec =
     tie.close
     (tie.spec
     (λ c. search needs)  -- enum-known-answer
-    (λ c. search needs)  -- cast-result
-    (λ c. search needs)  -- mul-result
-    (λ c. search needs)  -- cast-result-2
-    (λ c. search needs)  -- add-result
+    (λ c κs. search needs)  -- packed-counts-requires
     (λ c. search needs)  -- enum-known-answer-2
     (λ c κs. search needs)  -- packed-refusal-requires
     (λ c. search packs-lists)  -- returns
