@@ -298,6 +298,17 @@ module _ (form scopes : List ℕ) where
           by (inl k) = rw s (getD-set-other scopes row i v 0 (λ e. omega (arith, e)) ∙ t i k)
           by (inr k) = let e : i ≡ row = omega arith in rw (e, s) (getD-set-same scopes row v 0 (omega arith) ∙ q)
 
+module _ (form scopes : List ℕ) (t : Scopes form scopes (length scopes)) (row r : ℕ) (h : row < length scopes) (q : r ≡ getD scopes row 0) where
+  pub scope-there : r ≡ scopeOf form row
+  unfolding Scopes
+  scope-there = q ∙ t row h
+
+  pub scope-there-most : r ≤ row
+  unfolding Scopes
+  scope-there-most = let m = scope-most form row in let e : r ≡ scopeOf form row = q ∙ t row h in omega arith
+
+pub ruleset there-ways = (scope-there, scope-there-most, needs)
+
 pub ruleset scopes-ways = (scopes-none, scope-first, scopes-less, scopes-on, needs)
 
 -- ---- the row behind a scope

@@ -3,6 +3,7 @@ use row_parts::code_at;
 use row_parts::rows_in;
 use rows::row::CLOSE;
 use rows::row::OPEN;
+use scopes::scope_of;
 ghost use mathlib.Core.Path.{_≡_};
 ghost use Prim.Native.Nat.{_+_, _-_, _<_, _≤_};
 ghost use lib.ListN.{length, getD, set};
@@ -56,6 +57,19 @@ pub(crate) fn note_scopes(form: &[u8], scopes: &mut [u16], rows: u16)
         put(scopes, row, around);
         around = next;
         row += 1;
+    }
+}
+
+// The scope of a row, by its entry where it has one.
+pub(crate) fn scope_at(form: &[u8], scopes: &[u16], row: u16) -> u16
+    requires { ⌜ Scopes (now form) (now scopes) (length (now scopes)) ⌝ }
+    ensures { λ r. ⌜ (r ≡ scopeOf (now (form .entry)) row) × (r ≤ row) ⌝ }
+{
+    let i = row as usize;
+    if i < scopes.len() {
+        scopes[i]
+    } else {
+        scope_of(form, row)
     }
 }
 
