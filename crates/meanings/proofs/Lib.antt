@@ -1,2 +1,3 @@
 pub mod TableLaws
 pub mod FoundLaws
+pub mod EntryLaws

@@ -285,12 +285,12 @@ module _ (form scopes : List ℕ) where
   scopes-none i h = absurd (omega arith)
 
   module _ (row : ℕ) (t : Scopes form scopes row) where
-    pub scopes-less : (rows : ℕ) → rows ≤ row → Scopes form scopes rows
+    pub scopes-all : (rows : ℕ) (first : List ℕ) → rows ≤ row → length first ≡ rows → length scopes ≡ length first → Scopes form scopes (length scopes)
     unfolding Scopes
-    scopes-less rows h i l = t i (omega arith)
+    scopes-all rows first h r l i m = t i (omega arith)
 
     module _ (v : ℕ) (after : List ℕ) (s : after ≡ set scopes row v) where
-      pub scopes-on : (rows : ℕ) (first : List ℕ) → row < rows → rows ≤ length first → length scopes ≡ length first → v ≡ scopeOf form row → Scopes form after (row + 1)
+      pub scopes-on : (rows : ℕ) (first : List ℕ) → row < rows → length first ≡ rows → length scopes ≡ length first → v ≡ scopeOf form row → Scopes form after (row + 1)
       unfolding Scopes
       scopes-on rows first b r l q i h = by (lt-or-le i row)
         where
@@ -309,7 +309,7 @@ module _ (form scopes : List ℕ) (t : Scopes form scopes (length scopes)) (row 
 
 pub ruleset there-ways = (scope-there, scope-there-most, needs)
 
-pub ruleset scopes-ways = (scopes-none, scope-first, scopes-less, scopes-on, needs)
+pub ruleset scopes-ways = (scopes-none, scope-first, scopes-all, scopes-on, needs)
 
 -- ---- the row behind a scope
 

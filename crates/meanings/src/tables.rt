@@ -45,10 +45,10 @@ fn scope_behind(form: &[u8], scopes: &[u16], row: u16, around: u16) -> u16
     }
 }
 
-// Notes the scope of each of so many rows.
+// Notes the scope of each row that there is room for, so many.
 pub(crate) fn note_scopes(form: &[u8], scopes: &mut [u16], rows: u16)
-    requires { ⌜ rows ≤ length (now scopes) ⌝ }
-    ensures { λ _. ⌜ Scopes (now (form .entry)) (now (scopes .exit)) rows ⌝ }
+    requires { ⌜ length (now scopes) ≡ rows ⌝ }
+    ensures { λ _. ⌜ Scopes (now (form .entry)) (now (scopes .exit)) (length (now (scopes .exit))) ⌝ }
 {
     let mut around: u16 = 0;
     let mut row: u16 = 0;
