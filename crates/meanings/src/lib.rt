@@ -6,6 +6,7 @@ pub mod entries;
 mod found;
 mod meaning;
 mod tables;
+
 use crate::entries::Entry;
 use crate::entries::entry_at;
 use crate::entries::put_entry;

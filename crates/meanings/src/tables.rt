@@ -39,7 +39,11 @@ fn scope_behind(form: &[u8], scopes: &[u16], row: u16, around: u16) -> u16
     if code == OPEN {
         row + 1
     } else if code == CLOSE {
-        if 0 < around { at(scopes, around - 1) } else { 0 }
+        if 0 < around {
+            at(scopes, around - 1)
+        } else {
+            0
+        }
     } else {
         around
     }

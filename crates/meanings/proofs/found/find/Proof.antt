@@ -39,7 +39,8 @@ find-spec =
     let meant = c .before .before .before in
     let here = meant .before .before in
     let bound = here .before .before in
-    let turn = bound .before .before in
-    (find-next _ _ _ _ _ _ _ (turn .before .loop .inv .0) (turn .loop-test .taken) _ (bound .before .code-at .ensures) _ (bound .is-bound .ensures) (here .before .if1 .left) _ (here .declares .ensures) _ (meant .before .x-at .ensures) _ (meant .is-meant .ensures) (c .before .before .if2 .left) _ (c .before .counted .ensures .0) (turn .before .loop .inv .1) (search needs) _ _ (c .at .ensures) (turn .before .before .before .before .before .pre),
-    number-most _ _ _ _ _ (c .at .ensures) (turn .before .before .before .before .before .pre) (turn .loop-test .taken) (omega arith) _ _ (turn .before .loop .inv .1) (c .before .counted .ensures .1)))  -- loop-again
+    let turn = bound .before .before in (
+      find-next _ _ _ _ _ _ _ (turn .before .loop .inv .0) (turn .loop-test .taken) _ (bound .before .code-at .ensures) _ (bound .is-bound .ensures) (here .before .if1 .left) _ (here .declares .ensures) _ (meant .before .x-at .ensures) _ (meant .is-meant .ensures) (c .before .before .if2 .left) _ (c .before .counted .ensures .0) (turn .before .loop .inv .1) (search needs) _ _ (c .at .ensures) (turn .before .before .before .before .before .pre),
+      number-most _ _ _ _ _ (c .at .ensures) (turn .before .before .before .before .before .pre) (turn .loop-test .taken) (omega arith) _ _ (turn .before .loop .inv .1) (c .before .counted .ensures .1),
+    ))  -- loop-again
     (λ c. search find-ways))  -- returns-3

@@ -32,7 +32,8 @@ number-of-spec =
     entry-less _ _ _ _ _ (c .at .ensures) (turn .before .before .before .before .before .before .before .pre .1) (turn .loop-test .taken) (omega arith))  -- loop-less
     (λ c.
     let counted = c .before in
-    let turn = counted .before .before in
-    (number-next _ _ _ _ _ _ (turn .before .loop .inv .0) (turn .loop-test .taken) (search needs) _ (counted .before .declares .ensures) _ (counted .counted .ensures .0) (turn .before .loop .inv .1) _ _ (c .at .ensures) (turn .before .before .before .before .before .before .before .pre .1),
-    number-most _ _ _ _ _ (c .at .ensures) (turn .before .before .before .before .before .before .before .pre .1) (turn .loop-test .taken) (omega arith) _ _ (turn .before .loop .inv .1) (counted .counted .ensures .1)))  -- loop-again
+    let turn = counted .before .before in (
+      number-next _ _ _ _ _ _ (turn .before .loop .inv .0) (turn .loop-test .taken) (search needs) _ (counted .before .declares .ensures) _ (counted .counted .ensures .0) (turn .before .loop .inv .1) _ _ (c .at .ensures) (turn .before .before .before .before .before .before .before .pre .1),
+      number-most _ _ _ _ _ (c .at .ensures) (turn .before .before .before .before .before .before .before .pre .1) (turn .loop-test .taken) (omega arith) _ _ (turn .before .loop .inv .1) (counted .counted .ensures .1),
+    ))  -- loop-again
     (λ c. search number-ways))  -- returns
