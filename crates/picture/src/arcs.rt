@@ -1,6 +1,8 @@
 // From which rows arcs go, and to which.
+use meanings::entries::Entry;
+use meanings::meaning_at;
+use meanings::note_meanings;
 use readings::Meaning;
-use readings::meaning_of;
 use row_parts::is_reference;
 use row_parts::rows_in;
 ghost use mathlib.Core.Path.{_≡_};
@@ -26,24 +28,30 @@ fn row_meant(meaning: Meaning, row: u16) -> u16
 
 // The row of the declaration to which an arc leads from a row: what the reference means, with no alias followed. Of a row from which none
 // goes it is the row itself.
-pub fn target_of(form: &[u8], row: u16) -> u16
-    ensures { λ r. ⌜ r ≡ targetOf (now (form .entry)) row ⌝ }
+pub fn target_of(form: &[u8], entries: &[Entry], row: u16) -> u16
+    ensures { λ r. ⌜ r ≡ targetOf (now (form .entry)) (now (entries .entry)) row ⌝ }
 {
     if is_reference(form, row) {
-        row_meant(meaning_of(form, row), row)
+        row_meant(meaning_at(form, entries, row), row)
     } else {
         row
     }
 }
 
-// Notes for each row of a form where its arc leads.
-pub fn note_targets(form: &[u8], targets: &mut [u16; MOST]) {
+fn note_by_entries(form: &[u8], entries: &[Entry], targets: &mut [u16; MOST]) {
     let rows = rows_in(form);
     let mut row: u16 = 0;
     while row < rows {
-        targets[(row as usize) % MOST] = target_of(form, row);
+        targets[(row as usize) % MOST] = target_of(form, entries, row);
         row += 1;
     }
+}
+
+// Notes for each row of a form where its arc leads.
+pub fn note_targets(form: &[u8], targets: &mut [u16; MOST]) {
+    let mut entries: [Entry; MOST] = [[0; 4]; MOST];
+    note_meanings(form, &mut entries);
+    note_by_entries(form, &entries, targets);
 }
 
 // What a table has for a row.

@@ -1,9 +1,10 @@
 // A reference's meaning in words.
+use meanings::entries::Entry;
+use meanings::final_at;
+use meanings::meaning_at;
 use readings::Meaning;
 use readings::Reading;
-use readings::final_meaning;
 use readings::is_inserted_outer;
-use readings::meaning_of;
 use readings::reading_of;
 use readings::space_sought;
 use row_parts::EXPORT;
@@ -61,7 +62,15 @@ fn say_meaning(fd: i32, names: &[u8], form: &[u8], meaning: Meaning, missing: &[
 }
 
 // Where a number counts to an inserted outer alias: what the reference means in the end.
-fn say_behind(fd: i32, names: &[u8], form: &[u8], reference: u16, meaning: Meaning, before: &[u8]) {
+fn say_behind(
+    fd: i32,
+    names: &[u8],
+    form: &[u8],
+    entries: &[Entry],
+    reference: u16,
+    meaning: Meaning,
+    before: &[u8],
+) {
     match meaning {
         Meaning::At {
             row,
@@ -76,7 +85,7 @@ fn say_behind(fd: i32, names: &[u8], form: &[u8], reference: u16, meaning: Meani
                     fd,
                     names,
                     form,
-                    final_meaning(form, reference),
+                    final_at(form, entries, reference),
                     b"no declaration is there",
                 );
             }
@@ -86,8 +95,15 @@ fn say_behind(fd: i32, names: &[u8], form: &[u8], reference: u16, meaning: Meani
 }
 
 // What a REF or an OUTER means, in one or two phrases, each with `before` in front.
-pub(crate) fn say_reading(fd: i32, names: &[u8], form: &[u8], row: u16, before: &[u8]) {
-    let meaning = meaning_of(form, row);
+pub(crate) fn say_reading(
+    fd: i32,
+    names: &[u8],
+    form: &[u8],
+    entries: &[Entry],
+    row: u16,
+    before: &[u8],
+) {
+    let meaning = meaning_at(form, entries, row);
     say(fd, before);
     match reading_of(form, row) {
         Reading::Outward => {
@@ -101,7 +117,7 @@ pub(crate) fn say_reading(fd: i32, names: &[u8], form: &[u8], row: u16, before: 
         Reading::Counting => {
             say(fd, b"counting: ");
             say_meaning(fd, names, form, meaning, b"no declaration has that number");
-            say_behind(fd, names, form, row, meaning, before);
+            say_behind(fd, names, form, entries, row, meaning, before);
         }
     }
 }

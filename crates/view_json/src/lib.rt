@@ -3,11 +3,14 @@ use json::say_count;
 use json::say_null;
 use json::say_string;
 use json::say_truth;
+use meanings::entries::Entry;
+use meanings::final_at;
+use meanings::meaning_at;
+use meanings::note_meanings;
+use meanings::number_at;
 use name_file::find;
 use readings::Meaning;
 use readings::Reading;
-use readings::final_meaning;
-use readings::meaning_of;
 use readings::reading_of;
 use row_parts::CASE;
 use row_parts::EXPORT;
@@ -26,7 +29,6 @@ use row_parts::y_at;
 use row_parts::z_at;
 use rows::row::DECL;
 use rows::row::OPEN;
-use scopes::number_of;
 use view::accepted::is_resolved;
 use words::say;
 ghost use mathlib.Core.Path.{_≡_};
@@ -80,9 +82,9 @@ fn say_called(fd: i32, names: &[u8], form: &[u8], row: u16) {
 }
 
 // The number of a declaration, in its space and its scope.
-fn say_declared(fd: i32, form: &[u8], row: u16) {
+fn say_declared(fd: i32, form: &[u8], entries: &[Entry], row: u16) {
     if code_at(form, row) == DECL {
-        say_count(fd, b",\"number\":", number_of(form, row));
+        say_count(fd, b",\"number\":", number_at(form, entries, row));
     } else {
         say_null(fd, b",\"number\":");
     }
@@ -117,11 +119,11 @@ fn say_how(fd: i32, form: &[u8], row: u16) {
 }
 
 // What a reference means, and what in the end, behind an inserted outer alias.
-fn say_reading(fd: i32, form: &[u8], row: u16) {
+fn say_reading(fd: i32, form: &[u8], entries: &[Entry], row: u16) {
     if is_reference(form, row) {
         say_how(fd, form, row);
-        say_meaning(fd, b",\"meant\":", form, meaning_of(form, row));
-        say_meaning(fd, b",\"finally\":", form, final_meaning(form, row));
+        say_meaning(fd, b",\"meant\":", form, meaning_at(form, entries, row));
+        say_meaning(fd, b",\"finally\":", form, final_at(form, entries, row));
     } else {
         say_null(fd, b",\"reading\":");
         say_null(fd, b",\"meant\":");
@@ -129,8 +131,8 @@ fn say_reading(fd: i32, form: &[u8], row: u16) {
     }
 }
 
-// Writes a row as an object.
-pub fn tell_row(fd: i32, names: &[u8], form: &[u8], row: u16) {
+// Writes a row as an object; what it means is told by its entry.
+fn tell_row(fd: i32, names: &[u8], form: &[u8], entries: &[Entry], row: u16) {
     say_parts(fd, form, row);
     say_count(fd, b",\"field\":", field_of(form, row) as u32);
     say_truth(
@@ -138,20 +140,26 @@ pub fn tell_row(fd: i32, names: &[u8], form: &[u8], row: u16) {
         b",\"inserted\":",
         is_inserted(form, next(field_of(form, row))),
     );
-    say_declared(fd, form, row);
+    say_declared(fd, form, entries, row);
     say_called(fd, names, form, row);
-    say_reading(fd, form, row);
+    say_reading(fd, form, entries, row);
     say(fd, b"}\n");
+}
+
+fn tell_noted(fd: i32, names: &[u8], form: &[u8], entries: &[Entry]) {
+    let rows = rows_in(form);
+    let mut row: u16 = 0;
+    while row < rows {
+        tell_row(fd, names, form, entries, row);
+        row += 1;
+    }
 }
 
 // Writes every row as an object.
 pub fn tell_rows(fd: i32, names: &[u8], form: &[u8]) {
-    let rows = rows_in(form);
-    let mut row: u16 = 0;
-    while row < rows {
-        tell_row(fd, names, form, row);
-        row += 1;
-    }
+    let mut entries: [Entry; 4096] = [[0; 4]; 4096];
+    note_meanings(form, &mut entries);
+    tell_noted(fd, names, form, &entries);
 }
 
 // What the resolver answers: a refusal's number and place, or 0 and 0.
@@ -175,28 +183,44 @@ fn is_there(form: &[u8], row: u16, place: u32) -> bool
 }
 
 // Writes a row that is a reference with that place, and answers whether this or an earlier row was one.
-fn told(fd: i32, names: &[u8], form: &[u8], row: u16, place: u32, earlier: bool) -> bool
+fn told(
+    fd: i32,
+    names: &[u8],
+    form: &[u8],
+    entries: &[Entry],
+    row: u16,
+    place: u32,
+    earlier: bool,
+) -> bool
     ensures { λ r. ⌜ r ≡ (earlier || isThere (now (form .entry)) row place) ⌝ }
 {
     let is_one = is_there(form, row, place);
     if is_one {
-        tell_row(fd, names, form, row);
+        tell_row(fd, names, form, entries, row);
     }
     earlier | is_one
 }
 
-// Writes the references with that place as objects, and answers whether there is one.
-pub fn tell_place(fd: i32, names: &[u8], form: &[u8], place: u32) -> bool
+fn tell_each(fd: i32, names: &[u8], form: &[u8], entries: &[Entry], place: u32) -> bool
     ensures { λ r. ⌜ r ≡ anyThere (now (form .entry)) place ⌝ }
 {
     let rows = rows_in(form);
     let mut is_found = false;
     let mut row: u16 = 0;
     while row < rows {
-        is_found = told(fd, names, form, row, place, is_found);
+        is_found = told(fd, names, form, entries, row, place, is_found);
         row += 1;
     }
     is_found
+}
+
+// Writes the references with that place as objects, and answers whether there is one.
+pub fn tell_place(fd: i32, names: &[u8], form: &[u8], place: u32) -> bool
+    ensures { λ r. ⌜ r ≡ anyThere (now (form .entry)) place ⌝ }
+{
+    let mut entries: [Entry; 4096] = [[0; 4]; 4096];
+    note_meanings(form, &mut entries);
+    tell_each(fd, names, form, &entries, place)
 }
 
 // Writes what a form is: whether it is resolved already, what the resolver answers to it (a refusal's number and place, or

@@ -8,7 +8,7 @@ target-of-spec =
     tie.close
     (tie.spec
     (λ c κs. search arc-ways)  -- is-reference-requires
-    (λ c κs. search arc-ways)  -- meaning-of-requires
+    (λ c κs. search arc-ways)  -- meaning-at-requires
     (λ c κs. search arc-ways)  -- row-meant-requires
     (λ c. search arc-ways)  -- returns
     (λ c. search arc-ways))  -- returns-2

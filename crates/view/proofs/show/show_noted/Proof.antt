@@ -1,17 +1,17 @@
--- `view::show::show_rows` is safe and ends. The measure is the rows that are left.
+-- `view::show::show_noted` is safe and ends. The measure is the rows that are left.
 use Prim.Native.Nat.{_-_}
 use borrow.Author.Needs.{needs}
-use Rattle.view.proofs.show.show_rows.Statement.{statement}
-use Rattle.view.proofs.show.show_rows.Tie as tie
+use Rattle.view.proofs.show.show_noted.Statement.{statement}
+use Rattle.view.proofs.show.show_noted.Tie as tie
 
 abbrev Inv-loop : tie.InvT-loop
-Inv-loop fd names form from to around level₀ row₀ level row = Unit {0}
+Inv-loop fd names form entries from to around level₀ row₀ level row = Unit {0}
 
 abbrev μ-loop : tie.MeasureT-loop
-μ-loop fd names form from to around level₀ row₀ level row = to - row
+μ-loop fd names form entries from to around level₀ row₀ level row = to - row
 
-pub show-rows-spec : {M : Type 1} → statement M
-show-rows-spec =
+pub show-noted-spec : {M : Type 1} → statement M
+show-noted-spec =
     tie.close
     (tie.spec
     Inv-loop

@@ -1,20 +1,20 @@
--- `view_json::tell_place` meets its contract. The invariant: the search from here on answers what the whole search does.
+-- `view_json::tell_each` meets its contract. The invariant: the search from here on answers what the whole search does.
 use mathlib.Core.Path.{_≡_}
 use Prim.Native.Nat.{_-_}
 use borrow.Author.Needs.{needs}
 use Rattle.view.specs.Shown.{thereFrom, anyThere}
 use Rattle.view.proofs.ShownLaws.{there-ways}
-use Rattle.view_json.proofs.tell_place.Statement.{statement}
-use Rattle.view_json.proofs.tell_place.Tie as tie
+use Rattle.view_json.proofs.tell_each.Statement.{statement}
+use Rattle.view_json.proofs.tell_each.Tie as tie
 
 abbrev Inv-loop : tie.InvT-loop
-Inv-loop fd names form place rows is-found₀ row₀ is-found row = thereFrom form place row (rows - row) is-found ≡ anyThere form place
+Inv-loop fd names form entries place rows is-found₀ row₀ is-found row = thereFrom form place row (rows - row) is-found ≡ anyThere form place
 
 abbrev μ-loop : tie.MeasureT-loop
-μ-loop fd names form place rows is-found₀ row₀ is-found row = rows - row
+μ-loop fd names form entries place rows is-found₀ row₀ is-found row = rows - row
 
-pub tell-place-spec : {M : Type 1} → statement M
-tell-place-spec =
+pub tell-each-spec : {M : Type 1} → statement M
+tell-each-spec =
     tie.close
     (tie.spec
     Inv-loop

@@ -1,17 +1,17 @@
--- `view_json::tell_rows` is safe and ends. The measure is the rows that are left.
+-- `view_json::tell_noted` is safe and ends. The measure is the rows that are left.
 use Prim.Native.Nat.{_-_}
 use borrow.Author.Needs.{needs}
-use Rattle.view_json.proofs.tell_rows.Statement.{statement}
-use Rattle.view_json.proofs.tell_rows.Tie as tie
+use Rattle.view_json.proofs.tell_noted.Statement.{statement}
+use Rattle.view_json.proofs.tell_noted.Tie as tie
 
 abbrev Inv-loop : tie.InvT-loop
-Inv-loop fd names form rows row₀ row = Unit {0}
+Inv-loop fd names form entries rows row₀ row = Unit {0}
 
 abbrev μ-loop : tie.MeasureT-loop
-μ-loop fd names form rows row₀ row = rows - row
+μ-loop fd names form entries rows row₀ row = rows - row
 
-pub tell-rows-spec : {M : Type 1} → statement M
-tell-rows-spec =
+pub tell-noted-spec : {M : Type 1} → statement M
+tell-noted-spec =
     tie.close
     (tie.spec
     Inv-loop

@@ -1,0 +1,4 @@
+pub mod TableLaws
+pub mod FoundLaws
+pub mod EntryLaws
+pub mod Noted

@@ -1,0 +1,18 @@
+-- `meanings::tables::scope_behind` meets its contract.
+use Rattle.meanings.proofs.TableLaws.{scope-ways}
+use borrow.Author.Needs.{needs}
+use Rattle.meanings.proofs.tables.scope_behind.Statement.{statement}
+use Rattle.meanings.proofs.tables.scope_behind.Tie as tie
+
+pub scope-behind-spec : {M : Type 1} → statement M
+scope-behind-spec =
+    tie.close
+    (tie.spec
+    (λ c κs. search needs)  -- code-at-requires
+    (λ c. search needs)  -- add-result
+    (λ c. search needs)  -- sub-at
+    (λ c κs. search needs)  -- at-requires
+    (λ c. search scope-ways)  -- returns
+    (λ c. search scope-ways)  -- returns-2
+    (λ c. search scope-ways)  -- returns-3
+    (λ c. search scope-ways))  -- returns-4
