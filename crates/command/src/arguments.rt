@@ -16,7 +16,7 @@ pub fn has_words(first: u8, count: u8) -> bool {
     os::arg_count() == behind(first, count)
 }
 
-// Where a command has not the number of arguments that it takes.
+// A command that was given too many or too few arguments.
 pub fn wrong_count(usage: &[u8]) {
     say(
         STDERR_FILENO,

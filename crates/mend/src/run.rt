@@ -36,7 +36,7 @@ ghost use Rattle.mend.specs.Run.{refusedT, lettersT, asksT, placeT, writ
 const SETTINGS: usize = 3;
 
 pub enum Answer {
-    // So many changes were made.
+    // How many changes were made.
     Mended(u32),
     Refused(Refusal),
 }

@@ -21,7 +21,7 @@ ghost use Rattle.mending.specs.Mend.{changeBytes};
 ghost use Rattle.mend_form.specs.Filled.{rowIn};
 ghost use Rattle.mend_list.specs.Listed.{change, noted, pieceChanges, widthT, rowChanges, rowsChanges, headT, headChanges, restChanges, allChanges, changesIn, none};
 
-// So many bytes, and so many changes.
+// How many bytes and how many changes there are.
 pub struct Listed {
     pub size: usize,
     pub count: u32,
@@ -51,7 +51,7 @@ fn put_bytes(list: &mut [u8], to: usize, old: &[u8], from: usize, n: usize)
     }
 }
 
-// So many zeros.
+// A number of zeros.
 fn put_zeros(list: &mut [u8], to: usize, n: usize)
     requires { ⌜ to + n < 18446744073709551616 ⌝ }
     ensures { λ _. ⌜ now (list .exit) ≡ sets (now (list .entry)) to (replicate n 0) ⌝ }

@@ -26,7 +26,7 @@ const MOVED: usize = 16;
 const APART: usize = 12;
 
 pub enum Answer {
-    // So many numbers are on the two lists.
+    // How many numbers are on each of the two lists.
     Listed(Listed),
     Refused(Refusal),
 }

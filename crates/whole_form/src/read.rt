@@ -21,7 +21,7 @@ ghost use Rattle.reader.specs.Readings.{readTo};
 ghost use Rattle.whole_form.specs.Whole.{formOf, refusedT, readT, bodyT};
 
 pub enum Form {
-    // So many rows make a form.
+    // A form, with this number of rows.
     Whole(usize),
     Refused(Refusal),
 }
