@@ -398,7 +398,7 @@ fn on_export(s: State, table: &[[u8; 41]; 67]) -> State
     fault(s)
 }
 
-// The reading goes on between two fields of a scope.
+// On between two fields of a scope.
 fn between(s: State, depth: usize, kind: usize) -> State
     ensures { λ r. ⌜ outcomeOf r ≡ betweenT depth kind ⌝ }
 {

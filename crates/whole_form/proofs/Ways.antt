@@ -1,4 +1,4 @@
--- Ways through the settings, and through the reading of a form by itself.
+-- Ways through the settings, and through the code that reads a form by itself.
 use mathlib.Core.Path.{_≡_, refl, sym, ap, _∙_}
 use mathlib.Core.Bool.{Bool, true, false, _||_, not}
 use mathlib.Core.Option.{Option, some}
