@@ -42,10 +42,12 @@ keyOf rows = firsts [] (namesOf (rowsOf topName (length rows / 16) rows))
 
 -- ---- a row whose names go through `g`
 
+-- an operand with its number for its name
 abbrev pub renamedIndexT : (g : ℕ → ℕ) → Index → Index
 renamedIndexT g (Number n) = Number n
 renamedIndexT g (Name n) = Name (g n)
 
+-- a row with numbers for its names
 unfoldable pub renamedRowT : (g : ℕ → ℕ) → Row → Row
 renamedRowT g (Field code builtin z) = Field code builtin z
 renamedRowT g (Decl space name z) = Decl space (g name) z

@@ -14,6 +14,7 @@ use Rattle.back_rows.specs.declared.alias.Alias.{Alias}
 abbrev pub noParts : Parts
 noParts = parts 0 0 0 0 0 0
 
+-- no inserted field ends before the row `end`
 abbrev pub noAliasT : (end : ℕ) → Alias
 noAliasT end = record { size = 0; start = end; field = noParts; decl = noParts; number = 0; operand = noParts; value = 0 }
 

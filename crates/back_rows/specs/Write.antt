@@ -58,6 +58,7 @@ servedT r l to out =
     pick (forT (aliasT l) (r .parts)) (goes (restoreT (aliasT l) (drop (aliasT l .size) l) to out))
     (goesOn true l (copyBackT r to out))
 
+-- a reference, which is row i: as it was before the inserted fields that served it, or as it is
 unfoldable pub refT : Noted → List Noted → Going → (out : List ℕ) → Out Going (List ℕ)
 refT r rs c out = servedT r (pick (c .inside) (c .left) (beforeField rs)) (c .to) out
 
@@ -70,6 +71,7 @@ rowT r rs c out =
 unfoldable pub goesThen : {A : Type 0} → Out Going (List ℕ) → (Going → List ℕ → A) → A
 goesThen (c & out) f = f c out
 
+-- writes the rows of the input to the end of `out`, and answers the row at which they begin there
 unfoldable pub backT : List Noted → Going → (out : List ℕ) → Wrote
 backT [] c out = c .to & out
 backT (r ∷ rs) c out = goesThen (rowT r rs c out) λ c′ out′. backT rs c′ out′

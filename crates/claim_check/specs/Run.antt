@@ -39,9 +39,11 @@ pub record Fit (slots links : ℕ) : Type 0 where
   pub links-are : links ≡ 1024 + slots
   pub few : slots < 65536
 
+-- the condition is broken, first at this row
 abbrev pub noT : (condition row : ℕ) → Verdict
 noT condition row = No condition (row % 4294967296)
 
+-- a refusal whose number document 01 gives, at place 0
 abbrev pub refusedT : (number place : ℕ) → Verdict
 refusedT number place = Refused (record { number = number; place = place })
 
@@ -62,6 +64,7 @@ fourthT input claim room =
 unfoldable pub thirdT : (input claim : List ℕ) (room : ℕ) → Verdict
 thirdT input claim room = unlessT 3 (triedIn (aliasesT room 0 false [] [] (rowsAt claim 0))) (fourthT input claim room)
 
+-- the conditions on the rows of both forms
 unfoldable pub conditionsT : (input claim : List ℕ) (room : ℕ) → Verdict
 conditionsT input claim room = unlessT 2 (differsT 0 0 (rowsAt claim 0) (rowsAt input 0)) (thirdT input claim room)
 
@@ -88,6 +91,7 @@ unfoldable pub inputBy : (i : ℕ) (form claim : List ℕ) (room : ℕ) → Form
 inputBy i form claim room (read.Refused why) = Refused why
 inputBy i form claim room (read.Whole rows) = stepsBy i form claim room (stepsT (bodyOf i form))
 
+-- the input, then the claim
 unfoldable pub judgeT : (i : ℕ) (form claim : List ℕ) (room : ℕ) → Verdict
 judgeT i form claim room = inputBy i form claim room (formOf (readForm (setting i) form))
 
@@ -102,6 +106,7 @@ smallBy Wrong = refusedT 1 0
 smallBy Count = refusedT 2 0
 smallBy (Rows rows) = refusedT 3 0
 
+-- an area is too small: that comes after a wrong header and a wrong row count of the input
 unfoldable pub smallT : (i : ℕ) (form : List ℕ) → Verdict
 smallT i form = smallBy (headerTo (limitsOf (setting i)) form)
 

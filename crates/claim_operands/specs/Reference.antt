@@ -37,6 +37,7 @@ module _ (ss : List Slot) (claim : List ℕ) (used : ℕ) where
   unfoldable pub furtherT : (st : List (List ℕ)) → Parts → (number : ℕ) → Bool
   furtherT st q number = isMetT (throughOuterT ss claim (seeking used (hereT st) (q .b) number)) (outT ss (closeT st) 1 (q .b) (q .x))
 
+  -- whether a number is what a name means: that of its declaration here, or of an alias
   unfoldable pub nameRightT : (st : List (List ℕ)) → Parts → (number : ℕ) → Bool
   nameRightT st q number = ownOr (lookT ss (hereT st) (q .b) (q .x)) number (furtherT st q number)
 

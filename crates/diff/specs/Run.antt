@@ -44,9 +44,11 @@ listT c l r = bothBytes l r (sameT c (partsAt l 0) (partsAt r 0)) (middleT c l r
 abbrev pub Ran : Type 0
 Ran = Out Answer (List ℕ)
 
+-- a refusal at place 0 whose number document 01 gives
 abbrev pub refusing : (number place : ℕ) → Answer
 refusing number place = Refused (record { number = number; place = place })
 
+-- the list for two forms whose rows these are
 unfoldable pub rowsT : Choice → (l r list : List ℕ) → Ran
 rowsT c l r list =
     pick (ltb (length list) (length (listT c l r))) (refusing 3 0 & list) (Listed (length (listT c l r)) & sets list 0 (listT c l r))

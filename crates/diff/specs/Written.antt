@@ -55,9 +55,11 @@ rightT r i to j = fieldsT (rightEntry r i) r to j (length r / 16)
 
 -- ---- a lone field
 
+-- whether from this row up to that there is one field and no more
 unfoldable pub loneT : List ℕ → (from to : ℕ) → Bool
 loneT l from to = pick (leb to from) false (eqb (fieldEnd l from) to)
 
+-- b of the row at i: in a FIELD its code
 abbrev pub codeT : List ℕ → (i : ℕ) → ℕ
 codeT l i = partsAt l i .b
 

@@ -12,6 +12,7 @@ use Rattle.matched.specs.declared.fields.Rest.{Rest}
 
 -- ---- where a field ends
 
+-- the code of the row at i
 abbrev pub codeOf : List ℕ → ℕ → ℕ
 codeOf l i = partsAt l i .code
 
@@ -86,6 +87,7 @@ endOf c l r =
     let from = frontOf c l r in
     tailT l (backT c l r from 0 (length l / 16 - (from + 1))) from (length l / 16)
 
+-- what is left of both when the fields that are the same from the front, then from the back, are taken away
 unfoldable pub middleT : Choice → (l r : List ℕ) → Rest
 middleT c l r =
     pick (ltb (length l / 16) 2) (restFrom 1 1 1)

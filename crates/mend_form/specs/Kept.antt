@@ -17,5 +17,6 @@ keptT rows i (suc left) depth =
     let code = getD rows (16 * i) 0 in
     pick (closesRoot code depth) (kept (i + 1) 0) (keptT rows (i + 1) left (depthAfter code depth))
 
+-- how many rows stay, and how many scopes are then open: OPEN and CLOSE codes are counted up to the root's CLOSE
 unfoldable pub keptIn : (rows : List ℕ) → Kept
 keptIn rows = keptT rows 0 (length rows / 16) 0

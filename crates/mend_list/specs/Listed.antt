@@ -33,6 +33,7 @@ change old at n m = record { at = at; before = take n (drop at old); now = m }
 unfoldable pub pieceChanges : (old new : List ℕ) (at to n : ℕ) → List Change
 pieceChanges old new at to n = pick (sameNumbers (take n (drop at old)) (take n (drop to new))) [] (change old at n n ∷ [])
 
+-- how many bytes the part has that begins at byte j of a row, 0 where none does
 unfoldable pub widthT : ℕ → ℕ
 widthT j =
     pick (eqb j 0) 1 (pick (eqb j 1) 1 (pick (eqb j 2) 2 (pick (eqb j 4) 4 (pick (eqb j 8) 4 (pick (eqb j 12) 4 0)))))

@@ -22,6 +22,7 @@ unfoldable pub behindFrom : (out : List ℕ) (row left : ℕ) → ℕ
 behindFrom out row zero = row
 behindFrom out row (suc left) = pick (eqb (codeAt out row) 7 || eqb (codeAt out row) 8) (row + 1) (behindFrom out (row + 1) left)
 
+-- the row behind the next OPEN or CLOSE, from a row on
 unfoldable pub behindNext : (out : List ℕ) (row : ℕ) → ℕ
 behindNext out row = behindFrom out row (rowsIn out - row)
 

@@ -37,6 +37,7 @@ Went = Out Cursor (Out (List Slot) (List (List ℕ)))
 unfoldable pub behindT : (depth : ℕ) → Tables → Went
 behindT depth (used & names & counts) = record { depth = depth; used = used } & names & counts
 
+-- goes over row i
 unfoldable pub turnT : Parts → (i : ℕ) → List Slot → (counts : List (List ℕ)) → Cursor → Went
 turnT p i names counts c = behindT (depthT (c .depth) (p .code)) (rowT p i (c .depth) (c .used) names counts)
 

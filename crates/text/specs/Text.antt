@@ -46,5 +46,6 @@ unfoldable pub linesThen : List (List ℕ) → (most line rows : ℕ) (out : Lis
 linesThen [] most line rows out = ended line rows out
 linesThen (l ∷ ls) most line rows out = lineThen (lineOf l) most (line + 1) rows out (linesThen ls most (line + 1))
 
+-- turns a text into the form that its lines make
 unfoldable pub parsed : (text out : List ℕ) → Out Parsed (List ℕ)
 parsed text out = linesThen (linesOf text) (mostRows (length out)) 0 0 out

@@ -22,6 +22,7 @@ noNotes = replicate 4092 noNote
 unfoldable pub notedT : (slots : ℕ) (noted : List Note) (rows : List ℕ) → List Note
 notedT slots noted rows = namesT slots rows (sets noted 0 (notesT 0 [] [] (rowsAt rows 0)))
 
+-- writes the restored rows to the end of `out`, and answers the row at which they begin there
 unfoldable pub rowsT : (slots : ℕ) (noted : List Note) (rows out : List ℕ) → Wrote
 rowsT slots noted rows out = backT (below rows (notedT slots noted rows) (length rows / 16)) (startT (length out / 16)) out
 
