@@ -20,10 +20,12 @@ inputRow bytes i = rowTo topName bytes i
 
 -- ---- the names of a row
 
+-- the name of an operand, where it is one
 abbrev pub indexNamesT : Index → List ℕ
 indexNamesT (Number n) = []
 indexNamesT (Name n) = nameIn n
 
+-- the names of a row, in the order of its parts
 unfoldable pub rowNamesT : Row → List ℕ
 rowNamesT (Field code builtin z) = []
 rowNamesT (Decl space name z) = nameIn name

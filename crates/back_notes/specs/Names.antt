@@ -27,6 +27,7 @@ enteredT p n table used = pick (eqb (p .code) 2) (pushed table used (slotOf p n)
 unfoldable pub entryT : (room : ℕ) → List Slot → Parts → Note → List Slot
 entryT room ss p n = pick (eqb (p .code) 2) (enterT room ss (slotOf p n)) ss
 
+-- every DECL of these rows is entered
 unfoldable pub slotsT : (room : ℕ) → List Slot → List Noted → List Slot
 slotsT room ss [] = ss
 slotsT room ss (r ∷ rs) = slotsT room (entryT room ss (r .parts) (r .note)) rs
@@ -37,6 +38,7 @@ slotsT room ss (r ∷ rs) = slotsT room (entryT room ss (r .parts) (r .note)) rs
 unfoldable pub keyT : ℕ → ℕ
 keyT number = pick (ltb number 65535) (number + 1) 0
 
+-- the name that was entered, 0 where there is none
 unfoldable pub valueT : Entry → ℕ
 valueT (Value name) = name
 valueT Nothing = 0

@@ -12,6 +12,7 @@ Note = List ℕ
 abbrev pub note : (value scope : ℕ) → Note
 note value scope = value ∷ scope ∷ []
 
+-- what is noted of a row that is no DECL and no OUTER
 abbrev pub noNote : Note
 noNote = note 0 0
 

@@ -37,6 +37,7 @@ rowT p i scopes counts noted depth = onT (countT counts depth p) p i scopes note
 
 -- ---- as a list: the notes of rows, the first of which is row i, where these scopes are open and these were counted
 
+-- what is noted of rows, from row i on
 unfoldable pub notesT : (i : ℕ) (st cs : List (List ℕ)) → List Parts → List Note
 notesT i st cs [] = []
 notesT i st cs (p ∷ ps) = noteT st (numberT cs p) p ∷ notesT (i + 1) (openT 64 st p i) (countsT 64 cs p) ps

@@ -11,6 +11,7 @@ use Rattle.back_notes.specs.Note.{Noted}
 use Rattle.back_rows.specs.Below.{nth}
 use Rattle.back_rows.specs.declared.alias.Alias.{Alias}
 
+-- the parts of no row
 abbrev pub noParts : Parts
 noParts = parts 0 0 0 0 0 0
 

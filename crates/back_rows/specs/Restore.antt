@@ -44,6 +44,7 @@ pub record Rest : Type 0 where
 abbrev pub rest : (to : ℕ) → List Noted → Rest
 rest to left = record { to = to; left = left }
 
+-- what the code left, as the definitions have it
 abbrev pub restedAt : (rows : List ℕ) (noted : List Note) → Restored → Rest
 restedAt rows noted r = rest (r .to) (below rows noted (r .next))
 

@@ -38,9 +38,11 @@ pub record Going : Type 0 where
 abbrev pub going : (skip : ℕ) (inside : Bool) → List Noted → (to : ℕ) → Going
 going skip inside left to = record { skip = skip; inside = inside; left = left; to = to }
 
+-- where the code has come to, as the definitions have it
 abbrev pub cursorAt : (rows : List ℕ) (noted : List Note) → Cursor → Going
 cursorAt rows noted c = going (c .skip) (c .inside) (below rows noted (c .next)) (c .to)
 
+-- before the last row nothing is left out, and no field is being gone through
 abbrev pub startT : (to : ℕ) → Going
 startT to = going 0 false [] to
 
@@ -62,6 +64,7 @@ servedT r l to out =
 unfoldable pub refT : Noted → List Noted → Going → (out : List ℕ) → Out Going (List ℕ)
 refT r rs c out = servedT r (pick (c .inside) (c .left) (beforeField rs)) (c .to) out
 
+-- a row: left out with an inserted field, restored where it is a reference, else written as it is
 unfoldable pub rowT : Noted → List Noted → Going → (out : List ℕ) → Out Going (List ℕ)
 rowT r rs c out =
     pick (ltb 0 (leftOutT (c .skip) (r ∷ rs))) (going (leftOutT (c .skip) (r ∷ rs) - 1) (c .inside) (c .left) (c .to) & out)

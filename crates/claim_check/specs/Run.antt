@@ -56,11 +56,13 @@ unlessT condition (Breaks row) v = noT condition row
 unfoldable pub triedIn : Names → Tried
 triedIn (a & ss) = a
 
+-- condition 4, where the others hold
 unfoldable pub fourthT : (input claim : List ℕ) (room : ℕ) → Verdict
 fourthT input claim room =
     let ss = entriesT room 0 false [] [] [] (rowsAt claim 0) in
     unlessT 4 (operandsT ss claim (length ss) 0 false [] (rowsAt claim 0) (rowsAt input 0)) Yes
 
+-- condition 3 and then 4, where condition 2 holds
 unfoldable pub thirdT : (input claim : List ℕ) (room : ℕ) → Verdict
 thirdT input claim room = unlessT 3 (triedIn (aliasesT room 0 false [] [] (rowsAt claim 0))) (fourthT input claim room)
 
@@ -70,9 +72,11 @@ conditionsT input claim room = unlessT 2 (differsT 0 0 (rowsAt claim 0) (rowsAt 
 
 -- ---- under the setting at place i of the list of all
 
+-- the version of the setting at place i
 abbrev pub versionOf : (i : ℕ) → Version
 versionOf i = setting i .version
 
+-- the rows behind the header of the setting at place i
 abbrev pub bodyOf : (i : ℕ) → List ℕ → List ℕ
 bodyOf i form = drop (versionOf i .header) form
 

@@ -46,9 +46,11 @@ module _ (ss : List Slot) (claim : List ℕ) (used : ℕ) where
   fromT (Value number) scope q = instanceT ss scope q number
   fromT Nothing scope q = false
 
+  -- does a number reach what the input's REF with PATHs starts from?
   unfoldable pub pathRightT : (scope : ℕ) → Parts → List Parts → (number : ℕ) → Bool
   pathRightT scope q qs number = fromT (pathsT ss claim qs (q .y) (seeking used scope (q .b) number)) scope q
 
+  -- is a claimed REF right for the input's?
   unfoldable pub refRightT : (st : List (List ℕ)) → Parts → Parts → List Parts → Bool
   refRightT st p q qs =
       pick (ltb 0 (p .e)) false

@@ -22,16 +22,20 @@ use Rattle.diff.specs.declared.run.Answer.the-variants.{Listed, Refused}
 unfoldable pub opening : List ℕ → List ℕ
 opening r = entryT 1 0 1 0 1 ++ rowsHeld r 0 1
 
+-- the bytes of an entry for one field that another replaces
 unfoldable pub pairBytes : List ℕ → (from end other : ℕ) → List ℕ
 pairBytes r from end other = entryT 4 from (end - from) from (other - from) ++ rowsHeld r from other
 
+-- the bytes for rows that differ: a field that another replaces, or all that go and then all that come
 unfoldable pub restBytes : (l r : List ℕ) (from end other : ℕ) → List ℕ
 restBytes l r from end other =
     pick (pairT l r from end other) (pairBytes r from end other) (leftT l from end from ++ rightT r end other from)
 
+-- the bytes for what is left of both forms
 unfoldable pub restOf : (l r : List ℕ) → Rest → List ℕ
 restOf l r m = restBytes l r (m .from) (m .left) (m .right)
 
+-- the whole list: an entry for the root's OPEN where it differs, and then the rest
 unfoldable pub bothBytes : (l r : List ℕ) (same : Bool) → Rest → List ℕ
 bothBytes l r same m = pick same (restOf l r m) (opening r ++ restOf l r m)
 

@@ -23,6 +23,7 @@ sizeT l carried to i (suc most) =
 
 -- ---- their bytes
 
+-- two numbers of four bytes each
 unfoldable pub twoT : (v w : ℕ) → List ℕ
 twoT v w = bytes 4 v ++ bytes 4 w
 
@@ -39,6 +40,7 @@ fieldsT F l to i (suc most) = pick (ltb i to) (pick (leb (fieldEnd l i) i) [] (F
 unfoldable pub leftEntry : (j i end : ℕ) → List ℕ
 leftEntry j i end = entryT 2 i (end - i) j 0
 
+-- an entry for each field of the left that goes
 abbrev pub leftT : List ℕ → (j to i : ℕ) → List ℕ
 leftT l j to i = fieldsT (leftEntry j) l to i (length l / 16)
 
@@ -50,6 +52,7 @@ rowsHeld l j end = take (16 * end - 16 * j) (drop (16 * j) l)
 unfoldable pub rightEntry : List ℕ → (i j end : ℕ) → List ℕ
 rightEntry r i j end = entryT 3 i 0 j (end - j) ++ rowsHeld r j end
 
+-- an entry for each field of the right that comes
 abbrev pub rightT : List ℕ → (i to j : ℕ) → List ℕ
 rightT r i to j = fieldsT (rightEntry r i) r to j (length r / 16)
 

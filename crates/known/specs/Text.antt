@@ -9,6 +9,7 @@ use Rattle.kit.specs.Pick.{pick}
 abbrev pub isTextByte : ℕ → Bool
 isTextByte byte = ltb 31 byte || (eqb byte 9 || (eqb byte 10 || eqb byte 13))
 
+-- are all bytes those of a text?
 unfoldable pub isText : List ℕ → Bool
 isText [] = true
 isText (byte ∷ bytes) = pick (isTextByte byte) (isText bytes) false

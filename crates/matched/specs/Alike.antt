@@ -29,6 +29,7 @@ unfoldable pub endT : List ℕ → (j depth left : ℕ) → ℕ
 endT l j depth zero = j
 endT l j depth (suc left) = pick (isBehind depth (codeOf l j)) j (endT l (j + 1) (depthBehind depth (codeOf l j)) left)
 
+-- the row at which the field ends whose FIELD is row i
 abbrev pub endBehind : List ℕ → (i : ℕ) → ℕ
 endBehind l i = endT l (i + 1) 0 (length l / 16 - (i + 1))
 
@@ -76,6 +77,7 @@ tailT l same i (suc most) = pick (ltb (i + 1 + same) (length l / 16)) (tailT l s
 
 -- ---- what is left
 
+-- what is left of both forms: the rows from `from` up to `left` and `right`
 abbrev pub restFrom : (from left right : ℕ) → Rest
 restFrom from left right = record { from = from; left = left; right = right }
 

@@ -70,6 +70,7 @@ refT prelude member row = byReading (readingOf member row) prelude member row
 unfoldable pub outerWantedT : (e x : ℕ) → Wanted
 outerWantedT e x = pick (eqb (e % 2) 1) (Named x) (Out x)
 
+-- was a scope found?
 abbrev pub isThere : Outer → Bool
 isThere (OuterAt scope out) = true
 isThere NoScope = false

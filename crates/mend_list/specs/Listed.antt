@@ -18,6 +18,7 @@ use Rattle.mend_list.specs.declared.Listed.{Listed}
 abbrev pub listed : (size count : ℕ) → Listed
 listed size count = record { size = size; count = count }
 
+-- no bytes and no changes
 abbrev pub none : Listed
 none = listed 0 0
 

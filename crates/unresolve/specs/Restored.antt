@@ -33,6 +33,7 @@ headedT i front (to & body) =
     let at = 16 * (setting i .version .rows - count) in
     at & take at (front ++ body) ++ sets (drop at (front ++ body)) 0 (headerBytes (setting i) count)
 
+-- the restored form at the end of the area: its header, and its rows from the last to the first
 unfoldable pub restoreT : (i slots : ℕ) (noted : List Note) (rows area : List ℕ) → Out ℕ (List ℕ)
 restoreT i slots noted rows area =
     headedT i (take (setting i .version .header) area) (rowsT slots noted rows (drop (setting i .version .header) area))
