@@ -70,7 +70,7 @@ leftBy (to & out) = out
 unfoldable pub rowWritten : (key rows : List ℕ) (i : ℕ) (out : List ℕ) → List ℕ
 rowWritten key rows i out = leftBy (putRow out i (renamedRowT (renamed (placeOf key)) (inputRow rows i)))
 
--- the rows from i on, so many
+-- the rows from i on, this many
 unfoldable pub rowsWritten : (key rows : List ℕ) (i left : ℕ) (out : List ℕ) → List ℕ
 rowsWritten key rows i zero out = out
 rowsWritten key rows i (suc left) out = rowsWritten key rows (i + 1) left (rowWritten key rows i out)

@@ -55,7 +55,7 @@ namedT ss p n = pick (eqb (p .code) 5) (note (nameT ss p n) (getD n 1 0)) n
 unfoldable pub nameRowT : List Slot → Parts → (i : ℕ) (noted : List Note) → List Note
 nameRowT ss p i noted = pick (eqb (p .code) 5) (set noted i (namedT ss p (getD noted i noNote))) noted
 
--- so many rows from row i on
+-- this many rows from row i on
 unfoldable pub namingT : List Slot → (rows : List ℕ) (noted : List Note) (i count : ℕ) → List Note
 namingT ss rows noted i zero = noted
 namingT ss rows noted i (suc count) = namingT ss rows (nameRowT ss (partsAt rows i) i noted) (i + 1) count

@@ -16,7 +16,7 @@ outT [] far = 65535
 outT (s ∷ st) zero = rowIn s % 65536
 outT (s ∷ st) (suc far) = outT st far
 
--- what is noted of a row, where so many scopes are open: `number` is its own, if it is a DECL
+-- what is noted of a row, where this many scopes are open: `number` is its own, if it is a DECL
 unfoldable pub noteT : (st : List (List ℕ)) (number : ℕ) → Parts → Note
 noteT st number p = pick (eqb (p .code) 2) (note number (hereT st % 65536)) (pick (eqb (p .code) 5) (note 0 (outT st (p .x))) noNote)
 

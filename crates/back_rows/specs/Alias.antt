@@ -23,7 +23,7 @@ noAliasT end = record { size = 0; start = end; field = noParts; decl = noParts; 
 abbrev pub noteOf : Noted → ℕ
 noteOf r = getD (r .note) 0 0
 
--- one of so many rows: the last of them comes first
+-- one of this many rows: the last of them comes first
 unfoldable pub madeT : (size value : ℕ) → List Noted → Alias
 madeT size value l =
     pick (eqb (nth l (size - 2) .parts .code) 2)

@@ -60,7 +60,7 @@ fn no_alias(end: usize) -> Alias
     }
 }
 
-// The inserted field of so many rows that end before the row `end`.
+// The inserted field of this many rows that end before the row `end`.
 fn alias_of(rows: &[u8], noted: &[Note], end: usize, size: usize, value: u32) -> Alias
     requires { ⌜ (3 ≤ size) × (size ≤ end) ⌝ }
     ensures { λ r. ⌜ r ≡ madeT size value (below (now (rows .entry)) (now (noted .entry)) end) ⌝ }

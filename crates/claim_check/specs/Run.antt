@@ -47,7 +47,7 @@ noT condition row = No condition (row % 4294967296)
 abbrev pub refusedT : (number place : ℕ) → Verdict
 refusedT number place = Refused (record { number = number; place = place })
 
--- ---- the conditions, with room for so many slots
+-- ---- the conditions, with room for this many slots
 
 unfoldable pub unlessT : (condition : ℕ) → Tried → Verdict → Verdict
 unlessT condition Passes v = v
@@ -114,7 +114,7 @@ smallBy (Rows rows) = refusedT 3 0
 unfoldable pub smallT : (i : ℕ) (form : List ℕ) → Verdict
 smallT i form = smallBy (headerTo (limitsOf (setting i)) form)
 
--- the areas have so many slots and links
+-- the areas have this many slots and links
 unfoldable pub decideT : (i : ℕ) (form claim : List ℕ) (slots links : ℕ) → Verdict
 decideT i form claim slots links =
     pick (ltb slots (slotsOf (versionOf i))) (smallT i form)

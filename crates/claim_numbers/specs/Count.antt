@@ -27,7 +27,7 @@ bumpT counts level space =
     (pick (leb 13 space) (0 & counts)
     (getD (countsAt counts level) space 0 & set counts level (moreT (countsAt counts level) space)))
 
--- counts a row where so many scopes are open: an OPEN begins to count, a DECL is counted, and its number is the answer
+-- counts a row where this many scopes are open: an OPEN begins to count, a DECL is counted, and its number is the answer
 unfoldable pub countT : (counts : List (List ℕ)) (depth : ℕ) → Parts → Out ℕ (List (List ℕ))
 countT counts depth p =
     pick (eqb (p .code) 7) (pick (ltb depth (length counts)) (0 & set counts depth noCounts) (0 & counts))

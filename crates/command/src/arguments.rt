@@ -11,7 +11,7 @@ pub fn behind(first: u8, i: u8) -> usize
     (first as usize) + (i as usize)
 }
 
-// Whether there are so many arguments from the command's name on.
+// Whether there are this many arguments from the command's name on.
 pub fn has_words(first: u8, count: u8) -> bool {
     os::arg_count() == behind(first, count)
 }

@@ -29,7 +29,7 @@ ghost use Rattle.convert.specs.Meaning.{meaning, Says};
 ghost use Rattle.convert.specs.Run.{refusedT, placeT, lacksT, Sized, Sound};
 
 pub enum Answer {
-    // The output begins with the form that was asked for, which has so many rows.
+    // The output begins with the form that was asked for, which has this many rows.
     Converted(u32),
     Refused(Refusal),
 }

@@ -15,7 +15,7 @@ use Rattle.matched.specs.Alike.{fieldEnd}
 abbrev pub entrySize : (rows : ℕ) (carried : Bool) → ℕ
 entrySize rows carried = 20 + pick carried (16 * rows) 0
 
--- the fields from row i up to `to`, so many at most
+-- the fields from row i up to `to`, this many at most
 unfoldable pub sizeT : List ℕ → (carried : Bool) (to i most : ℕ) → ℕ
 sizeT l carried to i zero = 0
 sizeT l carried to i (suc most) =
@@ -31,7 +31,7 @@ twoT v w = bytes 4 v ++ bytes 4 w
 unfoldable pub entryT : (kind i m j n : ℕ) → List ℕ
 entryT kind i m j n = bytes 4 kind ++ (twoT i m ++ twoT j n)
 
--- the bytes that `F` says of each field, from row i up to `to`, so many fields at most
+-- the bytes that `F` says of each field, from row i up to `to`, this many fields at most
 unfoldable pub fieldsT : (F : (i end : ℕ) → List ℕ) → List ℕ → (to i most : ℕ) → List ℕ
 fieldsT F l to i zero = []
 fieldsT F l to i (suc most) = pick (ltb i to) (pick (leb (fieldEnd l i) i) [] (F i (fieldEnd l i) ++ fieldsT F l to (fieldEnd l i) most)) []

@@ -70,7 +70,7 @@ readThen (reading.Broken row) l buffer long list k = refusedT 4 (row % 429496729
 readThen (reading.Deep row) l buffer long list k = refusedT 5 (row % 4294967296) & buffer & list
 readThen reading.Whole l buffer long list k = writeT l buffer long list k
 
--- whether a form of so many bytes, and its list, have room
+-- whether a form of this many bytes, and its list, have room
 unfoldable pub roomT : Limits → (old : List ℕ) (size room space : ℕ) → Bool
 roomT l old size room space = pick (ltb room size) false (leb (length (listBytes (changesIn l old))) space)
 

@@ -44,7 +44,7 @@ unfoldable pub rowChanges : (old new : List ℕ) (a j left : ℕ) → List Chang
 rowChanges old new a j zero = []
 rowChanges old new a j (suc left) = pieceChanges old new (a + j) j (widthT j) ++ rowChanges old new a (j + 1) left
 
--- `left` rows from row i on, behind a header of so many bytes
+-- `left` rows from row i on, behind a header of this many bytes
 unfoldable pub rowsChanges : (header : ℕ) (old : List ℕ) → Kept → (i left : ℕ) → List Change
 rowsChanges header old k i zero = []
 rowsChanges header old k i (suc left) = rowChanges old (rowIn (drop header old) k i) (header + 16 * i) 0 16 ++ rowsChanges header old k (i + 1) left

@@ -171,7 +171,7 @@ fn list_row(old: &[u8], new: &[u8], a: usize, list: &mut [u8], s: Listed) -> Lis
     t
 }
 
-// Lists the parts of row i, behind a header of so many bytes.
+// Lists the parts of row i, behind a header of this many bytes.
 fn list_mended(
     old: &[u8],
     header: usize,
@@ -212,7 +212,7 @@ fn wide(byte: u8) -> usize
     byte as usize
 }
 
-// The header of a form of so many rows, in as many bytes as the longest has.
+// The header of a form of this many rows, in as many bytes as the longest has.
 fn header_of(limits: Limits, count: usize) -> [u8; 16]
     ensures { λ r. ⌜ r ≡ headT limits count ⌝ }
 {

@@ -108,7 +108,7 @@ rowPieces row =
 
 -- ---- all rows, by counting OPEN (7) and CLOSE (8) codes
 
--- is it the root's CLOSE, where so many scopes are open?
+-- is it the root's CLOSE, where this many scopes are open?
 unfoldable pub closesRoot : (code depth : ℕ) → Bool
 closesRoot code depth = eqb code 8 && leb depth 1
 

@@ -61,7 +61,7 @@ unfoldable pub getsIn : (out : List ℕ) → Outer → Number → (meant : ℕ) 
 getsIn out (OuterAt scope away) n meant = getsEntry out scope n meant
 getsIn out Nowhere n meant = Nothing
 
--- so many scopes out from a row
+-- this many scopes out from a row
 unfoldable pub outputEntry : (out : List ℕ) (at away : ℕ) → Number → (meant : ℕ) → Entry
 outputEntry out at away n meant = getsIn out (scopeOutward out (scopeOf out at) (Out away)) n meant
 

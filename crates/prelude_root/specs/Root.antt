@@ -23,7 +23,7 @@ besideT (used & names) counts = used & names & counts
 unfoldable pub numberedT : Out ℕ (List (List ℕ)) → Parts → (i used : ℕ) → List Slot → Tables
 numberedT (number & counts) p i used names = besideT (pushed names used (slotOf (p .b) (p .x) number (i % 4294967296) 0 0)) counts
 
--- behind row i, where so many scopes are open before it
+-- behind row i, where this many scopes are open before it
 unfoldable pub rowT : Parts → (i depth used : ℕ) → List Slot → (counts : List (List ℕ)) → Tables
 rowT p i depth used names counts =
     pick (eqb depth 1)

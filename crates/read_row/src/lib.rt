@@ -429,7 +429,7 @@ fn on_open(s: State, kinds: &mut [usize], table: &[[u8; 41]; 67], kind: usize, n
     between(s, depth + 1, kind)
 }
 
-// The kind of the scope that has so many around it, 0 where none was noted.
+// The kind of the scope that has this many around it, 0 where none was noted.
 fn kind_at(kinds: &[usize], depth: usize) -> usize
     ensures { λ r. ⌜ r ≡ getD (now (kinds .entry)) depth 0 ⌝ }
 {

@@ -21,7 +21,7 @@ pub enum Parsed {
     Wrong { line: usize, why: Why },
 }
 
-// How many rows a form in so many bytes can have.
+// How many rows a form in this many bytes can have.
 fn most_rows(length: usize) -> u32
     ensures { λ r. ⌜ (r ≡ mostRows length) × (r ≤ 4092) ⌝ }
 {

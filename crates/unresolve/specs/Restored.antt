@@ -1,4 +1,4 @@
--- The restored form of the setting at place i, as the code puts it: in notes that are lent, with a table of so many slots.
+-- The restored form of the setting at place i, as the code puts it: in notes that are lent, with a table of this many slots.
 use mathlib.Core.List.{List, [], _++_}
 use Prim.Native.Nat.{ℕ, _-_, _*_, _/_}
 use lib.ListN.{length, take, drop, replicate}

@@ -40,7 +40,7 @@ fn wide(byte: u8) -> usize
     byte as usize
 }
 
-// Whether so many rows are those of a form within the limits.
+// Whether this many rows are those of a form within the limits.
 pub fn read_rows(rows: &[u8], limits: Limits, count: usize) -> Form
     ensures { λ r. ⌜ r ≡ readT (readTo limits (now (rows .entry))) count ⌝ }
 {
