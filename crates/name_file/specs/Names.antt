@@ -51,7 +51,7 @@ unfoldable pub inWord : Line → (byte from to : ℕ) → Line
 inWord line byte from to =
     pick (isWordByte byte) (record { at = 3; exported = line .exported; number = line .number; from = from; to = to }) (turned line 5)
 
--- the line with a byte behind its word, where only a CR may stand
+-- the line with one byte more at its word, which a CR ends
 unfoldable pub behindWord : Line → (byte to : ℕ) → Line
 behindWord line byte to = pick (eqb byte 13) (turned line 4) (inWord line byte (line .from) to)
 
