@@ -5,6 +5,7 @@ use Rattle.rules.specs.Answer.{AnswerOf, refused, accepted}
 use Rattle.anonymise.specs.declared.run.Answer.{Answer}
 use Rattle.anonymise.specs.declared.run.Answer.the-variants.{Accepted, Header, RowCount, Room, Broken, Deep}
 
+-- what an answer of the code stands for in the rules
 abbrev pub meaning : Answer → AnswerOf ℕ
 meaning (Accepted names) = accepted names
 meaning Header = refused 1 0 []

@@ -20,10 +20,12 @@ inputRow bytes i = rowTo topName bytes i
 
 -- ---- the names of a row
 
+-- the name of an operand, where it is one
 abbrev pub indexNamesT : Index → List ℕ
 indexNamesT (Number n) = []
 indexNamesT (Name n) = nameIn n
 
+-- the names of a row, in the order of its parts
 unfoldable pub rowNamesT : Row → List ℕ
 rowNamesT (Field code builtin z) = []
 rowNamesT (Decl space name z) = nameIn name
@@ -42,10 +44,12 @@ keyOf rows = firsts [] (namesOf (rowsOf topName (length rows / 16) rows))
 
 -- ---- a row whose names go through `g`
 
+-- an operand with its number for its name
 abbrev pub renamedIndexT : (g : ℕ → ℕ) → Index → Index
 renamedIndexT g (Number n) = Number n
 renamedIndexT g (Name n) = Name (g n)
 
+-- a row with numbers for its names
 unfoldable pub renamedRowT : (g : ℕ → ℕ) → Row → Row
 renamedRowT g (Field code builtin z) = Field code builtin z
 renamedRowT g (Decl space name z) = Decl space (g name) z
@@ -66,7 +70,7 @@ leftBy (to & out) = out
 unfoldable pub rowWritten : (key rows : List ℕ) (i : ℕ) (out : List ℕ) → List ℕ
 rowWritten key rows i out = leftBy (putRow out i (renamedRowT (renamed (placeOf key)) (inputRow rows i)))
 
--- the rows from i on, so many
+-- the rows from i on, this many
 unfoldable pub rowsWritten : (key rows : List ℕ) (i left : ℕ) (out : List ℕ) → List ℕ
 rowsWritten key rows i zero out = out
 rowsWritten key rows i (suc left) out = rowsWritten key rows (i + 1) left (rowWritten key rows i out)

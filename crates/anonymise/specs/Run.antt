@@ -35,5 +35,6 @@ readThen (reading.Broken row) form out key = Broken (row % 4294967296) & out & k
 readThen (reading.Deep row) form out key = Deep (row % 4294967296) & out & key
 readThen reading.Whole form out key = before (fillT form (take (length form) out) key) (drop (length form) out)
 
+-- the run on a form whose header was right
 unfoldable pub runT : (form out key : List ℕ) → Ran
 runT form out key = pick (ltb (length out) (length form)) (Room & out & key) (readThen (readOf (drop 8 form)) form out key)

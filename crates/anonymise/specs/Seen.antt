@@ -15,7 +15,7 @@ unfoldable pub slotsFrom : (number : ℕ) → List ℕ → List Slot
 slotsFrom number [] = []
 slotsFrom number (n ∷ ns) = slotOf n number ∷ slotsFrom (suc number) ns
 
--- the names in the first slots, so many
+-- the names in the first slots, this many
 unfoldable pub seenIn : List Slot → (used : ℕ) → List ℕ
 seenIn table used = map nameOf (take used table)
 

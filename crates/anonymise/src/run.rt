@@ -23,7 +23,7 @@ ghost use Rattle.anonymise.specs.Renamed.{keyOf, rowWritten, rowsWritten
 ghost use Rattle.anonymise.specs.Run.{allWritten, fillT, runT};
 
 pub enum Answer {
-    // So many names there are.
+    // How many names there are.
     Accepted(u32),
     Header,
     RowCount,

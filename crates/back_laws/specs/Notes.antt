@@ -89,7 +89,7 @@ out-is (s ∷ st) [] far o = absurd o
 out-is (s ∷ st) (k ∷ ks) zero o = let l = o .1 in rw (o .0) (omega arith)
 out-is (s ∷ st) (k ∷ ks) (suc far) o = out-is st ks far (o .2)
 
--- ---- what was counted: so many declarations of each space
+-- ---- what was counted: this many declarations of each space
 
 pub record Counted (c : List ℕ) (past : List Declaration) : Type 0 where
   pub long : length c ≡ 13

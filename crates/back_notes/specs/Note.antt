@@ -12,6 +12,7 @@ Note = List ℕ
 abbrev pub note : (value scope : ℕ) → Note
 note value scope = value ∷ scope ∷ []
 
+-- what is noted of a row that is no DECL and no OUTER
 abbrev pub noNote : Note
 noNote = note 0 0
 
@@ -25,7 +26,7 @@ pub record Noted : Type 0 where
 unfoldable pub rowAt : (rows : List ℕ) (noted : List Note) (i : ℕ) → Noted
 rowAt rows noted i = record { bytes = take 16 (drop (16 * i) rows); parts = partsAt rows i; note = getD noted i noNote }
 
--- so many rows from row i on
+-- this many rows from row i on
 unfoldable pub notedFrom : (rows : List ℕ) (noted : List Note) (i count : ℕ) → List Noted
 notedFrom rows noted i zero = []
 notedFrom rows noted i (suc count) = rowAt rows noted i ∷ notedFrom rows noted (i + 1) count

@@ -16,6 +16,7 @@ outT [] far = 65535
 outT (s ∷ st) zero = rowIn s % 65536
 outT (s ∷ st) (suc far) = outT st far
 
+-- what is noted of a row, where this many scopes are open: `number` is its own, if it is a DECL
 unfoldable pub noteT : (st : List (List ℕ)) (number : ℕ) → Parts → Note
 noteT st number p = pick (eqb (p .code) 2) (note number (hereT st % 65536)) (pick (eqb (p .code) 5) (note 0 (outT st (p .x))) noNote)
 
@@ -30,11 +31,13 @@ wentT (depth & scopes) counts noted = depth & scopes & counts & noted
 unfoldable pub onT : Out ℕ (List (List ℕ)) → Parts → (i : ℕ) (scopes : List (List ℕ)) (noted : List Note) (depth : ℕ) → Went
 onT (number & counts) p i scopes noted depth = wentT (behindT scopes depth p i) counts (set noted i (noteT (openIn scopes depth) number p))
 
+-- notes row i, and answers how many scopes are open behind it
 unfoldable pub rowT : Parts → (i : ℕ) (scopes counts : List (List ℕ)) (noted : List Note) (depth : ℕ) → Went
 rowT p i scopes counts noted depth = onT (countT counts depth p) p i scopes noted depth
 
 -- ---- as a list: the notes of rows, the first of which is row i, where these scopes are open and these were counted
 
+-- what is noted of rows, from row i on
 unfoldable pub notesT : (i : ℕ) (st cs : List (List ℕ)) → List Parts → List Note
 notesT i st cs [] = []
 notesT i st cs (p ∷ ps) = noteT st (numberT cs p) p ∷ notesT (i + 1) (openT 64 st p i) (countsT 64 cs p) ps

@@ -44,7 +44,7 @@ fn scope_out(scopes: &[Scope], depth: usize, out: u32) -> u32
     low(scope_at(scopes, depth - 1 - far)[1])
 }
 
-// What is noted of a row, where so many scopes are open: `number` is its own, if it is a DECL.
+// What is noted of a row, where this many scopes are open: `number` is its own, if it is a DECL.
 fn note_of(p: Parts, number: u32, scopes: &[Scope], depth: usize) -> Note
     ensures { λ r. ⌜ r ≡ noteT (openIn (now (scopes .entry)) depth) number p ⌝ }
 {

@@ -11,9 +11,11 @@ use Rattle.back_notes.specs.Note.{Noted}
 use Rattle.back_rows.specs.Below.{nth}
 use Rattle.back_rows.specs.declared.alias.Alias.{Alias}
 
+-- the parts of no row
 abbrev pub noParts : Parts
 noParts = parts 0 0 0 0 0 0
 
+-- no inserted field ends before the row `end`
 abbrev pub noAliasT : (end : ℕ) → Alias
 noAliasT end = record { size = 0; start = end; field = noParts; decl = noParts; number = 0; operand = noParts; value = 0 }
 
@@ -21,7 +23,7 @@ noAliasT end = record { size = 0; start = end; field = noParts; decl = noParts; 
 abbrev pub noteOf : Noted → ℕ
 noteOf r = getD (r .note) 0 0
 
--- one of so many rows: the last of them comes first
+-- one of this many rows: the last of them comes first
 unfoldable pub madeT : (size value : ℕ) → List Noted → Alias
 madeT size value l =
     pick (eqb (nth l (size - 2) .parts .code) 2)

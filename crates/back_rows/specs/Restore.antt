@@ -25,6 +25,7 @@ Wrote = Out ℕ (List ℕ)
 unfoldable pub putBytes : List ℕ → (to : ℕ) (out : List ℕ) → Wrote
 putBytes bs to out = pick (eqb to 0) (0 & out) (to - 1 & pick (ltb (to - 1) (length out / 16)) (sets out (16 * (to - 1)) bs) out)
 
+-- writes a row before those that begin at `to`, and answers where they begin then; where there is no room, nothing is written
 abbrev pub putBackT : Row → (to : ℕ) (out : List ℕ) → Wrote
 putBackT row to out = putBytes (rowBytes row) to out
 
@@ -43,6 +44,7 @@ pub record Rest : Type 0 where
 abbrev pub rest : (to : ℕ) → List Noted → Rest
 rest to left = record { to = to; left = left }
 
+-- what the code left, as the definitions have it
 abbrev pub restedAt : (rows : List ℕ) (noted : List Note) → Restored → Rest
 restedAt rows noted r = rest (r .to) (below rows noted (r .next))
 

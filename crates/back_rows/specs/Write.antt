@@ -38,9 +38,11 @@ pub record Going : Type 0 where
 abbrev pub going : (skip : ℕ) (inside : Bool) → List Noted → (to : ℕ) → Going
 going skip inside left to = record { skip = skip; inside = inside; left = left; to = to }
 
+-- where the code has come to, as the definitions have it
 abbrev pub cursorAt : (rows : List ℕ) (noted : List Note) → Cursor → Going
 cursorAt rows noted c = going (c .skip) (c .inside) (below rows noted (c .next)) (c .to)
 
+-- before the last row nothing is left out, and no field is being gone through
 abbrev pub startT : (to : ℕ) → Going
 startT to = going 0 false [] to
 
@@ -58,9 +60,11 @@ servedT r l to out =
     pick (forT (aliasT l) (r .parts)) (goes (restoreT (aliasT l) (drop (aliasT l .size) l) to out))
     (goesOn true l (copyBackT r to out))
 
+-- a reference, which is row i: as it was before the inserted fields that served it, or as it is
 unfoldable pub refT : Noted → List Noted → Going → (out : List ℕ) → Out Going (List ℕ)
 refT r rs c out = servedT r (pick (c .inside) (c .left) (beforeField rs)) (c .to) out
 
+-- a row: left out with an inserted field, restored where it is a reference, else written as it is
 unfoldable pub rowT : Noted → List Noted → Going → (out : List ℕ) → Out Going (List ℕ)
 rowT r rs c out =
     pick (ltb 0 (leftOutT (c .skip) (r ∷ rs))) (going (leftOutT (c .skip) (r ∷ rs) - 1) (c .inside) (c .left) (c .to) & out)
@@ -70,6 +74,7 @@ rowT r rs c out =
 unfoldable pub goesThen : {A : Type 0} → Out Going (List ℕ) → (Going → List ℕ → A) → A
 goesThen (c & out) f = f c out
 
+-- writes the rows of the input to the end of `out`, and answers the row at which they begin there
 unfoldable pub backT : List Noted → Going → (out : List ℕ) → Wrote
 backT [] c out = c .to & out
 backT (r ∷ rs) c out = goesThen (rowT r rs c out) λ c′ out′. backT rs c′ out′

@@ -5,14 +5,12 @@ use index::FRESH;
 use parts::Parts;
 use parts::parts_at;
 use rows::row::DECL;
+use rows::row::EXPORT;
 use rows::row::OUTER;
 ghost use mathlib.Core.Path.{_≡_};
 ghost use Prim.Native.Nat.{_≤_};
 ghost use Rattle.back_rows.specs.Below.{below};
 ghost use Rattle.back_rows.specs.Alias.{noParts, noAliasT, madeT, aliasT, forT, linkedT};
-
-// The code of an EXPORT row.
-const EXPORT: u8 = 9;
 
 // The code of a field that is an alias of an instance's export.
 const OF_EXPORT: u8 = 9;
@@ -62,7 +60,7 @@ fn no_alias(end: usize) -> Alias
     }
 }
 
-// The inserted field of so many rows that end before the row `end`.
+// The inserted field of this many rows that end before the row `end`.
 fn alias_of(rows: &[u8], noted: &[Note], end: usize, size: usize, value: u32) -> Alias
     requires { ⌜ (3 ≤ size) × (size ≤ end) ⌝ }
     ensures { λ r. ⌜ r ≡ madeT size value (below (now (rows .entry)) (now (noted .entry)) end) ⌝ }

@@ -32,6 +32,7 @@ unfoldable pub preludeIn : Option Setting → (prelude : List ℕ) (room : ℕ) 
 preludeIn none prelude room = AnswerOf.refused 1 0 []
 preludeIn (some s) prelude room = mapAnswer (λ t. record { setting = s; resolved = t }) (formIn [] s prelude room)
 
+-- the prelude under the setting that its header asks for, resolved in `room` bytes
 abbrev pub preludeOf : List Setting → (prelude : List ℕ) (room : ℕ) → AnswerOf Prelude
 preludeOf settings prelude room = preludeIn (settingOf settings prelude) prelude room
 
@@ -64,6 +65,7 @@ memberWrites (accepted p) member old = insideOutput (p .setting) (rootOf (p .res
 unfoldable pub memberAnswer : List Setting → (prelude : List ℕ) (work : ℕ) (member : List ℕ) (room : ℕ) → Answer
 memberAnswer settings prelude work member room = memberAfter (preludeOf settings prelude work) member room
 
+-- what a member's output holds after the call, where it held `old` before
 unfoldable pub memberOutput : List Setting → (prelude : List ℕ) (work : ℕ) (member old : List ℕ) → List ℕ
 memberOutput settings prelude work member old = memberWrites (preludeOf settings prelude work) member old
 

@@ -12,6 +12,7 @@ use Rattle.batching.specs.Batch.{BatchAnswer, refused, done, batchAnswer
 
 -- ---- the members
 
+-- the lengths together
 unfoldable pub sum : List ℕ → ℕ
 sum [] = 0
 sum (n ∷ ns) = n + sum ns

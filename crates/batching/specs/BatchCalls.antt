@@ -22,14 +22,17 @@ cleared zero size old = replicate (length (take size old)) zero ++ drop size old
 module _ (settings : List Setting) (short : Bool) (prelude : List ℕ) where
   -- ---- one member; `area` is the length of the working area in which the prelude is resolved
 
+  -- what the C function for one member returns
   unfoldable pub memberCall : (area : ℕ) (member : List ℕ) (room : ℕ) → ℕ
   memberCall area member room = packed (memberAnswer settings prelude (roomWith short area) member room)
 
+  -- what it leaves in the output
   unfoldable pub memberLeaves : (area : ℕ) (member old : List ℕ) → List ℕ
   memberLeaves area member old = memberOutput settings prelude (roomWith short area) member old
 
   -- ---- a batch
 
+  -- what the C function for a batch returns
   unfoldable pub batchCall : (members lengths : List ℕ) → Buffers → ℕ
   batchCall members lengths old =
       packedBatch (bytesAnswer settings prelude members lengths (roomWith short (length (old .prelude))) (length (old .outs)) (length (old .answers)))

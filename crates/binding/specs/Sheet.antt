@@ -104,7 +104,7 @@ unfoldable pub passes : List Binding → Bool
 passes [] = true
 passes (b ∷ bs) = isAsWritten b && passes bs
 
--- so many are not
+-- how many are not bound as written
 unfoldable pub failing : List Binding → ℕ
 failing [] = 0
 failing (b ∷ bs) = if isAsWritten b then failing bs else suc (failing bs)
@@ -116,10 +116,12 @@ slotsOf zero bs = []
 slotsOf (suc count) bs =
     record { family = value (take 4 bs); place = value (take 4 (drop 4 bs)); name = value (take 4 (drop 8 bs)) } ∷ slotsOf count (drop 12 bs)
 
+-- has every slot a name?
 unfoldable pub allNamed : List Slot → Bool
 allNamed [] = true
 allNamed (s ∷ ss) = not (eqb (s .name) 0) && allNamed ss
 
+-- the slots of a sheet, twelve bytes each
 unfoldable pub slots : List ℕ → List Slot
 slots sheet = slotsOf (length sheet / 12) sheet
 
@@ -152,6 +154,7 @@ runIn v input =
     resultOf (resolve (v .rules) before) then λ after.
     some (record { before = before; after = after; bytes = formBytes v (flatten after) }))
 
+-- the run of an input under the setting that its header asks for
 unfoldable pub runOf : List Setting → (input : List ℕ) → Option Run
 runOf settings input = settingOf settings input then λ v. runIn v input
 

@@ -24,6 +24,7 @@ unfoldable pub nextFrom : (form : List ℕ) (place row left : ℕ) → ℕ
 nextFrom form place row zero = row
 nextFrom form place row (suc left) = pick (isReference form row place) row (nextFrom form place (row + 1) left)
 
+-- the first such row from a row on; the number of rows, if there is none
 unfoldable pub nextReference : (form : List ℕ) (place row : ℕ) → ℕ
 nextReference form place row = nextFrom form place row (rowsIn form - row)
 
@@ -40,6 +41,7 @@ unfoldable pub boundTo : Meaning → (name : ℕ) → Binding
 boundTo (MeantAt row number out reached) name = pick (eqb reached name) AsWritten (Elsewhere row)
 boundTo Nowhere name = Elsewhere 0
 
+-- what a reference is bound to: what it means in the end, which is a declaration of that name or not
 unfoldable pub boundAt : (form : List ℕ) (row name : ℕ) → Binding
 boundAt form row name = boundTo (finalMeaning form row) name
 
@@ -48,5 +50,6 @@ boundBy form Nothing name = NoReference
 boundBy form (At row) name = boundAt form row name
 boundBy form Many name = Several
 
+-- what a slot of that place and name is bound to
 unfoldable pub bindingOf : (form : List ℕ) (place name : ℕ) → Binding
 bindingOf form place name = boundBy form (referenceAt form place) name

@@ -32,7 +32,7 @@ fn word_at(bytes: &[u8], a: usize) -> u32 {
         + byte_at(bytes, at + 3) * 16777216
 }
 
-// The number that stands in so many bytes from a on: one, two or four.
+// The number that stands in this many bytes from a on: one, two or four.
 fn value_at(bytes: &[u8], a: usize, width: u32) -> u32 {
     let at = a % MOST;
     match width {
@@ -48,7 +48,7 @@ fn say_row(fd: i32, at: u32) {
     say_number(fd, (at - at % 16) / 16);
 }
 
-// The part of a row that begins so many bytes behind the row's first.
+// The part of a row that begins this many bytes behind the row's first.
 fn say_part(fd: i32, offset: u32) {
     match offset {
         1 => say(fd, b"b"),
@@ -135,7 +135,7 @@ fn next_change(list: &[u8], i: usize) -> usize {
     start + LEAD + (before + 3) / 4 * 4
 }
 
-// Writes a line for each of so many changes.
+// Writes a line for each of this many changes.
 pub fn say_changes(fd: i32, list: &[u8], changes: u32, form: &[u8]) {
     let mut i = 0;
     let mut said = 0;

@@ -6,6 +6,7 @@ use Rattle.limits.specs.Held.{setting}
 use Rattle.names.specs.Table.{Slot}
 use Rattle.resolver_with.specs.Areas.{slotsFor, linksFor}
 
+-- every area has at least the size that the setting at place i asks for
 pub record Large (i : ℕ) (e n : List Slot) (k c m : List ℕ) : Type 0 where
   pub entered : slotsFor (setting i .version) ≤ length e
   pub names : slotsFor (setting i .version) ≤ length n

@@ -13,9 +13,11 @@ use Rattle.checking.specs.Check.{Verdict, refused, verdictFor}
 
 -- ---- their fixed sizes: twice the version's rows, and for the index 1,024 more
 
+-- how many slots the table needs: two for each row of the largest input
 unfoldable pub slotsOf : Version → ℕ
 slotsOf v = 2 * v .rows
 
+-- how many numbers the index needs: 1,024 heads of chains, and a link for each slot
 unfoldable pub linksOf : Version → ℕ
 linksOf v = 1024 + slotsOf v
 
@@ -36,6 +38,7 @@ checkAnswer settings input claim slots links = checkFor (settingOf settings inpu
 
 -- ---- the areas: after every return zero up to that size, all of them where they are shorter, and later ones unchanged
 
+-- an area whose first `size` entries are zero, the others as they were
 unfoldable pub cleared : {A : Type 0} → (size : ℕ) (zero : A) → List A → List A
 cleared size zero old = replicate (length (take size old)) zero ++ drop size old
 
@@ -48,9 +51,11 @@ unfoldable pub areaFor : {A : Type 0} → (Version → ℕ) → Option Setting �
 areaFor size none zero old = old
 areaFor size (some s) zero old = cleared (size (s .version)) zero old
 
+-- what the table of slots holds after the call
 unfoldable pub tableAfter : List Setting → (input : List ℕ) (old : List (List ℕ)) → List (List ℕ)
 tableAfter settings input old = areaFor slotsOf (sizedBy settings input) (replicate 6 0) old
 
+-- what the index holds after the call
 unfoldable pub indexAfter : List Setting → (input old : List ℕ) → List ℕ
 indexAfter settings input old = areaFor linksOf (sizedBy settings input) 0 old
 

@@ -22,6 +22,7 @@ use Rattle.claim_aliases.specs.declared.Turn.the-variants.{On, Breaks as
 
 -- ---- one row
 
+-- whether a field of this code is an alias
 unfoldable pub isAlias : (code : ℕ) → Bool
 isAlias code = eqb code 9 || (eqb code 10 || eqb code 11)
 
@@ -71,6 +72,7 @@ Turned = Out Turn (Out (List Slot) (List (List ℕ)))
 unfoldable pub turnedT : Went → Turned
 turnedT (c & rest) = On c & rest
 
+-- what a row leads to, where it is known whether its field is added
 unfoldable pub overT : Parts → (i : ℕ) (table : List Slot) (scopes : List (List ℕ)) → Cursor → Turned
 overT p i table scopes c =
     pick (breaksT (c .added) (take (c .used) table) (hereT (openIn scopes (c .depth))) p) (TurnBreaks & table & scopes) (turnedT (onT p i table scopes c))

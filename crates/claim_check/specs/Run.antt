@@ -39,13 +39,15 @@ pub record Fit (slots links : ℕ) : Type 0 where
   pub links-are : links ≡ 1024 + slots
   pub few : slots < 65536
 
+-- the condition is broken, first at this row
 abbrev pub noT : (condition row : ℕ) → Verdict
 noT condition row = No condition (row % 4294967296)
 
+-- a refusal whose number document 01 gives, at place 0
 abbrev pub refusedT : (number place : ℕ) → Verdict
 refusedT number place = Refused (record { number = number; place = place })
 
--- ---- the conditions, with room for so many slots
+-- ---- the conditions, with room for this many slots
 
 unfoldable pub unlessT : (condition : ℕ) → Tried → Verdict → Verdict
 unlessT condition Passes v = v
@@ -54,22 +56,27 @@ unlessT condition (Breaks row) v = noT condition row
 unfoldable pub triedIn : Names → Tried
 triedIn (a & ss) = a
 
+-- condition 4, where the others hold
 unfoldable pub fourthT : (input claim : List ℕ) (room : ℕ) → Verdict
 fourthT input claim room =
     let ss = entriesT room 0 false [] [] [] (rowsAt claim 0) in
     unlessT 4 (operandsT ss claim (length ss) 0 false [] (rowsAt claim 0) (rowsAt input 0)) Yes
 
+-- condition 3 and then 4, where condition 2 holds
 unfoldable pub thirdT : (input claim : List ℕ) (room : ℕ) → Verdict
 thirdT input claim room = unlessT 3 (triedIn (aliasesT room 0 false [] [] (rowsAt claim 0))) (fourthT input claim room)
 
+-- the conditions on the rows of both forms
 unfoldable pub conditionsT : (input claim : List ℕ) (room : ℕ) → Verdict
 conditionsT input claim room = unlessT 2 (differsT 0 0 (rowsAt claim 0) (rowsAt input 0)) (thirdT input claim room)
 
 -- ---- under the setting at place i of the list of all
 
+-- the version of the setting at place i
 abbrev pub versionOf : (i : ℕ) → Version
 versionOf i = setting i .version
 
+-- the rows behind the header of the setting at place i
 abbrev pub bodyOf : (i : ℕ) → List ℕ → List ℕ
 bodyOf i form = drop (versionOf i .header) form
 
@@ -88,6 +95,7 @@ unfoldable pub inputBy : (i : ℕ) (form claim : List ℕ) (room : ℕ) → Form
 inputBy i form claim room (read.Refused why) = Refused why
 inputBy i form claim room (read.Whole rows) = stepsBy i form claim room (stepsT (bodyOf i form))
 
+-- the input, then the claim
 unfoldable pub judgeT : (i : ℕ) (form claim : List ℕ) (room : ℕ) → Verdict
 judgeT i form claim room = inputBy i form claim room (formOf (readForm (setting i) form))
 
@@ -102,10 +110,11 @@ smallBy Wrong = refusedT 1 0
 smallBy Count = refusedT 2 0
 smallBy (Rows rows) = refusedT 3 0
 
+-- an area is too small: that comes after a wrong header and a wrong row count of the input
 unfoldable pub smallT : (i : ℕ) (form : List ℕ) → Verdict
 smallT i form = smallBy (headerTo (limitsOf (setting i)) form)
 
--- the areas have so many slots and links
+-- the areas have this many slots and links
 unfoldable pub decideT : (i : ℕ) (form claim : List ℕ) (slots links : ℕ) → Verdict
 decideT i form claim slots links =
     pick (ltb slots (slotsOf (versionOf i))) (smallT i form)

@@ -66,7 +66,7 @@ pub record Apt (x : Declared) : Type 0 where
 
 -- ---- by name
 
--- the number of the first of these, where so many stand before them
+-- the number of the first of these, where this many stand before them
 unfoldable pub numberFrom : (b : ℕ) → Option ℕ → Found
 numberFrom b none = Nothing
 numberFrom b (some e) = At (b + e)

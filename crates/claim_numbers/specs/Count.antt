@@ -20,12 +20,14 @@ moreT c space = set c space (getD c space 0 % 65536 + 1)
 
 -- ---- as the code has them: those of the first `depth` scopes, the outermost first
 
+-- the next number of a space in the scope at `level`, the outermost at 0
 unfoldable pub bumpT : (counts : List (List ℕ)) (level space : ℕ) → Out ℕ (List (List ℕ))
 bumpT counts level space =
     pick (leb (length counts) level) (0 & counts)
     (pick (leb 13 space) (0 & counts)
     (getD (countsAt counts level) space 0 & set counts level (moreT (countsAt counts level) space)))
 
+-- counts a row where this many scopes are open: an OPEN begins to count, a DECL is counted, and its number is the answer
 unfoldable pub countT : (counts : List (List ℕ)) (depth : ℕ) → Parts → Out ℕ (List (List ℕ))
 countT counts depth p =
     pick (eqb (p .code) 7) (pick (ltb depth (length counts)) (0 & set counts depth noCounts) (0 & counts))

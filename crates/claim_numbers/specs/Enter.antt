@@ -20,6 +20,7 @@ use Rattle.claim_numbers.specs.declared.enter.Cursor.{Cursor}
 unfoldable pub declSlot : (added : Bool) (scope : ℕ) → Parts → (number i : ℕ) → Slot
 declSlot added scope p number i = pick added (slotT (scope % 65536 + 1) (p .b) (number % 65536 + 1) (i % 65536)) (slotT scope (p .b) (p .x) number)
 
+-- enters a DECL that is row i: an alias under its number counted from 1, with its row; one of the input under its name, with its number
 unfoldable pub enteredT : List Slot → (scope : ℕ) → Parts → (number i : ℕ) → Cursor → Out ℕ (List Slot)
 enteredT table scope p number i c = pick (eqb (p .code) 2) (pushed table (c .used) (declSlot (c .added) scope p number i)) (c .used & table)
 
@@ -37,6 +38,7 @@ wentT c (used & table) (depth & scopes) counts = record { depth = depth; used = 
 unfoldable pub countedT : Out ℕ (List (List ℕ)) → Parts → (i : ℕ) (table : List Slot) (scopes : List (List ℕ)) → Cursor → Went
 countedT (number & counts) p i table scopes c = wentT c (enteredT table (hereT (openIn scopes (c .depth))) p number i c) (behindT scopes (c .depth) p i) counts
 
+-- behind row i: it is entered if it is to be, and its scope is opened or closed
 unfoldable pub onT : Parts → (i : ℕ) (table : List Slot) (scopes counts : List (List ℕ)) → Cursor → Went
 onT p i table scopes counts c = countedT (countT counts (c .depth) p) p i table scopes c
 

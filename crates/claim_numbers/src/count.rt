@@ -29,7 +29,7 @@ fn bump(counts: &mut [Counts], level: usize, space: usize) -> u32
     number
 }
 
-// Counts a row where so many scopes are open: an OPEN begins to count, a DECL is counted, and its number is the answer.
+// Counts a row where this many scopes are open: an OPEN begins to count, a DECL is counted, and its number is the answer.
 pub fn count(counts: &mut [Counts], depth: usize, p: Parts) -> u32
     ensures { λ r. ⌜ (r & now (counts .exit)) ≡ countT (now (counts .entry)) depth p ⌝ }
 {

@@ -34,6 +34,7 @@ unfoldable pub upRightT : List Slot → (st : List (List ℕ)) → Named → (q 
 upRightT ss st (Out up) q p = atRightT ss st up q p
 upRightT ss st Nowhere q p = false
 
+-- whether a claimed OUTER is right: two written numbers stay
 unfoldable pub outerRightT : List Slot → (st : List (List ℕ)) → (q p : Parts) → Bool
 outerRightT ss st q p =
     pick (ltb 0 (p .e)) false

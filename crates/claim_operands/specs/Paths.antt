@@ -31,6 +31,7 @@ unfoldable pub pathsT : List Slot → (claim : List ℕ) → List Parts → (cou
 pathsT ss claim qs zero s = Value (s .number)
 pathsT ss claim qs (suc k) s = orStop (throughExportT ss claim s (getD qs k noParts .x)) (λ n. pathsT ss claim qs k (onward s n))
 
+-- the space of the instance that a path to an item of this space starts from
 unfoldable pub instanceSpace : (space : ℕ) → ℕ
 instanceSpace space = pick (leb space 6) 6 10
 

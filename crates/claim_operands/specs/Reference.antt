@@ -37,6 +37,7 @@ module _ (ss : List Slot) (claim : List ℕ) (used : ℕ) where
   unfoldable pub furtherT : (st : List (List ℕ)) → Parts → (number : ℕ) → Bool
   furtherT st q number = isMetT (throughOuterT ss claim (seeking used (hereT st) (q .b) number)) (outT ss (closeT st) 1 (q .b) (q .x))
 
+  -- whether a number is what a name means: that of its declaration here, or of an alias
   unfoldable pub nameRightT : (st : List (List ℕ)) → Parts → (number : ℕ) → Bool
   nameRightT st q number = ownOr (lookT ss (hereT st) (q .b) (q .x)) number (furtherT st q number)
 
@@ -45,9 +46,11 @@ module _ (ss : List Slot) (claim : List ℕ) (used : ℕ) where
   fromT (Value number) scope q = instanceT ss scope q number
   fromT Nothing scope q = false
 
+  -- does a number reach what the input's REF with PATHs starts from?
   unfoldable pub pathRightT : (scope : ℕ) → Parts → List Parts → (number : ℕ) → Bool
   pathRightT scope q qs number = fromT (pathsT ss claim qs (q .y) (seeking used scope (q .b) number)) scope q
 
+  -- is a claimed REF right for the input's?
   unfoldable pub refRightT : (st : List (List ℕ)) → Parts → Parts → List Parts → Bool
   refRightT st p q qs =
       pick (ltb 0 (p .e)) false

@@ -32,7 +32,7 @@ fn instance_in(s: Sought, number: u32) -> Sought
     }
 }
 
-// The number of the instance that a number reaches through one added alias for each of so many PATHs, the first of which is
+// The number of the instance that a number reaches through one added alias for each of this many PATHs, the first of which is
 // that row: the last PATH is the first to be gone through.
 pub(crate) fn through_paths(
     input: &[u8],

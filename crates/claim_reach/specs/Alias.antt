@@ -24,6 +24,7 @@ reachedT ss s = lookT ss (s .scope % 65536 + 1) (s .space) (countedT (s .number)
 unfoldable pub codeT : (claim : List ℕ) (i : ℕ) → ℕ
 codeT claim i = pick (eqb i 0) 0 (partsAt claim (i - 1) .b)
 
+-- document 01's code for an alias of an export of this space
 unfoldable pub exportCode : (space : ℕ) → ℕ
 exportCode space = pick (leb space 6) 10 9
 
@@ -31,6 +32,7 @@ exportCode space = pick (leb space 6) 10 9
 unfoldable pub outerAt : (claim : List ℕ) (i : ℕ) → Met
 outerAt claim i = pick (eqb (codeT claim i) 11) (At (partsAt claim (i + 1) .x) (partsAt claim (i + 1) .y)) Nowhere
 
+-- the number of the instance of the alias whose DECL is that row, if it is one of this export
 unfoldable pub exportAt : (claim : List ℕ) (i space name : ℕ) → Entry
 exportAt claim i space name =
     pick (eqb (codeT claim i) (exportCode space)) (pick (eqb (partsAt claim (i + 2) .x) name) (Value (partsAt claim (i + 1) .x)) Nothing) Nothing
@@ -48,5 +50,6 @@ exportIn claim space name Nothing = Nothing
 unfoldable pub throughOuterT : List Slot → (claim : List ℕ) → Sought → Met
 throughOuterT ss claim s = outerIn claim (reachedT ss s)
 
+-- what is reached through one added alias of this export: the number of its instance
 unfoldable pub throughExportT : List Slot → (claim : List ℕ) → Sought → (name : ℕ) → Entry
 throughExportT ss claim s name = exportIn claim (s .space) name (reachedT ss s)

@@ -5,7 +5,7 @@ use lib.ListN.{length}
 use Rattle.parts.specs.Apart.{partsAt}
 use Rattle.parts.specs.declared.Parts.{Parts}
 
--- so many rows from row i on
+-- this many rows from row i on
 unfoldable pub rowsFrom : List ℕ → (i count : ℕ) → List Parts
 rowsFrom l i zero = []
 rowsFrom l i (suc count) = partsAt l i ∷ rowsFrom l (i + 1) count

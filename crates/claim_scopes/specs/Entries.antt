@@ -14,9 +14,11 @@ use Rattle.claim_scopes.specs.declared.entries.Entry.the-variants.{Value
 unfoldable pub keyT : (scope space : ℕ) → ℕ
 keyT scope space = scope % 65536 * 257 + space
 
+-- a slot of a claim's table: the space of a scope as one number, the name, and the value
 unfoldable pub slotT : (scope space name value : ℕ) → Slot
 slotT scope space name value = keyT scope space ∷ name ∷ value ∷ 0 ∷ 0 ∷ 0 ∷ []
 
+-- what was found, as the value that was entered
 unfoldable pub entryOf : Found → Entry
 entryOf (found.At value) = Value value
 entryOf found.Nothing = Nothing

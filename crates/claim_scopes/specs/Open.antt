@@ -28,6 +28,7 @@ behindT scopes depth p i =
 
 -- ---- as a list
 
+-- the open scopes as a list, the innermost first
 unfoldable pub openIn : (scopes : List (List ℕ)) (depth : ℕ) → List (List ℕ)
 openIn scopes zero = []
 openIn scopes (suc k) = scopeAt scopes k ∷ openIn scopes k

@@ -11,12 +11,12 @@ pub fn behind(first: u8, i: u8) -> usize
     (first as usize) + (i as usize)
 }
 
-// Whether there are so many arguments from the command's name on.
+// Whether there are this many arguments from the command's name on.
 pub fn has_words(first: u8, count: u8) -> bool {
     os::arg_count() == behind(first, count)
 }
 
-// Where a command has not the number of arguments that it takes.
+// A command that was given too many or too few arguments.
 pub fn wrong_count(usage: &[u8]) {
     say(
         STDERR_FILENO,

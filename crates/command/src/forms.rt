@@ -8,14 +8,14 @@ ghost use Prim.Native.Nat.{_+_, _*_};
 ghost use lib.ListN.{take};
 ghost use Rattle.command.specs.Status.{talkBeside};
 
-// The first bytes of a buffer, so many.
+// The first bytes of a buffer, this many.
 pub fn part(buffer: &[u8; 65536], count: usize) -> &[u8]
     ensures { λ r. ⌜ now r ≡ take count (now (buffer .entry)) ⌝ }
 {
     front(buffer, count)
 }
 
-// How many bytes a form of so many rows has.
+// How many bytes a form of this many rows has.
 pub fn bytes_of(rows: u32) -> usize
     ensures { λ r. ⌜ r ≡ 8 + 16 * rows ⌝ }
 {

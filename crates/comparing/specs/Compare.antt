@@ -19,6 +19,7 @@ pub record Choice : Type 0 where
   pub places : Bool
   pub fresh : Bool
 
+-- a place as it counts under the choice: not at all, or as it is
 unfoldable pub blurPlace : Choice → ℕ → ℕ
 blurPlace c z = if c .places then 0 else z
 

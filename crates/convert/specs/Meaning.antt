@@ -8,6 +8,7 @@ use Rattle.converting.specs.Convert.{bufferAfter, rowsSaid}
 use Rattle.convert.specs.declared.run.Answer.{Answer}
 use Rattle.convert.specs.declared.run.Answer.the-variants.{Converted, Refused}
 
+-- what an answer of the code stands for in the rules
 unfoldable pub meaning : Answer → AnswerOf ℕ
 meaning (Converted rows) = accepted rows
 meaning (Refused refusal) = refused (refusal .number) (refusal .place) []

@@ -29,7 +29,7 @@ ghost use Rattle.convert.specs.Meaning.{meaning, Says};
 ghost use Rattle.convert.specs.Run.{refusedT, placeT, lacksT, Sized, Sound};
 
 pub enum Answer {
-    // The output begins with the form that was asked for, which has so many rows.
+    // The output begins with the form that was asked for, which has this many rows.
     Converted(u32),
     Refused(Refusal),
 }
@@ -93,7 +93,7 @@ fn convert_to(form: &[u8], from: usize, rows: usize, to: usize, out: &mut [u8]) 
     }
 }
 
-// A form, by the version asked for: refusal 1 if it has not the form's rule set, 2 if it has not so many rows.
+// A form, by the version asked for: refusal 1 if that version lacks the form's rule set, 2 if the form has more rows than it allows.
 fn convert_form(form: &[u8], from: usize, rows: usize, version: u32, out: &mut [u8]) -> Answer
     requires { ⌜ Sound from (now form) rows ⌝ }
     requires { ⌜ (1 ≤ version) × (version ≤ 2) × (setting (placeT version from) .version .header + 16 * rows ≤ length (now out)) ⌝ }

@@ -36,7 +36,7 @@ withinScopes s t input (bad place) = refused 4 place []
 withinScopes s t input (deep place) = refused 5 place []
 withinScopes s t input (form tree) = accepted (recast s t input)
 
--- refusal 1 if the version asked for has not the rule set of the form; refusal 2 if there are too many rows
+-- refusal 1 if the version asked for lacks the rule set of the form; refusal 2 if there are too many rows
 unfoldable pub withinLimits : (s : Setting) → Option Setting → List ℕ → AnswerOf (List ℕ)
 withinLimits s none input = refused 1 0 []
 withinLimits s (some t) input =
@@ -76,6 +76,7 @@ unfoldable pub bufferAfter : AnswerOf (List ℕ) → (old : List ℕ) → List �
 bufferAfter (refused number place carried) old = old
 bufferAfter (accepted new) old = new ++ drop (length new) old
 
+-- what the output buffer holds then
 unfoldable pub convertedOutput : List Setting → (version : ℕ) (input old : List ℕ) → List ℕ
 convertedOutput settings version input old = bufferAfter (converted settings version input (length old)) old
 
@@ -84,6 +85,7 @@ unfoldable pub saidBy : Option Setting → List ℕ → ℕ
 saidBy none input = 0
 saidBy (some s) input = rowCount (s .version) input
 
+-- how many rows a form says it has, by the setting that its header asks for
 unfoldable pub rowsSaid : List Setting → List ℕ → ℕ
 rowsSaid settings input = saidBy (settingOf settings input) input
 

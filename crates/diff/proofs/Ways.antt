@@ -229,7 +229,7 @@ module _ (l : List ℕ) (carried : Bool) (to : ℕ) where
               let v : size + (entrySize (e - i) carried + sizeT l carried to e m) ≡ T = rw (lt-ltb _ _ h, t, ← q) at w in
               record { most = m; enough = omega arith; goes = omega arith }
 
--- so many bytes `F` says
+-- this many bytes `F` says
 pub fields-long : (F : ℕ → ℕ → List ℕ) (l : List ℕ) (carried : Bool) (to : ℕ) → ((i e : ℕ) → i < e → e ≤ length l / 16 → length (F i e) ≡ entrySize (e - i) carried)
     → (most i : ℕ) → length (fieldsT F l to i most) ≡ sizeT l carried to i most
 unfolding fieldsT sizeT pick

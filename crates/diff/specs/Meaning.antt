@@ -8,6 +8,7 @@ use Rattle.comparing.specs.Compare.{Entry, listBytes, listAfter}
 use Rattle.diff.specs.declared.run.Answer.{Answer}
 use Rattle.diff.specs.declared.run.Answer.the-variants.{Listed, Refused}
 
+-- what an answer of the code stands for in the rules
 unfoldable pub meaning : Answer → AnswerOf ℕ
 meaning (Listed bytes) = accepted bytes
 meaning (Refused refusal) = refused (refusal .number) (refusal .place) []

@@ -15,7 +15,7 @@ use Rattle.matched.specs.Alike.{fieldEnd}
 abbrev pub entrySize : (rows : ℕ) (carried : Bool) → ℕ
 entrySize rows carried = 20 + pick carried (16 * rows) 0
 
--- the fields from row i up to `to`, so many at most
+-- the fields from row i up to `to`, this many at most
 unfoldable pub sizeT : List ℕ → (carried : Bool) (to i most : ℕ) → ℕ
 sizeT l carried to i zero = 0
 sizeT l carried to i (suc most) =
@@ -23,6 +23,7 @@ sizeT l carried to i (suc most) =
 
 -- ---- their bytes
 
+-- two numbers of four bytes each
 unfoldable pub twoT : (v w : ℕ) → List ℕ
 twoT v w = bytes 4 v ++ bytes 4 w
 
@@ -30,7 +31,7 @@ twoT v w = bytes 4 v ++ bytes 4 w
 unfoldable pub entryT : (kind i m j n : ℕ) → List ℕ
 entryT kind i m j n = bytes 4 kind ++ (twoT i m ++ twoT j n)
 
--- the bytes that `F` says of each field, from row i up to `to`, so many fields at most
+-- the bytes that `F` says of each field, from row i up to `to`, this many fields at most
 unfoldable pub fieldsT : (F : (i end : ℕ) → List ℕ) → List ℕ → (to i most : ℕ) → List ℕ
 fieldsT F l to i zero = []
 fieldsT F l to i (suc most) = pick (ltb i to) (pick (leb (fieldEnd l i) i) [] (F i (fieldEnd l i) ++ fieldsT F l to (fieldEnd l i) most)) []
@@ -39,6 +40,7 @@ fieldsT F l to i (suc most) = pick (ltb i to) (pick (leb (fieldEnd l i) i) [] (F
 unfoldable pub leftEntry : (j i end : ℕ) → List ℕ
 leftEntry j i end = entryT 2 i (end - i) j 0
 
+-- an entry for each field of the left that goes
 abbrev pub leftT : List ℕ → (j to i : ℕ) → List ℕ
 leftT l j to i = fieldsT (leftEntry j) l to i (length l / 16)
 
@@ -50,14 +52,17 @@ rowsHeld l j end = take (16 * end - 16 * j) (drop (16 * j) l)
 unfoldable pub rightEntry : List ℕ → (i j end : ℕ) → List ℕ
 rightEntry r i j end = entryT 3 i 0 j (end - j) ++ rowsHeld r j end
 
+-- an entry for each field of the right that comes
 abbrev pub rightT : List ℕ → (i to j : ℕ) → List ℕ
 rightT r i to j = fieldsT (rightEntry r i) r to j (length r / 16)
 
 -- ---- a lone field
 
+-- whether from this row up to that there is one field and no more
 unfoldable pub loneT : List ℕ → (from to : ℕ) → Bool
 loneT l from to = pick (leb to from) false (eqb (fieldEnd l from) to)
 
+-- b of the row at i: in a FIELD its code
 abbrev pub codeT : List ℕ → (i : ℕ) → ℕ
 codeT l i = partsAt l i .b
 

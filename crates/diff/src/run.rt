@@ -33,7 +33,7 @@ ghost use Rattle.diff.specs.Meaning.{meaning, bytesOf, Says};
 ghost use Rattle.diff.specs.Run.{refusing, opening, pairBytes, restBytes, restOf, bothBytes, rowsT};
 
 pub enum Answer {
-    // The list has so many bytes.
+    // The list has this many bytes.
     Listed(u32),
     Refused(Refusal),
 }
@@ -132,7 +132,7 @@ fn list_rows(left: &[u8], right: &[u8], choice: u32, list: &mut [u8]) -> Answer
     Answer::Listed(size as u32)
 }
 
-// The list for two forms with headers of so many bytes.
+// The list for two forms with headers of this many bytes.
 fn list_forms(left: &[u8], right: &[u8], header: usize, choice: u32, list: &mut [u8]) -> Answer
     requires { ⌜ (header ≤ length (now left)) × (length (now left) ≤ header + 1048576) × (header + 16 ≤ length (now right)) × (length (now right) ≤ header + 1048576) ⌝ }
     ensures { λ r. ⌜ (r & now (list .exit)) ≡ rowsT (choiceOf choice) (drop header (now (left .entry))) (drop header (now (right .entry))) (now (list .entry)) ⌝ }

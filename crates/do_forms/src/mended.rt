@@ -46,7 +46,7 @@ fn is_second(buffer: &[u8; 65536]) -> bool {
     buffer[3] == 2
 }
 
-// Mends the form in the first bytes of a buffer, so many. The list has room for every change that such a form can need.
+// Mends the form in the first bytes of a buffer, this many. The list has room for every change that such a form can need.
 fn mend_loaded(mut buffer: [u8; 65536], length: usize, path: &[u8]) -> u8 {
     if is_second(&buffer) {
         let refusal = Refusal {

@@ -41,7 +41,7 @@ fn version_of(word: &[u8]) -> Version {
     }
 }
 
-// How many bytes a form of a version and so many rows has: its header has 8 bytes, or 16.
+// How many bytes a form of a version and this many rows has: its header has 8 bytes, or 16.
 fn bytes_of(version: u32, rows: u32) -> usize {
     if version == 1 {
         8 + 16 * (rows as usize)

@@ -22,7 +22,7 @@ use words::say_number;
 // More entries than a list has: what is taken from a list stays below it, so that no sum can wrap.
 const MOST: u32 = 65536;
 
-// The number so many bytes behind the start of an entry of the first list.
+// The number this many bytes behind the start of an entry of the first list.
 fn moved_part(list: &[u8], entry: u32, offset: u32) -> u32 {
     word_at(list, entry % MOST * 16 + offset % 16)
 }
@@ -120,7 +120,7 @@ fn say_moved_entry(fd: i32, names: &[u8], form: &[u8], out: &[u8], list: &[u8], 
     say(fd, b"\n");
 }
 
-// Writes a line for each of the numbers that have moved, so many.
+// Writes a line for each of the numbers that have moved, this many.
 pub(crate) fn say_moved(fd: i32, names: &[u8], form: &[u8], out: &[u8], list: &[u8], count: u32) {
     let mut entry = 0;
     while entry < count {
@@ -162,7 +162,7 @@ fn say_apart_entry(fd: i32, list: &[u8], entry: u32) {
     say(fd, b" meant nothing: no declaration has that number\n");
 }
 
-// Writes a line for each of the numbers without an item, so many.
+// Writes a line for each of the numbers without an item, this many.
 pub(crate) fn say_apart(fd: i32, list: &[u8], count: u32) {
     let mut entry = 0;
     while entry < count {

@@ -35,7 +35,7 @@ use resolver::run::resolve;
 use view_json::tell_form;
 use words::say;
 
-// Of both lists, with so many entries: a line for each, or one for there being none.
+// Of both lists, with this many entries: a line for each, or one for there being none.
 fn say_lists(
     names: &[u8],
     form: &[u8],

@@ -104,7 +104,7 @@ fn each_member(root: &[u8], first: u8) -> u8 {
 
 // ---- the prelude
 
-// Writes the resolved prelude, which has so many rows, and then the members; none of them if that could not be done.
+// Writes the resolved prelude, which has this many rows, and then the members; none of them if that could not be done.
 fn with_members(resolved: &[u8; 65536], rows: u32, name: &[u8], path: &[u8], first: u8) -> u8 {
     let status = save_named(part(resolved, bytes_of(rows)), name, path);
     if status == FAILED {
@@ -165,7 +165,7 @@ fn is_spoilt(first: u8) -> bool {
     false
 }
 
-// Whether there are so many words that a prelude and its members, 1 to 8, have two each.
+// Whether there are as many words as a prelude and 1 to 8 members need, two each.
 fn are_pairs(first: u8) -> bool {
     let mut i = 0;
     while i < MOST {

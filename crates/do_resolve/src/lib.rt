@@ -106,7 +106,7 @@ fn moved_to(form: &[u8], out: &[u8]) -> u32 {
     list_numbers(form, out, &mut moved, &mut apart).moved
 }
 
-// How many aliases fewer so many rows have than the resolver's own output: an alias is three rows.
+// How many aliases fewer this many rows have than the resolver's own output: an alias is three rows.
 fn spared_in(form: &[u8], rows: u32) -> u32 {
     let mut buffer = io::large_buffer();
     match resolve(form, &mut buffer) {

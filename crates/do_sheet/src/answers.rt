@@ -15,7 +15,7 @@ use words::say_number;
 // More slots than a sheet has: what is taken from it stays below, so that no sum can wrap.
 const MOST: u32 = 65536;
 
-// The number so many bytes behind the start of a slot.
+// The number this many bytes behind the start of a slot.
 pub(crate) fn slot_part(sheet: &[u8], slot: u32, offset: u32) -> u32 {
     word_at(sheet, slot % MOST * 12 + offset % 16)
 }
@@ -86,7 +86,7 @@ fn say_slot(fd: i32, names: &[u8], form: &[u8], sheet: &[u8], answers: &[u8], sl
     say(fd, b"\n");
 }
 
-// Writes a line for each of so many slots.
+// Writes a line for each of this many slots.
 pub(crate) fn say_slots(
     fd: i32,
     names: &[u8],

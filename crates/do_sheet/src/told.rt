@@ -56,7 +56,7 @@ fn tell_slot(names: &[u8], form: &[u8], sheet: &[u8], answers: &[u8], slot: u32)
     say(STDOUT_FILENO, b"}\n");
 }
 
-// Writes an object for each of so many slots.
+// Writes an object for each of this many slots.
 pub(crate) fn tell_slots(names: &[u8], form: &[u8], sheet: &[u8], answers: &[u8], count: usize) {
     let mut slot = 0;
     while slot < count {

@@ -55,7 +55,7 @@ fn draw_arc(row: u16, target: u16, lane: u16, class: u8, right: u16) {
     write(b")\"/>\n");
 }
 
-// Draws the arcs of a form. `targets` has for each row what it means, `lanes` the lane of the arcs to it, `list` so many numbers that have moved.
+// Draws the arcs of a form. `targets` has for each row what it means, `lanes` the lane of the arcs to it, `list` this many numbers that have moved.
 pub(crate) fn draw_arcs(
     form: &[u8],
     targets: &[u16; MOST],

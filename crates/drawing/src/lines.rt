@@ -141,7 +141,7 @@ fn draw_other(names: &[u8], form: &[u8], row: u16, level: u32, right: u16) {
     end_text();
 }
 
-// A row behind so many open scopes; of a reference it is said what it means, and whether it is a number that has moved.
+// A row behind this many open scopes; of a reference it is said what it means, and whether it is a number that has moved.
 fn draw_row(
     names: &[u8],
     form: &[u8],
@@ -163,7 +163,7 @@ fn draw_row(
     }
 }
 
-// Draws the rows of a form. `targets` has for each row what it means, `list` so many numbers that have moved.
+// Draws the rows of a form. `targets` has for each row what it means, `list` this many numbers that have moved.
 pub(crate) fn draw_rows(
     names: &[u8],
     form: &[u8],

@@ -32,7 +32,7 @@ fn is_number(form: &[u8], row: u16) -> bool {
     (e == 0) | ((code_at(form, row) == OUTER) & (e == 1))
 }
 
-// Whether a reference is a number on a list of so many entries. Numbers of one place that meant one row have moved alike.
+// Whether a reference is a number on a list of this many entries. Numbers of one place that meant one row have moved alike.
 pub(crate) fn has_moved(form: &[u8], row: u16, meant: u16, list: &[u8], count: u32) -> bool {
     is_number(form, row) && has_entry(list, count, z_at(form, row), meant)
 }

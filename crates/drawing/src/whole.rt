@@ -46,7 +46,7 @@ fn lanes_of(rows: u16, targets: &[u16; MOST]) -> [u16; MOST] {
     lanes
 }
 
-// Draws a form; `list` has so many numbers that have moved, and `least` is how wide the heading is. The heading and the end are to follow.
+// Draws a form; `list` has this many numbers that have moved, and `least` is how wide the heading is. The heading and the end are to follow.
 pub fn draw(names: &[u8], form: &[u8], list: &[u8], count: u32, least: u32) {
     let rows = rows_in(form);
     let right = right_of(deepest(form), longest_line(names));

@@ -59,7 +59,7 @@ unfolding steps.comesLater
 before-if decls before space name n f late =
     sym (find-has before space name) ∙ not-later (isJust (find decls space name)) (isJust (find before space name)) (ap isJust f) late
 
--- where a walk ends that finds nothing late: so many scopes out
+-- where a walk ends that finds nothing late: this many scopes out
 pub record Ends (steps : List ℕ) (ls : List Level) (c space : ℕ) (at : ℕ × ℕ) : Type 0 where
   pub i : ℕ
   pub far : at .0 ≡ i + c

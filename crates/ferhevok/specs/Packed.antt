@@ -5,6 +5,7 @@ use Rattle.claim_check.specs.Meaning as claims
 use Rattle.rules.specs.Answer.{AnswerOf, refused, accepted}
 use Rattle.resolver.specs.Meaning.{Numbers}
 
+-- number and place in one number: the place in its lower 32 bits
 abbrev pub packed : Numbers → ℕ
 packed n = n .number * 4294967296 + n .place
 

@@ -13,6 +13,7 @@ use Rattle.refusal.specs.declared.Told.{Told}
 unfoldable pub answerTold : (input : List ℕ) (room long : ℕ) → Answer
 answerTold input room long = answer base input (if leb 2 long then room else 0)
 
+-- what the output holds; it stays as it was where there is no room to tell what a refusal carries
 unfoldable pub outputTold : (input old : List ℕ) (long : ℕ) → List ℕ
 outputTold input old long = if leb 2 long then output base input old else old
 

@@ -8,13 +8,13 @@ ghost use Rattle.files.specs.Paths.{folderOf, startOf};
 // The most links that are followed, as many as Linux follows.
 const LINKS: u8 = 40;
 
-// What following links came to: a path of so many bytes that is no link, or none.
+// What following links came to: a path of this many bytes that is no link, or none.
 pub(crate) enum Target {
     At(usize),
     Nowhere,
 }
 
-// What one link came to: a path of so many bytes, or one that there is no room for, or that it was no link.
+// What one link came to: a path of this many bytes, or one that there is no room for, or that it was no link.
 enum Step {
     To(usize),
     TooLong,

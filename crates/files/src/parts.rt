@@ -18,7 +18,7 @@ pub fn is_dash(path: &[u8]) -> bool
     path[0] == b'-'
 }
 
-// The first bytes, so many, or all that there are.
+// The first bytes, this many, or all that there are.
 pub fn front(bytes: &[u8], count: usize) -> &[u8]
     ensures { λ r. ⌜ now r ≡ take count (now (bytes .entry)) ⌝ }
 {

@@ -8,7 +8,7 @@ ghost use Rattle.files.specs.Loaded.{Fits};
 // The most bytes that a form has: those of an output of 4,092 rows.
 const LARGEST: usize = 65480;
 
-// What reading a file came to: so many bytes, or a sentence on standard error that says why not.
+// What reading a file came to: this many bytes, or a sentence on standard error that says why not.
 pub enum Loaded {
     Bytes(usize),
     Failed,

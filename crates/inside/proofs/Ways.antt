@@ -160,7 +160,7 @@ front-set (suc n) m scope h g =
     (ap (λ (k : ℕ). take n (replicate k noScope)) apart
     ∙ (ap (λ (l : List (List ℕ)). take n l) (sym (replicate-append-replicate n (m - n) noScope)) ∙ take-at (replicate n noScope) (replicate (m - n) noScope) n (length-replicate n noScope)))
 
--- one scope is open, of so many
+-- one scope is open, of this many
 stacked : (most name used : ℕ) (early : Bool) → 1 ≤ most → Stacked (set (replicate most noScope) 0 (scopeOf name 0 used 0)) (startIn used 1 early)
 unfolding Tiled
 stacked zero name used early h = absurd (omega arith)

@@ -25,6 +25,7 @@ use Rattle.member_laws.specs.Within.{walkInside}
 unfoldable pub walkBehind : Setting → Out ℕ (List Slot) → (name : ℕ) (rows ends : List ℕ) (entered : List Slot) (out : List ℕ) → Wrote
 walkBehind s (used & names) name rows ends entered out = walkInside s name used rows ends entered names out
 
+-- the walk inside the root whose rows are `root`: its declarations come first in the table of names, which has room for as many and for the form's
 unfoldable pub walkAround : Setting → (root rows ends : List ℕ) (entered names : List Slot) (out : List ℕ) → Wrote
 walkAround s root rows ends entered names out = walkBehind s (rootT names (rowsAt root 0)) (partsAt root 0 .x) rows ends entered out
 

@@ -5,9 +5,11 @@ use Prim.Native.Nat.{ℕ}
 use lib.Dec.{eqb, ltb}
 use Rattle.kit.specs.Pick.{pick}
 
+-- a byte that text has: it is no control byte but a tab or the end of a line
 abbrev pub isTextByte : ℕ → Bool
 isTextByte byte = ltb 31 byte || (eqb byte 9 || (eqb byte 10 || eqb byte 13))
 
+-- are all bytes those of a text?
 unfoldable pub isText : List ℕ → Bool
 isText [] = true
 isText (byte ∷ bytes) = pick (isTextByte byte) (isText bytes) false

@@ -6,5 +6,6 @@ use lib.Dec.{eqb}
 use lib.ListN.{getD}
 use Rattle.row_count.specs.Count.{beginsWnt}
 
+-- whether bytes begin as a form of version 2 does
 abbrev pub isSecond : List ℕ → Bool
 isSecond bytes = beginsWnt bytes && eqb (getD bytes 3 0) 2

@@ -39,12 +39,14 @@ enterRowT p table used = pick (eqb (p .code) 2) (pushed table used (slotOf p 0))
 unfoldable pub enterThen : {A : Type 0} → Out ℕ (List Slot) → (ℕ → List Slot → A) → A
 enterThen (used & table) f = f used table
 
+-- every DECL of the scope is entered
 unfoldable pub enterAll : List Visit → List Slot → (used : ℕ) → Out ℕ (List Slot)
 enterAll [] table used = used & table
 enterAll (v ∷ vs) table used = enterThen (enterRowT (v .parts) table used) λ u t. enterAll vs t u
 
 -- ---- what it refers to
 
+-- was anything found?
 abbrev pub isFound : Found → Bool
 isFound (At n) = true
 isFound Nothing = false
@@ -70,20 +72,24 @@ serveT p row alias marked = leftBy (putRow marked row (Ref (p .b) (Name alias) 0
 unfoldable pub beside : Out Marking (List Slot) → List ℕ → Step
 beside (m & table) marked = m & table & marked
 
+-- a name of a scope further out: it gets the alias that served it before, or is noted as the one that an alias will serve
 unfoldable pub outerT : Found → Parts → (row : ℕ) → Marking → List Slot → List ℕ → Step
 outerT (At alias) p row m table marked = m & table & serveT p row alias marked
 outerT Nothing p row m table marked = beside (insertT p m table) marked
 
+-- a walked name: one that the scope declares stays as it is
 unfoldable pub nameT : Parts → (row : ℕ) → Marking → List Slot → List ℕ → Step
 nameT p row m table marked =
     pick (isFound (findIn (between 0 (m .own) table) (p .b) (p .x))) (m & table & marked)
     (outerT (findIn (between (m .own) (m .used) table) (p .b) (p .x)) p row m table marked)
 
+-- a REF: with PATHs as many fresh names are passed, without PATHs a number stays and a name is walked
 unfoldable pub refT : Parts → (row : ℕ) → Marking → List Slot → List ℕ → Step
 refT p row m table marked =
     pick (ltb 0 (p .y)) (marking (m .own) (m .used) ((m .fresh + p .y) % 4294967296) & table & marked)
     (pick (eqb (p .e) 0) (m & table & marked) (nameT p row m table marked))
 
+-- a row of the scope: only a REF whose operands are walked is looked at
 unfoldable pub rowT : Parts → (row : ℕ) (walked : Bool) → Marking → List Slot → List ℕ → Step
 rowT p row walked m table marked =
     pick walked (pick (eqb (p .code) 3) (refT p row m table marked) (m & table & marked)) (m & table & marked)
@@ -91,6 +97,7 @@ rowT p row walked m table marked =
 unfoldable pub markThen : {A : Type 0} → Step → (Marking → List Slot → List ℕ → A) → A
 markThen (m & table & marked) f = f m table marked
 
+-- all rows of a scope, in order
 unfoldable pub markAll : List Visit → Marking → List Slot → List ℕ → Step
 markAll [] m table marked = m & table & marked
 markAll (v ∷ vs) m table marked =
@@ -119,17 +126,18 @@ openT rows ends i fresh table marked =
 unfoldable pub scopesThen : {A : Type 0} → Steps → (ℕ → List Slot → List ℕ → A) → A
 scopesThen (fresh & table & marked) f = f fresh table marked
 
--- the rows from i on, so many
+-- the rows from i on, `left` of them
 unfoldable pub scopesT : (rows ends : List ℕ) (i left fresh : ℕ) → List Slot → List ℕ → Out (List Slot) (List ℕ)
 scopesT rows ends i zero fresh table marked = table & marked
 scopesT rows ends i (suc left) fresh table marked =
     scopesThen (openT rows ends i fresh table marked) λ f t l. scopesT rows ends (i + 1) left f t l
 
--- the rows from i on copied to their own places, so many
+-- the rows from i on copied to their own places, `left` of them
 unfoldable pub copiesT : (rows : List ℕ) (i left : ℕ) (marked : List ℕ) → List ℕ
 copiesT rows i zero marked = marked
 copiesT rows i (suc left) marked = copiesT rows (i + 1) left (leftBy (copyRow rows i marked i))
 
+-- all rows of a form: copied, and then marked scope by scope
 unfoldable pub markedT : (rows ends : List ℕ) → List Slot → (marked : List ℕ) → Out (List Slot) (List ℕ)
 markedT rows ends table marked =
     let count = length rows / 16 in

@@ -34,7 +34,7 @@ pub record Visit : Type 0 where
   pub walked : Bool
   pub parts : Parts
 
--- from a place up to the scope's CLOSE, so many rows at most
+-- from a place up to the scope's CLOSE, this many rows at most
 unfoldable pub visitsT : (rows ends : List ℕ) (turns : ℕ) → Place → List Visit
 visitsT rows ends zero at = []
 visitsT rows ends (suc turns) at =

@@ -162,7 +162,7 @@ fn back(left: &[u8], right: &[u8], from: usize, choice: u32) -> usize
     same
 }
 
-// The first field of the left, from this row on, with so many rows or fewer from it to the root's CLOSE.
+// The first field of the left, from this row on, with this many rows or fewer from it to the root's CLOSE.
 fn tail(rows: &[u8], from: usize, same: usize) -> usize
     requires { ⌜ (from ≤ length (now rows) / 16) × (same ≤ length (now rows) / 16) ⌝ }
     ensures { λ r. ⌜ (r ≡ tailT (now (rows .entry)) same from (length (now (rows .entry)) / 16)) × (length (now (rows .entry)) / 16 ≤ r + 1 + same) × (from ≤ r) × (r ≤ length (now (rows .entry)) / 16) ⌝ }

@@ -23,6 +23,7 @@ use Rattle.meant.specs.declared.Declared.the-variants.{Member, Prelude, 
 
 -- ---- in one form
 
+-- what a name means that is looked for in the member alone
 unfoldable pub inMember : Meaning → Declared
 inMember (MeaningAt row number out name) = Member row
 inMember Nowhere = NotDeclared
@@ -40,6 +41,7 @@ memberFound NotFound = NotDeclared
 unfoldable pub inRoot : (prelude : List ℕ) (space name : ℕ) → Declared
 inRoot prelude space name = rootFound (findIn prelude 1 space (Name name))
 
+-- a name that one scope of the member declares
 unfoldable pub scopeMeant : (member : List ℕ) (scope space name : ℕ) → Declared
 scopeMeant member scope space name = memberFound (findIn member scope space (Name name))
 
@@ -58,18 +60,22 @@ byReading Outward prelude member row = walkedT prelude member row
 byReading LookedUp prelude member row = inMember (meaningOf member row)
 byReading Counting prelude member row = NotDeclared
 
+-- a REF: a name that is not walked means what its own scope declares, and a number means nothing here
 unfoldable pub refT : (prelude member : List ℕ) (row : ℕ) → Declared
 refT prelude member row = byReading (readingOf member row) prelude member row
 
 -- ---- a named index of OUTER
 
+-- the outer scope that is asked for: by its name, where bit 0 of e says so, or by a count
 unfoldable pub outerWantedT : (e x : ℕ) → Wanted
 outerWantedT e x = pick (eqb (e % 2) 1) (Named x) (Out x)
 
+-- was a scope found?
 abbrev pub isThere : Outer → Bool
 isThere (OuterAt scope out) = true
 isThere NoScope = false
 
+-- whether there is such a scope of the member around a row
 unfoldable pub hasScope : (member : List ℕ) (row : ℕ) → Wanted → Bool
 hasScope member row wanted = isThere (scopeOutward member (scopeOf member row) wanted)
 
@@ -79,6 +85,7 @@ isRootT prelude member row (Out count) = pick (eqb count 0) false (hasScope memb
 isRootT prelude member row (Named name) = eqb (xAt prelude 0) name
 isRootT prelude member row (Declaring space name) = false
 
+-- a named index where no scope of the member is the one asked for
 unfoldable pub behindT : (prelude member : List ℕ) (row : ℕ) → Wanted → Declared
 behindT prelude member row wanted = pick (isRootT prelude member row wanted) (inRoot prelude (bAt member row) (yAt member row)) NotDeclared
 
@@ -86,6 +93,7 @@ unfoldable pub inOuterT : Outer → (prelude member : List ℕ) (row : ℕ) → 
 inOuterT (OuterAt scope out) prelude member row wanted = scopeMeant member scope (bAt member row) (yAt member row)
 inOuterT NoScope prelude member row wanted = behindT prelude member row wanted
 
+-- a named index: what the scope declares that is asked for
 unfoldable pub indexT : (prelude member : List ℕ) (row : ℕ) → Declared
 indexT prelude member row =
     let wanted = outerWantedT (eAt member row) (xAt member row) in
@@ -93,6 +101,7 @@ indexT prelude member row =
 
 -- ---- any row
 
+-- what the name in a row means; rows without one mean nothing, and so does an OUTER whose index is a number
 unfoldable pub nameT : (prelude member : List ℕ) (row : ℕ) → Declared
 nameT prelude member row =
     pick (eqb (codeAt member row) 5) (pick (ltb (eAt member row) 2) NotDeclared (indexT prelude member row))

@@ -12,6 +12,7 @@ use Rattle.meant.specs.Names.{nameT}
 unfoldable pub partOf : List ℕ → List ℕ
 partOf form = pick (ltb (length form) 8) form (pick (eqb (getD form 3 0) 2) (drop 8 form) form)
 
+-- which declaration the name in a row of the member means, and in which of the two forms it stands
 unfoldable pub meantT : (prelude member : List ℕ) (row : ℕ) → Declared
 meantT prelude member row = nameT (partOf prelude) (partOf member) row
 

@@ -112,7 +112,7 @@ fn has_scope(member: &[u8], row: u16, wanted: Wanted) -> bool
     }
 }
 
-// Whether the scope behind all of the member's is the one asked for: the prelude's root has that name, or is just so many out.
+// Whether the scope behind all of the member's is the one asked for: the prelude's root has that name, or is just this many out.
 fn is_root(prelude: &[u8], member: &[u8], row: u16, wanted: Wanted) -> bool
     ensures { λ r. ⌜ r ≡ isRootT (now (prelude .entry)) (now (member .entry)) row wanted ⌝ }
 {

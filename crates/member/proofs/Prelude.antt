@@ -67,7 +67,7 @@ module _ (s : Setting) (able : Able s) where
       go true q = cc
       go false q = let z : _≡_ {A = ℕ} 0 1 = cc in absurd (omega arith)
 
-  -- the bytes behind the header, so many rows
+  -- the bytes behind the header, this many rows
   body-of : (rs : List Row) (size : ℕ) (old : List ℕ) → take (16 * length rs) (drop (s .version .header) (written size (formBytes s rs) old)) ≡ drop (s .version .header) (formBytes s rs)
   unfolding written formBytes
   body-of rs size old =

@@ -30,7 +30,7 @@ fn least(a: usize, b: usize) -> usize
     if a < b { a } else { b }
 }
 
-// The rows of the form of the setting at place i at the front of these bytes, which says that it has so many.
+// The rows of the form at the front of these bytes, as many as its header counts; the form is of the setting at place i.
 pub fn rows_of(form: &[u8], i: usize, count: u32) -> &[u8]
     ensures { λ r. ⌜ now r ≡ take (16 * count) (drop (setting i .version .header) (now (form .entry))) ⌝ }
 {

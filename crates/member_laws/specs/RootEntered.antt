@@ -114,7 +114,7 @@ module _ (names : List Slot) (counts : List (List ℕ)) (used : ℕ) where
       let e : depth + 1 - 1 ≡ depth = omega arith in
       rw (row-passed names counts (depth + 1) used Close i (λ h. omega arith) (eqb (depth + 1) 1) false refl refl, e)
 
-  -- from row i to row k nothing is entered, where so many scopes are open
+  -- from row i to row k nothing is entered, where this many scopes are open
   abbrev Skips : (depth i k : ℕ) (rs : List Row) → Type 0
   Skips depth i k rs = (rest : List Row) → rowsT i names counts (cursor depth used) (allParts (rs ++ rest)) ≡ rowsT k names counts (cursor depth used) (allParts rest)
 

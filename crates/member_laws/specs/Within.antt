@@ -29,6 +29,7 @@ inner s =
 abbrev pub oneOpen : (most name used : ℕ) → List (List ℕ)
 oneOpen most name used = set (replicate most noScope) 0 (scopeOf name 0 used 0)
 
+-- the walk over a form inside one scope of this name, whose declarations are the first `used` slots
 unfoldable pub walkInside : Setting → (name used : ℕ) (rows ends : List ℕ) (entered names : List Slot) (out : List ℕ) → Wrote
 walkInside s name used rows ends entered names out =
     let most = s .version .scopes in

@@ -105,7 +105,7 @@ fn run_lent(
     answer
 }
 
-// The room in a working area of so many bytes for the prelude: all of its size, or none where an area is below its own.
+// The room in a working area of this many bytes for the prelude: all of its size, or none where an area is below its own.
 fn room_in(i: usize, small: bool, work: usize) -> usize
     ensures { λ r. ⌜ (r ≡ roomWith (ltb work (areaFor (setting i .version)) || small) (areaFor (setting i .version))) × (r ≤ work) × (r ≤ areaFor (setting i .version)) ⌝ }
 {

@@ -25,6 +25,7 @@ use Rattle.mend.specs.declared.run.Answer.the-variants.{Mended, Refused}
 abbrev pub Ran : Type 0
 Ran = Out Answer (Out (List ℕ) (List ℕ))
 
+-- a refusal whose number document 01 gives, and its place
 abbrev pub refusedT : (number place : ℕ) → Answer
 refusedT number place = Refused (record { number = number; place = place })
 
@@ -35,6 +36,7 @@ unfoldable pub lettersT : List ℕ → (version : ℕ) → Bool
 lettersT l version =
     eqb (getD l 0 0) 87 && (eqb (getD l 1 0) 78 && (eqb (getD l 2 0) 84 && (eqb (getD l 3 0) version && eqb (getD l 4 0) 0)))
 
+-- whether a form begins as one of these limits does
 unfoldable pub asksT : Limits → List ℕ → Bool
 asksT l form =
     pick (ltb (length form) 8) false
@@ -52,29 +54,34 @@ placeT form =
 unfoldable pub newT : Limits → (old : List ℕ) → Kept → List ℕ
 newT l old k = headerBytes (settingIn l) (k .rows + k .scopes) ++ bodyT (drop (l .header) old) k
 
+-- puts the mended form in place of the first `long` bytes, and zeros where it is shorter
 unfoldable pub inPlace : (buffer : List ℕ) (long : ℕ) (form : List ℕ) → List ℕ
 inPlace buffer long form = sets (sets buffer 0 form) (length form) (replicate (long - length form) 0)
 
+-- writes the list and the form
 unfoldable pub writeT : Limits → (buffer : List ℕ) (long : ℕ) (list : List ℕ) → Kept → Ran
 writeT l buffer long list k =
     let cs = changesIn l (take long buffer) in
     Mended (length cs) & inPlace buffer long (newT l (take long buffer) k) & sets list 0 (listBytes cs)
 
+-- refusals 4 and 5 for a mended form that has room; then it is written
 unfoldable pub readThen : Reading → Limits → (buffer : List ℕ) (long : ℕ) (list : List ℕ) → Kept → Ran
 readThen (reading.Broken row) l buffer long list k = refusedT 4 (row % 4294967296) & buffer & list
 readThen (reading.Deep row) l buffer long list k = refusedT 5 (row % 4294967296) & buffer & list
 readThen reading.Whole l buffer long list k = writeT l buffer long list k
 
--- whether a form of so many bytes, and its list, have room
+-- whether a form of this many bytes, and its list, have room
 unfoldable pub roomT : Limits → (old : List ℕ) (size room space : ℕ) → Bool
 roomT l old size room space = pick (ltb room size) false (leb (length (listBytes (changesIn l old))) space)
 
+-- refusals 3 to 5 for a form of which these rows stay; then it is written
 unfoldable pub toT : Limits → (buffer : List ℕ) (long : ℕ) (list : List ℕ) → Kept → Ran
 toT l buffer long list k =
     pick (roomT l (take long buffer) (l .header + 16 * (k .rows + k .scopes)) (length buffer) (length list))
     (readThen (readTo l (bodyT (drop (l .header) (take long buffer)) k)) l buffer long list k)
     (refusedT 3 0 & buffer & list)
 
+-- mends a form that begins as one of these limits does
 unfoldable pub madeT : Limits → (buffer : List ℕ) (long : ℕ) (list : List ℕ) → Ran
 madeT l buffer long list =
     let k = keptIn (drop (l .header) (take long buffer)) in let rows = k .rows + k .scopes in

@@ -36,7 +36,7 @@ ghost use Rattle.mend.specs.Run.{refusedT, lettersT, asksT, placeT, writ
 const SETTINGS: usize = 3;
 
 pub enum Answer {
-    // So many changes were made.
+    // How many changes were made.
     Mended(u32),
     Refused(Refusal),
 }
@@ -117,7 +117,7 @@ fn list_size(old: &[u8], limits: Limits) -> usize
     done.size
 }
 
-// Whether a mended form of so many bytes, and its list, have room.
+// Whether a mended form of this many bytes, and its list, have room.
 fn has_room(old: &[u8], limits: Limits, size: usize, room: usize, space: usize) -> bool
     ensures { λ r. ⌜ r ≡ roomT limits (now (old .entry)) size room space ⌝ }
 {

@@ -9,9 +9,11 @@ use Rattle.rules.specs.Rows.{Close, encodeRow}
 use Rattle.mending.specs.Mend.{closeRows}
 use Rattle.mend_form.specs.declared.Kept.{Kept}
 
+-- the part that byte j of a row belongs to: code, b, e, x, y, z
 unfoldable pub partAt : ℕ → ℕ
 partAt j = pick (ltb j 2) j (pick (ltb j 4) 2 (2 + j / 4))
 
+-- whether a part stays as it is, by the row's code: e of a builtin (19) and of an export (22) says something
 unfoldable pub staysT : (code b part : ℕ) → Bool
 staysT code b part =
     pick (eqb code 1) (eqb part 1 || (eqb part 5 || (eqb part 2 && (eqb b 19 || eqb b 22))))
@@ -22,6 +24,7 @@ staysT code b part =
     (pick (eqb code 8) false
     (pick (eqb code 9) (eqb part 3) true))))))
 
+-- byte j of a mended row
 unfoldable pub byteT : (code b j byte : ℕ) → ℕ
 byteT code b j byte =
     pick (eqb (partAt j) 0) byte

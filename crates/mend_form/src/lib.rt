@@ -16,7 +16,7 @@ pub struct Kept {
 
 // ---- the rows that stay
 
-// Whether a row is the root's CLOSE, where so many scopes are open.
+// Whether a row is the root's CLOSE, where this many scopes are open.
 fn closes_root(code: u8, depth: usize) -> bool
     ensures { λ r. ⌜ r ≡ closesRoot code depth ⌝ }
 {

@@ -18,6 +18,7 @@ use Rattle.mend_list.specs.declared.Listed.{Listed}
 abbrev pub listed : (size count : ℕ) → Listed
 listed size count = record { size = size; count = count }
 
+-- no bytes and no changes
 abbrev pub none : Listed
 none = listed 0 0
 
@@ -33,6 +34,7 @@ change old at n m = record { at = at; before = take n (drop at old); now = m }
 unfoldable pub pieceChanges : (old new : List ℕ) (at to n : ℕ) → List Change
 pieceChanges old new at to n = pick (sameNumbers (take n (drop at old)) (take n (drop to new))) [] (change old at n n ∷ [])
 
+-- how many bytes the part has that begins at byte j of a row, 0 where none does
 unfoldable pub widthT : ℕ → ℕ
 widthT j =
     pick (eqb j 0) 1 (pick (eqb j 1) 1 (pick (eqb j 2) 2 (pick (eqb j 4) 4 (pick (eqb j 8) 4 (pick (eqb j 12) 4 0)))))
@@ -42,7 +44,7 @@ unfoldable pub rowChanges : (old new : List ℕ) (a j left : ℕ) → List Chang
 rowChanges old new a j zero = []
 rowChanges old new a j (suc left) = pieceChanges old new (a + j) j (widthT j) ++ rowChanges old new a (j + 1) left
 
--- `left` rows from row i on, behind a header of so many bytes
+-- `left` rows from row i on, behind a header of this many bytes
 unfoldable pub rowsChanges : (header : ℕ) (old : List ℕ) → Kept → (i left : ℕ) → List Change
 rowsChanges header old k i zero = []
 rowsChanges header old k i (suc left) = rowChanges old (rowIn (drop header old) k i) (header + 16 * i) 0 16 ++ rowsChanges header old k (i + 1) left

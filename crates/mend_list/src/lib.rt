@@ -21,7 +21,7 @@ ghost use Rattle.mending.specs.Mend.{changeBytes};
 ghost use Rattle.mend_form.specs.Filled.{rowIn};
 ghost use Rattle.mend_list.specs.Listed.{change, noted, pieceChanges, widthT, rowChanges, rowsChanges, headT, headChanges, restChanges, allChanges, changesIn, none};
 
-// So many bytes, and so many changes.
+// How many bytes and how many changes there are.
 pub struct Listed {
     pub size: usize,
     pub count: u32,
@@ -51,7 +51,7 @@ fn put_bytes(list: &mut [u8], to: usize, old: &[u8], from: usize, n: usize)
     }
 }
 
-// So many zeros.
+// A number of zeros.
 fn put_zeros(list: &mut [u8], to: usize, n: usize)
     requires { ⌜ to + n < 18446744073709551616 ⌝ }
     ensures { λ _. ⌜ now (list .exit) ≡ sets (now (list .entry)) to (replicate n 0) ⌝ }
@@ -171,7 +171,7 @@ fn list_row(old: &[u8], new: &[u8], a: usize, list: &mut [u8], s: Listed) -> Lis
     t
 }
 
-// Lists the parts of row i, behind a header of so many bytes.
+// Lists the parts of row i, behind a header of this many bytes.
 fn list_mended(
     old: &[u8],
     header: usize,
@@ -212,7 +212,7 @@ fn wide(byte: u8) -> usize
     byte as usize
 }
 
-// The header of a form of so many rows, in as many bytes as the longest has.
+// The header of a form of this many rows, in as many bytes as the longest has.
 fn header_of(limits: Limits, count: usize) -> [u8; 16]
     ensures { λ r. ⌜ r ≡ headT limits count ⌝ }
 {

@@ -1,4 +1,4 @@
--- The ways through the reading of mended rows: those of the reader, on the bytes of the mended rows.
+-- The ways through the code that reads mended rows: those of the reader, on the bytes of the mended rows.
 use mathlib.Core.Path.{_≡_, refl, sym, ap, _∙_}
 use mathlib.Core.List.{List}
 use native.Mathlib.Omega.{arith}

@@ -30,7 +30,7 @@ ghost use Rattle.reader.specs.Readings.{readTo};
 ghost use Rattle.mend_form.specs.Kept.{keptIn};
 ghost use Rattle.mend_form.specs.Filled.{bodyT};
 
-// Goes on with a reading over the next row of the mended form.
+// Reads the next row of the mended form.
 fn read_next(
     rows: &[u8],
     kept: Kept,

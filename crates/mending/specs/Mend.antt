@@ -59,6 +59,7 @@ changeBytes c =
     let n = length (c .before) in
     bytes 4 (c .at) ++ (bytes 4 n ++ (bytes 4 (c .now) ++ (c .before ++ replicate ((4 - n % 4) % 4) 0)))
 
+-- the bytes of a list of changes, one behind another
 unfoldable pub listBytes : List Change → List ℕ
 listBytes [] = []
 listBytes (c ∷ cs) = changeBytes c ++ listBytes cs
@@ -107,10 +108,11 @@ rowPieces row =
 
 -- ---- all rows, by counting OPEN (7) and CLOSE (8) codes
 
--- is it the root's CLOSE, where so many scopes are open?
+-- is it the root's CLOSE, where this many scopes are open?
 unfoldable pub closesRoot : (code depth : ℕ) → Bool
 closesRoot code depth = eqb code 8 && leb depth 1
 
+-- how many scopes are open behind a row of this code
 unfoldable pub depthAfter : (code depth : ℕ) → ℕ
 depthAfter code depth = if eqb code 7 then suc depth else if eqb code 8 then depth - 1 else depth
 

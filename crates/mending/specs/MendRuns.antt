@@ -66,7 +66,7 @@ says input number place = record { input = input; room = 1000; space = 1000; exp
 unfoldable was : (at now : ℕ) → List ℕ → Change
 was at now before = record { at = at; before = before; now = now }
 
--- a header that says so many rows, and byte 5
+-- a header that says this many rows, and byte 5
 unfoldable headed : (five count : ℕ) → List ℕ → List ℕ
 headed five count rows = 87 ∷ 78 ∷ 84 ∷ 1 ∷ 0 ∷ five ∷ count ∷ 0 ∷ rows
 

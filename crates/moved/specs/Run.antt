@@ -24,6 +24,7 @@ rowsAsked i form = rowsOf (headerTo (limitsOf (setting i)) form)
 abbrev pub Lists : Type 0
 Lists = Out Listed (Out (List ℕ) (List ℕ))
 
+-- fills both lists: the entries, and zeros behind them
 unfoldable pub listedT : (form out moved apart : List ℕ) → Lists
 listedT form out moved apart = noted none (zeroFrom moved 0) (zeroFrom apart 0) (entriesIn form out)
 
@@ -31,6 +32,7 @@ listedT form out moved apart = noted none (zeroFrom moved 0) (zeroFrom apart 0) 
 unfoldable pub before : Lists → (moved apart : List ℕ) → Lists
 before (n & first & second) moved apart = n & first ++ moved & second ++ apart
 
+-- fills the lists' share for a form of this many rows; what lies beyond stays as it was
 unfoldable pub frontsT : (form out moved apart : List ℕ) (rows : ℕ) → Lists
 frontsT form out moved apart rows =
     before (listedT form out (take (16 * rows) moved) (take (12 * rows) apart)) (drop (16 * rows) moved) (drop (12 * rows) apart)

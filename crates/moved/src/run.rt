@@ -26,7 +26,7 @@ const MOVED: usize = 16;
 const APART: usize = 12;
 
 pub enum Answer {
-    // So many numbers are on the two lists.
+    // How many numbers are on each of the two lists.
     Listed(Listed),
     Refused(Refusal),
 }
@@ -67,7 +67,7 @@ fn fill(form: &[u8], out: &[u8], moved: &mut [u8], apart: &mut [u8]) -> Listed
     list_numbers(form, out, moved, apart)
 }
 
-// Fills the lists' share for a form of so many rows; what lies beyond stays as it was.
+// Fills the lists' share for a form of this many rows; what lies beyond stays as it was.
 pub fn fill_fronts(
     form: &[u8],
     out: &[u8],

@@ -74,7 +74,7 @@ unfolding pick only
 decided m true e₁ e₂ = rw (e₁, e₂) (says-moved (m .z) (m .space) (m .meant) (m .gets))
 decided m false e₁ e₂ = rw (e₁, e₂) says-nothing
 
--- ---- a scope so many scopes out
+-- ---- a scope this many scopes out
 
 unfoldable scopeFor : Option Floor → (d : ℕ) → Reached
 scopeFor none d = Nowhere

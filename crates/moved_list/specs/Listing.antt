@@ -22,6 +22,7 @@ unfoldable pub behindFrom : (out : List ℕ) (row left : ℕ) → ℕ
 behindFrom out row zero = row
 behindFrom out row (suc left) = pick (eqb (codeAt out row) 7 || eqb (codeAt out row) 8) (row + 1) (behindFrom out (row + 1) left)
 
+-- the row behind the next OPEN or CLOSE, from a row on
 unfoldable pub behindNext : (out : List ℕ) (row : ℕ) → ℕ
 behindNext out row = behindFrom out row (rowsIn out - row)
 
@@ -38,12 +39,15 @@ entriesFrom form out row (suc left) at =
     let here = follow out at (codeAt form row) in
     entryAt form row out here ∷ entriesFrom form out (row + 1) left here
 
+-- the entries of both lists together, in the order of rows
 unfoldable pub entriesIn : (form out : List ℕ) → List Entry
 entriesIn form out = entriesFrom form out 0 (rowsIn form) 0
 
+-- an entry of the first list, by its four numbers
 abbrev pub movedNumber : (z space meant gets : ℕ) → MovedNumber
 movedNumber z space meant gets = record { z = z; space = space; meant = meant; gets = gets }
 
+-- an entry of the second list, by its three numbers
 abbrev pub noItem : (z space number : ℕ) → NoItem
 noItem z space number = record { z = z; space = space; number = number }
 
@@ -66,6 +70,7 @@ apartOf (Nothing ∷ es) = apartOf es
 abbrev pub listed : (moved apart : ℕ) → Listed
 listed moved apart = record { moved = moved; apart = apart }
 
+-- no entry on either list
 abbrev pub none : Listed
 none = listed 0 0
 

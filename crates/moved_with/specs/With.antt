@@ -6,6 +6,7 @@ use Rattle.moving.specs.MovedAnswer.{MovedAnswer, Rooms, movedAnswer, Buffers, 
 use Rattle.resolver_with.specs.Areas.{Lent, roomy}
 use Rattle.resolver_with.specs.Served.{served, asked}
 
+-- the rules' answer; tables that are too small count as an output without room
 unfoldable pub movedWith : (input : List ℕ) → Rooms → Lent → MovedAnswer
 movedWith input rooms lent =
     movedAnswer served input (record { out = if roomy (asked input .version) lent then rooms .out else 0; moved = rooms .moved; apart = rooms .apart })

@@ -28,7 +28,7 @@ ghost use Rattle.moved.specs.Meaning.{meaning, ruled, held};
 ghost use Rattle.moved.specs.Run.{frontsT};
 ghost use Rattle.moved_with.specs.With.{movedWith, buffersWith};
 
-// Whether lists of these lengths are too short for a form of so many rows.
+// Whether lists of these lengths are too short for a form of this many rows.
 fn are_short(moved: usize, apart: usize, rows: usize) -> bool
     requires { ⌜ rows ≤ 16383 ⌝ }
     ensures { λ r. ⌜ r ≡ ltb moved (16 * rows) || ltb apart (12 * rows) ⌝ }

@@ -55,6 +55,7 @@ unfoldable pub movedFor : Option Setting → (input : List ℕ) → Rooms → Mo
 movedFor none input rooms = refused 1 0 []
 movedFor (some v) input rooms = movedIn v input rooms
 
+-- the answer under the setting that the input's header asks for
 unfoldable pub movedAnswer : List Setting → (input : List ℕ) → Rooms → MovedAnswer
 movedAnswer settings input rooms = movedFor (settingOf settings input) input rooms
 
@@ -93,6 +94,7 @@ pub record Buffers : Type 0 where
   pub moved : List ℕ
   pub apart : List ℕ
 
+-- how long the three buffers are
 unfoldable pub roomsOf : Buffers → Rooms
 roomsOf old = record { out = length (old .out); moved = length (old .moved); apart = length (old .apart) }
 
@@ -104,6 +106,7 @@ unfoldable pub buffersFor : Option Setting → (input : List ℕ) → Buffers �
 buffersFor none input old = old
 buffersFor (some v) input old = buffersAfter v (movedIn v input (roomsOf old)) (rowCount (v .version) input) old
 
+-- what the three buffers hold then
 unfoldable pub buffers : List Setting → (input : List ℕ) → Buffers → Buffers
 buffers settings input old = buffersFor (settingOf settings input) input old
 

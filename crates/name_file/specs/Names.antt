@@ -9,6 +9,7 @@ use Rattle.name_file.specs.declared.Word.{Word}
 
 -- ---- a line
 
+-- a line of which no byte is read
 abbrev pub newLine : Line
 newLine = record { at = 0; exported = false; number = 0; from = 0; to = 0 }
 
@@ -16,9 +17,11 @@ newLine = record { at = 0; exported = false; number = 0; from = 0; to = 0 }
 abbrev pub turned : Line → (at : ℕ) → Line
 turned line at = record { at = at; exported = line .exported; number = line .number; from = line .from; to = line .to }
 
+-- is the byte a digit?
 abbrev pub isDigit : ℕ → Bool
 isDigit byte = leb 48 byte && leb byte 57
 
+-- is the byte one that a word may have: printable, and no space?
 abbrev pub isWordByte : ℕ → Bool
 isWordByte byte = ltb 32 byte && ltb byte 127
 
@@ -26,6 +29,7 @@ isWordByte byte = ltb 32 byte && ltb byte 127
 unfoldable pub longer : (number byte : ℕ) → ℕ
 longer number byte = pick (ltb number 4294967296) (number * 10 + (byte - 48)) number
 
+-- the line with a digit more of its number
 unfoldable pub withDigit : Line → (byte : ℕ) → Line
 withDigit line byte =
     pick
@@ -47,6 +51,7 @@ unfoldable pub inWord : Line → (byte from to : ℕ) → Line
 inWord line byte from to =
     pick (isWordByte byte) (record { at = 3; exported = line .exported; number = line .number; from = from; to = to }) (turned line 5)
 
+-- the line with one byte more at its word, which a CR ends
 unfoldable pub behindWord : Line → (byte to : ℕ) → Line
 behindWord line byte to = pick (eqb byte 13) (turned line 4) (inWord line byte (line .from) to)
 
@@ -71,6 +76,7 @@ isFor line number = ltb (line .from) (line .to) && eqb (line .number) number
 unfoldable pub isOf : Line → (number : ℕ) → (exported : Bool) → Bool
 isOf line number exported = pick exported (isFor line number && line .exported) (isFor line number && not (line .exported))
 
+-- the word of a line, by the bytes where it begins and ends
 abbrev pub wordIn : Line → Word
 wordIn line = record { from = line .from; to = line .to }
 

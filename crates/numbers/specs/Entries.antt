@@ -52,6 +52,7 @@ unfoldable pub gets : Number → (meant : ℕ) → Found → Entry
 gets n meant (FoundAt row number) = Moved (n .z) (n .space) meant row
 gets n meant NotFound = Nothing
 
+-- a number that meant something in the input, in its scope of the output
 unfoldable pub getsEntry : (out : List ℕ) (scope : ℕ) → Number → (meant : ℕ) → Entry
 getsEntry out scope n meant =
     pick (isPushed out scope n) (gets n meant (findIn out scope (n .space) (Numbered (n .number)))) Nothing
@@ -60,7 +61,7 @@ unfoldable pub getsIn : (out : List ℕ) → Outer → Number → (meant : ℕ) 
 getsIn out (OuterAt scope away) n meant = getsEntry out scope n meant
 getsIn out Nowhere n meant = Nothing
 
--- so many scopes out from a row
+-- this many scopes out from a row
 unfoldable pub outputEntry : (out : List ℕ) (at away : ℕ) → Number → (meant : ℕ) → Entry
 outputEntry out at away n meant = getsIn out (scopeOutward out (scopeOf out at) (Out away)) n meant
 
@@ -70,6 +71,7 @@ unfoldable pub meantBy : (out : List ℕ) (at away : ℕ) → Number → Found �
 meantBy out at away n (FoundAt row number) = outputEntry out at away n row
 meantBy out at away n NotFound = Apart (n .z) (n .space) (n .number)
 
+-- a number in its scope of the input, which is `away` scopes out
 unfoldable pub countedEntry : (form : List ℕ) (scope away : ℕ) → Number → (out : List ℕ) (at : ℕ) → Entry
 countedEntry form scope away n out at = meantBy out at away n (findIn form scope (n .space) (Numbered (n .number)))
 

@@ -117,7 +117,7 @@ fn gets_entry(out: &[u8], scope: u16, n: Number, meant: u16) -> Entry
     }
 }
 
-// The same, so many scopes out from a row of the output.
+// The same, this many scopes out from a row of the output.
 fn output_entry(out: &[u8], at: u16, away: u32, n: Number, meant: u16) -> Entry
     ensures { λ r. ⌜ r ≡ outputEntry (now (out .entry)) at away n meant ⌝ }
 {
@@ -127,7 +127,7 @@ fn output_entry(out: &[u8], at: u16, away: u32, n: Number, meant: u16) -> Entry
     }
 }
 
-// A number in its scope of the input, which is so many scopes out.
+// A number in its scope of the input, which is this many scopes out.
 fn counted_entry(form: &[u8], scope: u16, away: u32, n: Number, out: &[u8], at: u16) -> Entry
     ensures { λ r. ⌜ r ≡ countedEntry (now (form .entry)) scope away n (now (out .entry)) at ⌝ }
 {

@@ -27,6 +27,7 @@ keyOf form row = pick (eqb (eAt form row) 0) (Number (xAt form row)) (Name (xAt 
 unfoldable pub outerWanted : (e x : ℕ) → Wanted
 outerWanted e x = pick (eqb e 1 || eqb e 3) (Named x) (Out x)
 
+-- the second operand of an OUTER, which is a number or a name by the other bit of e
 unfoldable pub indexKey : (e y : ℕ) → Key
 indexKey e y = pick (ltb e 2) (Number y) (Name y)
 

@@ -8,14 +8,17 @@ use Rattle.parts.specs.declared.Parts.{Parts}
 
 -- ---- numbers in bytes, the lower byte first
 
+-- the number in the two bytes from a
 abbrev pub two : List ℕ → ℕ → ℕ
 two l a = getD l a 0 + getD l (a + 1) 0 * 256
 
+-- the number in the four bytes from a
 abbrev pub four : List ℕ → ℕ → ℕ
 four l a = getD l a 0 + getD l (a + 1) 0 * 256 + getD l (a + 2) 0 * 65536 + getD l (a + 3) 0 * 16777216
 
 -- ---- six parts together
 
+-- six parts by their numbers
 abbrev pub parts : (code b e x y z : ℕ) → Parts
 parts code b e x y z = record { code = code; b = b; e = e; x = x; y = y; z = z }
 

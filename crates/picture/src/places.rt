@@ -39,7 +39,7 @@ fn depth_of(level: u32) -> u8 {
     if level < 40 { level as u8 } else { DEEPEST }
 }
 
-// The left edge of a scope that is opened behind so many open ones.
+// The left edge of a scope that is opened behind this many open ones.
 pub fn left_of(level: u32) -> u32 {
     (LEFT + STEP * (depth_of(level) as u16)) as u32
 }

@@ -23,7 +23,7 @@ besideT (used & names) counts = used & names & counts
 unfoldable pub numberedT : Out ℕ (List (List ℕ)) → Parts → (i used : ℕ) → List Slot → Tables
 numberedT (number & counts) p i used names = besideT (pushed names used (slotOf (p .b) (p .x) number (i % 4294967296) 0 0)) counts
 
--- behind row i, where so many scopes are open before it
+-- behind row i, where this many scopes are open before it
 unfoldable pub rowT : Parts → (i depth used : ℕ) → List Slot → (counts : List (List ℕ)) → Tables
 rowT p i depth used names counts =
     pick (eqb depth 1)
@@ -37,6 +37,7 @@ Went = Out Cursor (Out (List Slot) (List (List ℕ)))
 unfoldable pub behindT : (depth : ℕ) → Tables → Went
 behindT depth (used & names & counts) = record { depth = depth; used = used } & names & counts
 
+-- goes over row i
 unfoldable pub turnT : Parts → (i : ℕ) → List Slot → (counts : List (List ℕ)) → Cursor → Went
 turnT p i names counts c = behindT (depthT (c .depth) (p .code)) (rowT p i (c .depth) (c .used) names counts)
 

@@ -32,7 +32,7 @@ fn behind(depth: usize, code: u8) -> usize
     depth
 }
 
-// Enters row i where so many scopes are open, if it is a DECL of the root.
+// Enters row i where this many scopes are open, if it is a DECL of the root.
 fn enter_row(
     p: Parts,
     i: usize,

@@ -1,4 +1,4 @@
--- Ways through the reading of rows.
+-- Ways through the code that reads rows.
 use mathlib.Core.Path.{_≡_, refl, sym, ap, _∙_}
 use mathlib.Core.Bool.{Bool, true, false, _&&_, not, or-false, and-true, and-false}
 use mathlib.Core.Option.{Option, none, some}
@@ -38,7 +38,7 @@ use Rattle.read_row.specs.Machine.{declaring, wanting, pathing, exported
 use Rattle.read_row.specs.declared.Field.{Field}
 use Rattle.read_row.specs.declared.State.{State}
 
--- ---- where a reading stands
+-- ---- how far the rows are read
 
 -- what a state is made of
 module _ (d k n m : ℕ) (f : Field) where

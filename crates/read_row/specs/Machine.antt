@@ -18,22 +18,25 @@ use Rattle.rows.specs.declared.row.Row.the-variants as row
 use Rattle.read_row.specs.declared.Field.{Field}
 use Rattle.read_row.specs.declared.State.{State}
 
--- ---- where a reading stands
+-- ---- how far the rows are read
 
--- with what the field wants
+-- how far a field is read, with what it still wants
 pub data Standing : Type 0 where
   declaring : Option (List Part) → Standing
   wanting : Option (List Part) → Standing
   pathing : (left : ℕ) → Option (List Part) → Standing
   exported : Standing
 
+-- whether a field is being read, and how far it is
 pub data Current : Type 0 where
   between-fields : Current
   within : Field → Standing → Current
 
+-- how far the rows are read: how many scopes are open, the kind of the innermost, and the field there
 pub data Place : Type 0 where
   place : (depth kind : ℕ) → Current → Place
 
+-- what a row leads to: on from a position, or the end, which is a form, a wrong row or a scope too many
 pub data Outcome : Type 0 where
   on : Place → Outcome
   whole : Outcome
@@ -46,23 +49,29 @@ pub data Outcome : Type 0 where
 unfoldable pub standingOf : (stage paths : ℕ) → Option (List Part) → Standing
 standingOf stage paths o = pick (eqb stage 0) (declaring o) (pick (eqb stage 1) (wanting o) (pick (eqb stage 2) (pathing paths o) exported))
 
+-- the field of a state
 unfoldable pub currentIn : State → Current
 currentIn s = pick (leb (s .stage) 3) (within (s .field) (standingOf (s .stage) (s .paths) (leftOf (s .left)))) between-fields
 
+-- the position of a state that is not at its end
 unfoldable pub placeOf : State → Place
 placeOf s = place (s .depth) (s .kind) (currentIn s)
 
+-- what a state stands for
 unfoldable pub outcomeOf : State → Outcome
 outcomeOf s = pick (ltb (s .stage) 5) (on (placeOf s)) (pick (eqb (s .stage) 5) whole (pick (eqb (s .stage) 7) deep wrong))
 
 -- ---- a field
 
+-- a field of which only its FIELD is read
 unfoldable pub newField : (code builtin : ℕ) → Field
 newField code builtin = record { code = code; builtin = builtin; decls = 0; name = 0 }
 
+-- one DECL more; 2 stands for all that are more
 unfoldable pub moreT : ℕ → ℕ
 moreT decls = pick (ltb decls 2) (decls + 1) decls
 
+-- the field with one DECL more; its first DECL gives it its name
 unfoldable pub declaredT : Field → (name : ℕ) → Field
 declaredT f name =
     pick (eqb (f .decls) 0)
@@ -99,10 +108,12 @@ mayEndT (within f stage) = settledT (within f stage) && isNone (opens (f .code))
 
 -- ---- what a row leads to
 
+-- a FIELD: the field before it may end, and the scope allows this one
 unfoldable pub fieldT : Place → (code builtin : ℕ) → Outcome
 fieldT (place d k c) code builtin =
     pick (mayEndT c && (allowed k code && builtinOk code builtin)) (on (place d k (within (newField code builtin) (declaring (bareParts code))))) wrong
 
+-- a DECL: it stands before the operands, and the field may declare it
 unfoldable pub declT : RuleSet → Place → (space name : ℕ) → Outcome
 declT rules (place d k between-fields) space name = wrong
 declT rules (place d k (within f (declaring o))) space name =
@@ -115,6 +126,7 @@ declT rules (place d k (within f exported)) space name = wrong
 unfoldable pub pathedT : (depth kind : ℕ) → Field → (paths : ℕ) → List Part → Outcome
 pathedT d k f paths ps = pick (eqb paths 0) (on (place d k (within f (wanting (some ps))))) (on (place d k (within f (pathing paths (some ps)))))
 
+-- on with what the field then wants, if the row was one that it wants
 unfoldable pub stays : Option (List Part) → (List Part → Outcome) → Outcome
 stays none go = wrong
 stays (some ps) go = go ps
@@ -124,15 +136,19 @@ unfoldable pub operandT : Current → (fits : Want → Bool) → (Field → List
 operandT between-fields fits go = wrong
 operandT (within f stage) fits go = stays (wantedT (within f stage) then λ ps. next fits ps) (go f)
 
+-- a REF, which the field wants
 unfoldable pub refT : Place → (space paths : ℕ) → Outcome
 refT (place d k c) space paths = operandT c (λ w. fitsRef w space paths) (λ f. pathedT d k f paths)
 
+-- an OUTER, which the field wants
 unfoldable pub outerT : Place → (space : ℕ) → Outcome
 outerT (place d k c) space = operandT c (λ w. fitsOuter w space) (λ f. pathedT d k f 0)
 
+-- a CASE, which the field wants
 unfoldable pub caseT : Place → Outcome
 caseT (place d k c) = operandT c isCase (λ f. pathedT d k f 0)
 
+-- a PATH: the REF before it has one more to come
 unfoldable pub pathT : Place → Outcome
 pathT (place d k between-fields) = wrong
 pathT (place d k (within f (declaring o))) = wrong
@@ -145,6 +161,7 @@ unfoldable pub mayExportT : Current → Bool
 mayExportT between-fields = false
 mayExportT (within f stage) = isComplete (wantedT (within f stage)) && exports (f .code)
 
+-- the EXPORT of a field that has all its operands
 unfoldable pub exportT : Place → Outcome
 exportT (place d k between-fields) = wrong
 exportT (place d k (within f stage)) = pick (mayExportT (within f stage)) (on (place d k (within f exported))) wrong
@@ -154,6 +171,7 @@ unfoldable pub mayOpenT : Current → (kind name : ℕ) → Bool
 mayOpenT between-fields kind name = false
 mayOpenT (within f stage) kind name = settledT (within f stage) && sameKind (opens (f .code)) kind && eqb name (f .name)
 
+-- between two fields of a scope
 unfoldable pub betweenT : (depth kind : ℕ) → Outcome
 betweenT d k = on (place d k between-fields)
 
@@ -164,10 +182,12 @@ openT (place d k c) kinds kind name =
     (pick (leb (length kinds) d) (deep & kinds) (betweenT (d + 1) kind & set kinds d k))
     (wrong & kinds)
 
+-- a CLOSE: of the root it ends the form, of any other scope the field that holds it
 unfoldable pub closeT : Place → (kinds : List ℕ) → Outcome
 closeT (place d k c) kinds =
     pick (mayEndT c) (pick (leb d 1) whole (betweenT (d - 1) (getD kinds (d - 1) 0))) wrong
 
+-- what each kind of row leads to
 unfoldable pub stepT : RuleSet → Place → (kinds : List ℕ) → Row → Out Outcome (List ℕ)
 stepT rules p kinds (row.Field code builtin z) = fieldT p code builtin & kinds
 stepT rules p kinds (row.Decl space name z) = declT rules p space name & kinds

@@ -1,4 +1,4 @@
-// Where the reading of a form stands, and what a row leads to from there.
+// How far the rows of a form are read, and what a row leads to from there.
 use after_row::CASE;
 use after_row::END;
 use after_row::NOTHING;
@@ -27,9 +27,9 @@ ghost use Rattle.wants.specs.States.{leftOf, Right};
 ghost use Rattle.shapes.specs.Starts.{known};
 ghost use Rattle.read_row.specs.Machine.{on, wrong, whole, deep, currentIn, placeOf, outcomeOf, moreT, declaredT, declaredLeft, wantedT, settledT, mayEndT, fieldT, declT, betweenT, pathedT, stays, refT, outerT, caseT, pathT, exportT, mayOpenT, openT, closeT, stepT, inRoot};
 
-// ---- where a reading stands
+// ---- how far the rows are read
 
-// Where the reading is in a field: among its DECLs; past them, with what it still wants; at a REF of which PATHs are still to
+// How far a field is read: among its DECLs; past them, with what it still wants; at a REF of which PATHs are still to
 // come; past its EXPORT; not in one. The first two have operands to come.
 const DECLARING: usize = 0;
 
@@ -41,29 +41,38 @@ const EXPORTED: usize = 3;
 
 const BETWEEN: usize = 4;
 
-// Where it ends: the form is whole, a row is wrong, or a scope is one too many.
+// What the rows were found to be: a whole form, or with a wrong row, or with one scope too many.
 pub const WHOLE: usize = 5;
 
 const WRONG: usize = 6;
 
 pub const DEEP: usize = 7;
 
-// The field at hand: its code, e of its FIELD as `builtin`, how many DECLs it has (2 stands for more), and the name of the first.
+// The field at hand.
 pub struct Field {
+    // Which field it is.
     pub code: usize,
+    // Part e of its FIELD: the builtin, or whether the type is ascribed.
     pub builtin: usize,
+    // How many DECLs it has so far; 2 stands for two or more.
     pub decls: usize,
+    // The name of its first DECL, which a scope that it opens must have.
     pub name: usize,
 }
 
-// Where the reading is: how many scopes are open, the kind of the innermost, and its field. `left` is what the field wants
-// (of `shapes`), and `paths` PATHs are still to come, where the stage has them. All are whole words, so that they stay in registers.
+// How far the rows are read. All are whole words, so that they stay in registers.
 pub struct State {
+    // How many scopes are open.
     pub depth: usize,
+    // The kind of the innermost of them.
     pub kind: usize,
+    // How far its field is read, or what the rows were found to be: one of the constants above.
     pub stage: usize,
+    // What the field still wants, as a number of `wants`; only among its DECLs and operands.
     pub left: usize,
+    // How many PATHs of a REF are still to come; only behind one.
     pub paths: usize,
+    // The field at hand.
     pub field: Field,
 }
 
@@ -389,7 +398,7 @@ fn on_export(s: State, table: &[[u8; 41]; 67]) -> State
     fault(s)
 }
 
-// The reading goes on between two fields of a scope.
+// On between two fields of a scope.
 fn between(s: State, depth: usize, kind: usize) -> State
     ensures { λ r. ⌜ outcomeOf r ≡ betweenT depth kind ⌝ }
 {
@@ -420,7 +429,7 @@ fn on_open(s: State, kinds: &mut [usize], table: &[[u8; 41]; 67], kind: usize, n
     between(s, depth + 1, kind)
 }
 
-// The kind of the scope that has so many around it, 0 where none was noted.
+// The kind of the scope that has this many around it, 0 where none was noted.
 fn kind_at(kinds: &[usize], depth: usize) -> usize
     ensures { λ r. ⌜ r ≡ getD (now (kinds .entry)) depth 0 ⌝ }
 {

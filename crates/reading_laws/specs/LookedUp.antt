@@ -193,7 +193,7 @@ module _ (form : List ℕ) where
       let y : yAt form r ≡ name = ap yPart is in
       rw (c, b, e, x, y)
 
-  -- in the scope that is so many out
+  -- in the scope that is this many out
   name-out : (fs : List Floor) (d space name : ℕ) → eqb name 0 ≡ false → Chain form fs → DeclsAre form fs → inOuter form (scopeOutward form (firstRow fs) (Out d)) space (Name name) ≡ saidName (getElem? fs d) d space name
   unfolding saidName inOuter
   name-out fs d space name is-name C D = ap (λ (o : OuterScope). inOuter form o space (Name name)) outward ∙ go (getElem? fs d) refl
@@ -247,7 +247,7 @@ module _ (form : List ℕ) (s : Scope) (R : Rows form s) (p : Place) (r : ℕ) (
       ∙ (ap (λ (k : ℕ). inScope form k 0 (sought space (length paths)) (Name name)) (U .around)
       ∙ name-in form fs 0 (U .f) (firstRow (U .rest)) 0 (sought space (length paths)) name is-name decls-are refl (U .chain .0))
 
-  -- the named index of an OUTER, in the scope that is so many out
+  -- the named index of an OUTER, in the scope that is this many out
   pub index-row : (space d name z : ℕ) → operandAt s p ≡ some (outer space (Num d) (Id name) z) → eqb name 0 ≡ false → meaningOf form r ≡ saidName (getElem? (around form s R p r at) d) d space name
   index-row space d name z e is-name =
       let same = operand-used form s p r U (outer space (Num d) (Id name) z) e in

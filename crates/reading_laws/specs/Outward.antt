@@ -97,7 +97,7 @@ module _ (form : List ℕ) where
     unfolding scopeOutward
     scope-outward fs C = outward-chain fs (firstRow fs) 0 C (chain-length fs C)
 
-  -- so many scopes out
+  -- this many scopes out
   pub count-out : (fs : List Floor) (d out : ℕ) (f : Floor) → getElem? fs d ≡ some f → firstWanted form (Out (out + d)) out fs ≡ OuterAt (f .row) (out + d)
   unfolding firstWanted
   count-out [] d out f e = no-option f e

@@ -49,7 +49,7 @@ saidFrom [] named d space n out = Nowhere
 saidFrom (f ∷ fs) named zero space n out = saidEnd (f ∷ fs) named (countedRow f space n) n out
 saidFrom (f ∷ fs) named (suc d) space n out = saidFrom fs named d space n out
 
--- the space in which a REF with so many PATHs is sought: with any, that of the instance where they start
+-- the space in which a REF with this many PATHs is sought: with any, that of the instance where they start
 unfoldable pub sought : (space paths : ℕ) → ℕ
 sought space paths = pick (eqb paths 0) space (pick (ltb space 7) 6 10)
 

@@ -71,7 +71,7 @@ module _ (form : List ℕ) where
   unfolding meaningOf encode pick
   outer-meaning r space up at z is = let c : codeAt form r ≡ 5 = ap codePart is in rw c
 
-  -- ---- in one scope, and so many scopes out
+  -- ---- in one scope, and this many scopes out
 
   said-in : (f : Floor) (beyond out space n : ℕ) → Stands form f beyond → ((x : Located) → countedRow f space n ≡ some x → Is form (x .row) (declRowOf (x .standing .decl)))
       → inScope form (f .row) out space (Number n) ≡ said (countedRow f space n) n out

@@ -25,6 +25,7 @@ use Rattle.readings.specs.declared.Reading.the-variants.{Outward, Looked
 unfoldable pub readingOf : (form : List ℕ) (row : ℕ) → Reading
 readingOf form row = pick (eqb (eAt form row) 0) Counting (pick (isWalked form row) Outward LookedUp)
 
+-- is the reference a walked name?
 abbrev pub isOutward : Reading → Bool
 isOutward Outward = true
 isOutward LookedUp = false

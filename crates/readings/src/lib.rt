@@ -68,7 +68,7 @@ pub fn is_outward(form: &[u8], row: u16) -> bool
     }
 }
 
-// The declaration that one scope has, so many scopes out.
+// The declaration that one scope has, this many scopes out.
 fn in_scope(form: &[u8], scope: u16, out: u32, space: u8, key: Key) -> Meaning
     ensures { λ r. ⌜ r ≡ inScope (now (form .entry)) scope out space key ⌝ }
 {

@@ -8,6 +8,7 @@ use Rattle.refusal.specs.declared.Told.{Told}
 abbrev pub refusalAt : (number place : ℕ) → Refusal
 refusalAt number place = record { number = number; place = place }
 
+-- what is told by its two numbers
 abbrev pub tells : (space first : ℕ) → Told
 tells space first = record { space = space; first = first }
 

@@ -48,6 +48,7 @@ unfoldable pub anonymousAfter : List Setting → (input : List ℕ) → AnswerOf
 anonymousAfter settings input (refused number place carried) old = old
 anonymousAfter settings input (accepted key) old = renamedBytes (placeOf key) settings input ++ drop (length input) old
 
+-- what the output buffer holds then, where it held `old` before
 unfoldable pub anonymousOutput : List Setting → (input old : List ℕ) → List ℕ
 anonymousOutput settings input old = anonymousAfter settings input (anonymous settings input (length old)) old
 

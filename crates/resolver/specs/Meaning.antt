@@ -13,6 +13,7 @@ pub record Numbers : Type 0 where
   pub number : ℕ
   pub place : ℕ
 
+-- a number and a place together
 abbrev pub numbers : ℕ → ℕ → Numbers
 numbers number place = record { number = number; place = place }
 

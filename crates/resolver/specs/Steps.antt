@@ -11,6 +11,7 @@ use Rattle.resolver.specs.Run.{walkT}
 use Rattle.resolver.specs.declared.steps.Steps.{Steps}
 use Rattle.resolver.specs.declared.steps.Steps.the-variants.{Pass, Refused}
 
+-- what the walk says of the steps alone: nothing, or the refusal
 unfoldable pub stepsIn : Wrote → Steps
 stepsIn (walked.Done s & out) = Pass
 stepsIn (walked.Refused why told & out) = Refused why

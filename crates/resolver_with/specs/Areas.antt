@@ -24,6 +24,7 @@ pub record Lent : Type 0 where
   pub chains : ℕ
   pub ends : ℕ
 
+-- the lengths of the areas that are lent
 abbrev pub lentOf : (entered names : List Slot) (known chains ends : List ℕ) → Lent
 lentOf entered names known chains ends =
     record { entered = length entered; names = length names; known = length known; chains = length chains; ends = length ends }

@@ -10,6 +10,7 @@ use Rattle.limits.specs.Held.{setting}
 use Rattle.names.specs.Table.{Slot, emptySlot}
 use Rattle.resolver_with.specs.Areas.{slotsFor, linksFor, Lent}
 
+-- has each area just the size that the version asks for?
 unfoldable pub exactly : Version → Lent → Bool
 exactly v l =
     eqb (l .entered) (slotsFor v) && (eqb (l .names) (slotsFor v) && (eqb (l .known) (linksFor v) && (eqb (l .chains) (linksFor v) && eqb (l .ends) (slotsFor v))))

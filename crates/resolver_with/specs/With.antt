@@ -14,9 +14,11 @@ use Rattle.resolver.specs.declared.run.Answer.{Answer}
 use Rattle.resolver_with.specs.Areas.{Lent, roomy}
 use Rattle.resolver_with.specs.Served.{served, asked}
 
+-- the rules' answer; areas that are too small count as an output without room
 unfoldable pub answerWith : (input : List ℕ) (room : ℕ) → Lent → rules.Answer
 answerWith input room lent = answer served input (if roomy (asked input .version) lent then room else 0)
 
+-- what the output holds then
 unfoldable pub outputWith : (input old : List ℕ) → Lent → List ℕ
 outputWith input old lent = if roomy (asked input .version) lent then output served input old else old
 

@@ -8,6 +8,7 @@ use Rattle.kit.specs.Pick.{pick}
 use Rattle.parts.specs.Apart.{two}
 use Rattle.row_bytes.specs.Parts.{startOf}
 
+-- are the first three letters WNT?
 abbrev pub beginsWnt : List ℕ → Bool
 beginsWnt form = eqb (getD form 0 0) 87 && eqb (getD form 1 0) 78 && eqb (getD form 2 0) 84
 

@@ -8,11 +8,6 @@ ghost use mathlib.Core.Path.{_≡_};
 ghost use Prim.Native.Nat.{_+_, _≤_};
 ghost use Rattle.row_kinds.specs.Kinds.{isInserted, isReference, nextOf, countOn};
 
-// The codes of rows that `rows` does not name.
-pub const CASE: u8 = 6;
-
-pub const EXPORT: u8 = 9;
-
 // A DECL's name from here up was inserted.
 pub const FIRST_FRESH: u32 = 2147483648;
 

@@ -35,5 +35,6 @@ unfoldable pub insertedFrom : (form : List ℕ) (row left count : ℕ) → ℕ
 insertedFrom form row zero count = count
 insertedFrom form row (suc left) count = insertedFrom form (row + 1) left (pick (isInserted form row) (count + 1) count)
 
+-- how many DECL rows of a form have the name of an inserted field
 unfoldable pub insertedIn : List ℕ → ℕ
 insertedIn form = insertedFrom form 0 (rowsIn form) 0

@@ -14,13 +14,13 @@ pub use row_count::has_header;
 pub use row_count::is_whole;
 pub use row_count::rows_in;
 pub use row_count::rows_said;
-pub use row_kinds::CASE;
-pub use row_kinds::EXPORT;
 pub use row_kinds::FIRST_FRESH;
 pub use row_kinds::counted;
 pub use row_kinds::is_inserted;
 pub use row_kinds::is_reference;
 pub use row_kinds::next;
+pub use rows::row::CASE;
+pub use rows::row::EXPORT;
 pub use rows::row::OUTER;
 pub use rows::row::PATH;
 

@@ -115,7 +115,7 @@ nested (suc n) = raw 1 6 0 0 0 0 ∷ raw 2 11 0 0 0 0 ∷ raw 7 0 0 0 0 0 ∷ (n
 
 cases : List Case
 cases =
-    -- reading: a form without its last CLOSE; a row behind it; an inner OPEN with another name than its field's DECL
+    -- rows that are no form: a form without its last CLOSE; a row behind it; an inner OPEN with another name than its field's DECL
     record { input = raw 7 0 0 0 0 0 ∷ []; expected = refusal 4 1 }
     ∷ record { input = root [] ++ (raw 8 0 0 0 0 0 ∷ []); expected = refusal 4 2 }
     ∷ record { input = root (raw 1 6 0 0 0 0 ∷ raw 2 11 0 2 0 0 ∷ raw 7 0 0 3 0 0 ∷ raw 8 0 0 0 0 0 ∷ []); expected = refusal 4 3 }

@@ -30,6 +30,7 @@ scopeAbove form (suc above) level =
     let code = codeAt form above in
     pick (eqb level 0 && eqb code 7) (suc above) (scopeAbove form above (levelAbove level code))
 
+-- the scope in which a row stands
 unfoldable pub scopeOf : (form : List ℕ) (row : ℕ) → ℕ
 scopeOf form row = scopeAbove form row 0
 

@@ -44,6 +44,7 @@ abbrev pub isFound : Found → Bool
 isFound (At row number) = true
 isFound Nothing = false
 
+-- does the scope declare this name in this space?
 unfoldable pub declaresName : (form : List ℕ) (scope space name : ℕ) → Bool
 declaresName form scope space name = isFound (findIn form scope space (Name name))
 
@@ -61,5 +62,6 @@ outwardFrom form wanted (suc left) scope out =
     (pick (isWanted form scope out wanted) (OuterAt scope out)
     (outwardFrom form wanted left (scopeOf form (scope - 1)) (out + 1)))
 
+-- the first scope, from this one outward, that is wanted
 unfoldable pub scopeOutward : (form : List ℕ) (scope : ℕ) → Wanted → Outer
 scopeOutward form scope wanted = outwardFrom form wanted scope scope 0

@@ -32,7 +32,7 @@ pub enum Found {
 
 // Which scope is looked for, going outward.
 pub enum Wanted {
-    // The one so many scopes out.
+    // The one this many scopes out.
     Out(u32),
     // One of that name.
     Named(u32),
@@ -91,7 +91,7 @@ fn declares_name(form: &[u8], scope: u16, space: u8, name: u32) -> bool
     }
 }
 
-// Whether a scope, so many scopes out, is the one that is wanted.
+// Whether a scope, this many scopes out, is the one that is wanted.
 fn is_wanted(form: &[u8], scope: u16, out: u32, wanted: Wanted) -> bool
     requires { ⌜ 0 < scope ⌝ }
     ensures { λ r. ⌜ r ≡ isWanted (now (form .entry)) scope out wanted ⌝ }

@@ -65,7 +65,7 @@ fn propose(form: &[u8], out: &mut [u8]) -> Answer
 
 // ---- the check
 
-// The form of so many rows at the front of the output, under the setting at place i.
+// The form of this many rows at the front of the output, under the setting at place i.
 pub fn front_of(out: &[u8], i: usize, rows: u32) -> &[u8]
     ensures { λ r. ⌜ now r ≡ take (setting i .version .header + 16 * rows) (now (out .entry)) ⌝ }
 {

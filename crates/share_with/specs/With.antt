@@ -21,10 +21,12 @@ bytesFor v = 16 * v .rows
 unfoldable pub tooSmall : Version → (bytes slots links : ℕ) → Lent → Bool
 tooSmall v bytes slots links lent = not (roomy v lent) || (ltb bytes (bytesFor v) || (ltb slots (slotsOf v) || ltb links (linksOf v)))
 
+-- the rules' answer; areas that are too small count as an output without room
 unfoldable pub sharedWith : (input : List ℕ) (room bytes slots links : ℕ) → Lent → Answer
 sharedWith input room bytes slots links lent =
     shared served input (if tooSmall (asked input .version) bytes slots links lent then 0 else room)
 
+-- what the output holds then
 unfoldable pub outputWith : (input old : List ℕ) (bytes slots links : ℕ) → Lent → List ℕ
 outputWith input old bytes slots links lent =
     if tooSmall (asked input .version) bytes slots links lent then old else sharedOutput served input old

@@ -121,6 +121,7 @@ sharedFor none settings input old = old
 sharedFor (some s) settings input old =
     outputAfter s (shared settings input (length old)) (s .version .header + 64 * rowCount (s .version) input) old
 
+-- what the output buffer holds then, where it held `old` before
 unfoldable pub sharedOutput : List Setting → (input old : List ℕ) → List ℕ
 sharedOutput settings input old = sharedFor (settingOf settings input) settings input old
 

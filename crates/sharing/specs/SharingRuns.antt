@@ -69,7 +69,7 @@ type name rs = raw 1 12 0 0 0 0 ∷ raw 2 9 0 name 0 0 ∷ rs
 unfoldable outerAlias : (name up at z : ℕ) → List Raw
 outerAlias name up at z = raw 1 11 0 0 0 z ∷ raw 2 9 0 name 0 z ∷ raw 5 9 0 up at z ∷ []
 
--- so many references with the same operand, at places from z on
+-- this many references with the same operand, at places from z on
 unfoldable many : (count e x z : ℕ) → List Raw
 many zero e x z = []
 many (suc count) e x z = raw 3 9 e x 0 z ∷ many count e x (suc z)

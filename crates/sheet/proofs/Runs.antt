@@ -63,7 +63,7 @@ module _ (settings : List Setting) (usual : AllUsual settings) (within : AllWith
   pub agrees : Agree settings form (runOf settings form) (answer settings form (length o))
   agrees = run-agrees settings form (length o) long
 
-  -- so many rows were written, and the area begins with the run's bytes
+  -- this many rows were written, and the area begins with the run's bytes
   pub record Wrote (run : Run) (rows : ℕ) : Type 0 where
     pub some-rows : 1 ≤ rows
     pub size : length (run .bytes) ≡ head + 16 * rows

@@ -12,6 +12,7 @@ use Rattle.resolver.specs.Meaning.{Numbers}
 use Rattle.sheet.specs.declared.Answer.{Answer}
 use Rattle.sheet.specs.declared.Answer.the-variants.{Refused}
 
+-- document 01's refusal of that number
 abbrev pub refusedT : (number : ℕ) → Answer
 refusedT number = Refused (record { number = number; place = 0 })
 

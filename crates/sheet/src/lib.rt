@@ -28,7 +28,7 @@ pub const AREA: usize = 65480;
 pub const NOT_ITS_SHEET: u32 = 15;
 
 pub enum Answer {
-    // So many slots are not bound as written.
+    // How many slots are not bound as written.
     Answered(usize),
     Refused(Refusal),
 }

@@ -10,6 +10,7 @@ use Rattle.binding.specs.Sheet.{SheetAnswer, soundSheet, sheetAnswer}
 use Rattle.resolver_with.specs.Areas.{Lent, roomy}
 use Rattle.resolver_with.specs.Served.{served, asked}
 
+-- the rules' answer; tables that are too small count as a working area of no bytes
 unfoldable pub sheetWith : (input resolved sheet : List ℕ) (room work : ℕ) → Lent → SheetAnswer
 sheetWith input resolved sheet room work lent = sheetAnswer served input resolved sheet room (if roomy (asked input .version) lent then work else 0)
 

@@ -28,5 +28,6 @@ pairBytes kind row = bytes 4 kind ++ bytes 4 row
 unfoldable pub noted : (n so-far : ℕ) (old : List ℕ) → List rules.Binding → Out ℕ (List ℕ)
 noted n so-far old bs = so-far + failing bs & sets old (8 * n) (answersBytes bs)
 
+-- writes an answer for each slot of a sheet on the rows of a resolved form, behind a header of eight bytes, and says how many slots are not bound as written
 unfoldable pub answered : (form sheet old : List ℕ) → Out ℕ (List ℕ)
 answered form sheet old = noted 0 0 old (map (answerTo form) (slots sheet))

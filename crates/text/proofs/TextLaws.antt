@@ -103,7 +103,7 @@ unfolding bytes
 length-bytes zero n = refl
 length-bytes (suc count) n = ap suc (length-bytes count (n / 256))
 
--- where what stands behind a number of so many bytes begins
+-- where what stands behind a number of this many bytes begins
 behind : (a b count n : ℕ) → b ≡ a + count → b ≡ a + length (bytes count n)
 behind a b count n e = rw (length-bytes count n) e
 

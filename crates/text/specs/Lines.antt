@@ -35,6 +35,7 @@ lineLength (byte ∷ bytes) = pick (eqb byte 10) 1 (suc (lineLength bytes))
 abbrev pub isBlankByte : ℕ → Bool
 isBlankByte byte = ((eqb byte 32 || eqb byte 9) || eqb byte 10) || eqb byte 13
 
+-- has the line nothing but blanks?
 unfoldable pub isBlank : List ℕ → Bool
 isBlank [] = true
 isBlank (byte ∷ bytes) = pick (isBlankByte byte) (isBlank bytes) false
@@ -88,5 +89,6 @@ rowIn line =
 
 -- ---- a line
 
+-- what a line is: nothing where it is blank or a comment, else a row or what is wrong with it
 unfoldable pub lineOf : List ℕ → Line
 lineOf line = pick (isBlank line) Nothing (pick (isComment line) Nothing (rowIn line))

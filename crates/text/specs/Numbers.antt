@@ -6,6 +6,7 @@ use lib.Dec.{eqb, ltb, leb}
 use Rattle.kit.specs.Pick.{pick}
 use Rattle.kit.specs.Out.{Out, _&_}
 
+-- is the byte a digit?
 abbrev pub isDigit : ℕ → Bool
 isDigit byte = leb 48 byte && leb byte 57
 

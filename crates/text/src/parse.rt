@@ -15,13 +15,13 @@ ghost use Rattle.text.specs.Text.{mostRows, ended, parsed};
 // The most rows that a form has: those of the longest output.
 pub const MOST: u32 = 4092;
 
-// A form of so many rows; or the first line that is wrong, and why.
+// A form, with the number of its rows; or the first line that is wrong, and why.
 pub enum Parsed {
     Rows(u32),
     Wrong { line: usize, why: Why },
 }
 
-// How many rows a form in so many bytes can have.
+// How many rows a form in this many bytes can have.
 fn most_rows(length: usize) -> u32
     ensures { λ r. ⌜ (r ≡ mostRows length) × (r ≤ 4092) ⌝ }
 {

@@ -7,7 +7,7 @@ ghost use lib.Seq.{sets};
 ghost use Rattle.rules.specs.Rows.{bytes};
 ghost use Rattle.text.specs.Text.{startBytes, rowBytes, header};
 
-// Writes a number into so many bytes, the lower first.
+// Writes a number into this many bytes, the lower first.
 fn put_number(out: &mut [u8], at: usize, count: usize, number: u32)
     requires { ⌜ at + count ≤ length (now out) ⌝ }
     ensures { λ _. ⌜ now (out .exit) ≡ sets (now (out .entry)) at (bytes count number) ⌝ }
@@ -42,7 +42,7 @@ pub(crate) fn put_parts(out: &mut [u8], at: usize, p: Parts)
     put_number(out, at + 12, 4, p.z);
 }
 
-// Writes the header of a form of so many rows: WNT, version 1, and their count.
+// Writes the header of a form of this many rows: WNT, version 1, and their count.
 pub(crate) fn put_header(out: &mut [u8], rows: u32)
     requires { ⌜ 8 ≤ length (now out) ⌝ }
     ensures { λ _. ⌜ now (out .exit) ≡ sets (now (out .entry)) 0 (header rows) ⌝ }

@@ -7,6 +7,7 @@ use Rattle.text.specs.declared.parse.Parsed.the-variants.{Rows, Wrong}
 use Rattle.texts.specs.declared.make.Made.{Made}
 use Rattle.texts.specs.declared.make.Made.the-variants.{Form, Nothing}
 
+-- makes the form that a text spells
 unfoldable pub made : Out Parsed (List ℕ) → Out Made (List ℕ)
 made (Rows rows & out) = Form rows & out
 made (Wrong line why & out) = Nothing & out

@@ -15,6 +15,7 @@ abbrev pub beginsWell : List ℕ → Bool
 beginsWell form =
     ((((eqb (getD form 0 0) 87 && eqb (getD form 1 0) 78) && eqb (getD form 2 0) 84) && eqb (getD form 3 0) 1) && eqb (getD form 4 0) 0) && eqb (getD form 5 0) 0
 
+-- does the header count this number of rows?
 abbrev pub countsWell : (form : List ℕ) (rows : ℕ) → Bool
 countsWell form rows = eqb (getD form 6 0 + 256 * getD form 7 0) rows
 

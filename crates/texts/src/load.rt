@@ -13,7 +13,7 @@ ghost use Rattle.texts.specs.Loaded.{Fits};
 // version 2 has at most half of them.
 const LARGEST: usize = 524288;
 
-// What reading came to: so many bytes, or a sentence on standard error that says why not.
+// What reading came to: this many bytes, or a sentence on standard error that says why not.
 pub enum Loaded {
     Bytes(usize),
     Failed,
@@ -66,7 +66,7 @@ pub fn load_text(path: &[u8], text: &mut [u8; 524289]) -> Loaded
     loaded
 }
 
-// The first bytes of such a buffer, so many.
+// The first bytes of such a buffer, this many.
 pub fn text_part(buffer: &[u8; 524289], count: usize) -> &[u8]
     ensures { λ r. ⌜ now r ≡ take count (now (buffer .entry)) ⌝ }
 {

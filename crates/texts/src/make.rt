@@ -9,7 +9,7 @@ ghost use Rattle.kit.specs.Out.{_&_};
 ghost use Rattle.text.specs.Text.{parsed};
 ghost use Rattle.texts.specs.Made.{made};
 
-// A form of so many rows; or none, and a sentence has said in which line of the text that lies.
+// A form of this many rows; or none, and a sentence has said in which line of the text that lies.
 pub enum Made {
     Form(u32),
     Nothing,

@@ -33,7 +33,7 @@ fn wide(byte: u8) -> usize
     byte as usize
 }
 
-// Whether the header counts so many rows.
+// Whether the header counts this many rows.
 fn counts_well(form: &[u8], rows: usize) -> bool
     requires { ⌜ 8 ≤ length (now form) ⌝ }
     ensures { λ r. ⌜ r ≡ countsWell (now (form .entry)) rows ⌝ }

@@ -11,5 +11,6 @@ unfoldable pub returnedIn : Version → Returned → Said
 returnedIn v (refused number place) = saying (numbers number place) untold
 returnedIn v (given bytes) = saying (numbers 0 (rowCount v bytes)) untold
 
+-- the same for version 1
 unfoldable pub returned : Returned → Said
 returned = returnedIn version1

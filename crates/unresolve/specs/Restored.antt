@@ -1,4 +1,4 @@
--- The restored form of the setting at place i, as the code puts it: in notes that are lent, with a table of so many slots.
+-- The restored form of the setting at place i, as the code puts it: in notes that are lent, with a table of this many slots.
 use mathlib.Core.List.{List, [], _++_}
 use Prim.Native.Nat.{ℕ, _-_, _*_, _/_}
 use lib.ListN.{length, take, drop, replicate}
@@ -22,6 +22,7 @@ noNotes = replicate 4092 noNote
 unfoldable pub notedT : (slots : ℕ) (noted : List Note) (rows : List ℕ) → List Note
 notedT slots noted rows = namesT slots rows (sets noted 0 (notesT 0 [] [] (rowsAt rows 0)))
 
+-- writes the restored rows to the end of `out`, and answers the row at which they begin there
 unfoldable pub rowsT : (slots : ℕ) (noted : List Note) (rows out : List ℕ) → Wrote
 rowsT slots noted rows out = backT (below rows (notedT slots noted rows) (length rows / 16)) (startT (length out / 16)) out
 
@@ -32,6 +33,7 @@ headedT i front (to & body) =
     let at = 16 * (setting i .version .rows - count) in
     at & take at (front ++ body) ++ sets (drop at (front ++ body)) 0 (headerBytes (setting i) count)
 
+-- the restored form at the end of the area: its header, and its rows from the last to the first
 unfoldable pub restoreT : (i slots : ℕ) (noted : List Note) (rows area : List ℕ) → Out ℕ (List ℕ)
 restoreT i slots noted rows area =
     headedT i (take (setting i .version .header) area) (rowsT slots noted rows (drop (setting i .version .header) area))

@@ -17,6 +17,7 @@ use Rattle.resolver.specs.declared.run.Answer.the-variants.{Accepted, Refused}
 use Rattle.unresolve.specs.declared.run.Back.{Back}
 use Rattle.unresolve.specs.declared.run.Back.the-variants.{Nothing, From}
 
+-- a refusal at place 0
 abbrev pub refusedT : (number : ℕ) → Answer
 refusedT number = Refused (refusalAt number 0) untold
 
@@ -30,6 +31,7 @@ Came i Nothing claim area = back (alone i) claim ≡ none
 Came i (From at) claim area =
     (back (alone i) claim ≡ some (drop at area)) × (at ≤ 16 * setting i .version .rows) × (length area ≡ setting i .version .header + 16 * setting i .version .rows)
 
+-- writes an input of the setting at place i to the front of the output, if there is room for it
 unfoldable pub giveT : (i : ℕ) (input out : List ℕ) → Out Answer (List ℕ)
 giveT i input out =
     pick (ltb (length out) (length input)) (refusedT 3 & out)

@@ -11,14 +11,17 @@ use Rattle.unresolving.specs.BackAnswer.{Returned, refused, backAnswer, over}
 
 -- ---- their fixed sizes: an input of the most rows, and the share of the output that it has
 
+-- how long the longest input of a version is
 abbrev pub inputSize : Version → ℕ
 inputSize v = v .header + 16 * v .rows
 
+-- how long the longest output of a version is
 abbrev pub outputSize : Version → ℕ
 outputSize v = v .header + 64 * v .rows
 
 -- ---- the answer: an area that is too small is refusal 3, ahead of all else
 
+-- refusal 3 where an area is too small, else the rules' answer
 unfoldable pub backWith : (claim : List ℕ) (room restored again : ℕ) → Returned
 backWith claim room restored again =
     if ltb restored (inputSize version1) || ltb again (outputSize version1) then refused 3 0
@@ -30,8 +33,10 @@ outWith claim old restored again = over (backWith claim (length old) restored ag
 
 -- ---- the areas: zero up to that size, and beyond as they were
 
+-- what the area of the restored form holds then
 unfoldable pub restoredAfter : List ℕ → List ℕ
 restoredAfter old = cleared (inputSize version1) 0 old
 
+-- what the area in which it was resolved again holds then
 unfoldable pub againAfter : List ℕ → List ℕ
 againAfter old = cleared (outputSize version1) 0 old

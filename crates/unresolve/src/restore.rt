@@ -42,7 +42,7 @@ pub fn most_rows(i: usize) -> usize
     of_input(i).rows
 }
 
-// How many rows there are from the row `to` on, of so many.
+// How many rows there are from the row `to` up to the last.
 fn rows_from(most: usize, to: usize) -> usize
     ensures { λ r. ⌜ (r ≡ most - to) × (r ≤ most) ⌝ }
 {

@@ -26,6 +26,7 @@ pub record Lengths : Type 0 where
   pub noted : ℕ
   pub tables : Lent
 
+-- the lengths of the areas that are lent
 abbrev pub lengthsOf : (restored again : List ℕ) (noted : List Note) → Lent → Lengths
 lengthsOf restored again noted tables =
     record { restored = length restored; again = length again; noted = length noted; tables = tables }
@@ -36,6 +37,7 @@ tooSmall v l = not (roomy v (l .tables)) || (ltb (l .restored) (inputSize v) || 
 
 -- ---- the answer: an area that is too small is refusal 3, ahead of all else
 
+-- refusal 3 where an area is too small, else the rules' answer
 unfoldable pub backLent : (claim : List ℕ) (room : ℕ) → Lengths → Returned
 backLent claim room l = if tooSmall (asked claim .version) l then refused 3 0 else backAnswer served claim room
 
@@ -45,6 +47,7 @@ outLent claim old l = over (backLent claim (length old) l) old
 
 -- ---- the areas of the way back: zero up to that size, and beyond as they were
 
+-- the areas of the way back are handed back empty
 pub record ClearedBack (v : Version) (r r′ a a′ : List ℕ) (n n′ : List Note) : Type 0 where
   pub restored : r′ ≡ cleared (inputSize v) 0 r
   pub again : a′ ≡ cleared (outputSize v) 0 a

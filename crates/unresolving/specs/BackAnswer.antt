@@ -55,6 +55,7 @@ unfoldable pub inRoom : (room : ℕ) → Option (List ℕ) → Returned
 inRoom room none = refused 14 0
 inRoom room (some bs) = if ltb room (length bs) then refused 3 0 else given bs
 
+-- what is answered where the output has `room` bytes
 unfoldable pub backAnswer : List Setting → (claim : List ℕ) (room : ℕ) → Returned
 backAnswer settings claim room = inRoom room (back settings claim)
 
@@ -62,6 +63,7 @@ unfoldable pub over : Returned → (old : List ℕ) → List ℕ
 over (refused number place) old = old
 over (given bs) old = bs ++ drop (length bs) old
 
+-- what the output buffer holds then
 unfoldable pub backOutput : List Setting → (claim old : List ℕ) → List ℕ
 backOutput settings claim old = over (backAnswer settings claim (length old)) old
 

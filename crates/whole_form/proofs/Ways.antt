@@ -1,4 +1,4 @@
--- Ways through the settings, and through the reading of a form by itself.
+-- Ways through the settings, and through the code that reads a form by itself.
 use mathlib.Core.Path.{_≡_, refl, sym, ap, _∙_}
 use mathlib.Core.Bool.{Bool, true, false, _||_, not}
 use mathlib.Core.Option.{Option, some}
@@ -42,7 +42,7 @@ use Rattle.whole_form.specs.declared.read.Form.the-variants.{Whole}
 
 -- ---- what a header says
 
--- the header of this setting, with so many rows, which are there
+-- the header of this setting, with this many rows, which are there
 pub record Headed (s : Setting) (input : List ℕ) (rows : ℕ) : Type 0 where
   pub headed : hasHeader s input ≡ true
   pub counted : rowCount (s .version) input ≡ rows
@@ -138,7 +138,7 @@ held-rows : (l : Limits) → settingIn l .version .rows ≡ l .rows
 unfolding settingIn
 held-rows l = refl
 
--- so many rows
+-- this many rows
 module _ (rows : List ℕ) (l : Limits) (count : ℕ) (r : Reading) (e : r ≡ readTo l rows) where
   pub rows-broken : (row : ℕ) (v : Form) → r ≡ reading.Broken row → v ≡ refusedT 4 (row % 4294967296) → v ≡ readT (readTo l rows) count
   unfolding readT

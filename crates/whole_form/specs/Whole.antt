@@ -14,6 +14,7 @@ use Rattle.reader.specs.declared.read.Reading.the-variants as reading
 use Rattle.whole_form.specs.declared.read.Form.{Form}
 use Rattle.whole_form.specs.declared.read.Form.the-variants.{Whole, Refused}
 
+-- a refusal by its number and place
 abbrev pub refusedT : (number place : ℕ) → Form
 refusedT number place = Refused (record { number = number; place = place })
 
@@ -24,11 +25,13 @@ formOf (accepted tree) = Whole (length (flatten tree))
 
 -- ---- as the code goes
 
+-- what the rows were read as: the form, refusal 4, or refusal 5
 unfoldable pub readT : Reading → (rows : ℕ) → Form
 readT (reading.Broken row) rows = refusedT 4 (row % 4294967296)
 readT (reading.Deep row) rows = refusedT 5 (row % 4294967296)
 readT reading.Whole rows = Whole rows
 
+-- the rows behind the header, held to the limits
 unfoldable pub bodyT : Limits → (rows : ℕ) → List ℕ → Form
 bodyT l rows form = readT (readTo l (drop (l .header) form)) rows
 

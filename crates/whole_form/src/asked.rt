@@ -14,7 +14,7 @@ const SETTINGS: usize = 3;
 
 // What the header asks for.
 pub enum Asked {
-    // The setting at this place in the list of all, and so many rows, which are there.
+    // The setting at this place in the list of all, and how many rows the header counts; the bytes have just as many.
     For { setting: usize, rows: usize },
     // Refusal 1: no setting has such a header.
     Wrong,

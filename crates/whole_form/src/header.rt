@@ -81,7 +81,7 @@ fn header_size(limits: Limits, rows: usize) -> usize
     if header < behind { behind } else { header }
 }
 
-// Writes the header of a form of these limits that has so many rows, as far as there is room for it.
+// Writes the header of a form of these limits that has this many rows, as far as there is room for it.
 pub fn put_header(out: &mut [u8], limits: Limits, rows: usize)
     ensures { λ _. ⌜ now (out .exit) ≡ sets (now (out .entry)) 0 (headerBytes (settingIn limits) rows) ⌝ }
 {

@@ -21,7 +21,7 @@ ghost use Rattle.reader.specs.Readings.{readTo};
 ghost use Rattle.whole_form.specs.Whole.{formOf, refusedT, readT, bodyT};
 
 pub enum Form {
-    // So many rows make a form.
+    // A form, with this number of rows.
     Whole(usize),
     Refused(Refusal),
 }
@@ -40,7 +40,7 @@ fn wide(byte: u8) -> usize
     byte as usize
 }
 
-// Whether so many rows are those of a form within the limits.
+// Whether this many rows are those of a form within the limits.
 pub fn read_rows(rows: &[u8], limits: Limits, count: usize) -> Form
     ensures { λ r. ⌜ r ≡ readT (readTo limits (now (rows .entry))) count ⌝ }
 {

@@ -14,6 +14,7 @@ use Rattle.rules.specs.Laws.Results.{if-both}
 unfoldable pub isNameX : (code e : ℕ) → Bool
 isNameX code e = getD (false ∷ false ∷ true ∷ eqb (e % 2) 1 ∷ false ∷ eqb (e % 2) 1 ∷ true ∷ true ∷ []) code false
 
+-- is part y a name: that of an OUTER's index?
 unfoldable pub isNameY : (code e : ℕ) → Bool
 isNameY code e = eqb code 5 && eqb (e / 2) 1
 

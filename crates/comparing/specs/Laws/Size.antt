@@ -16,7 +16,7 @@ entry-size : (e : Entry) → length (entryBytes e) ≡ 20 + 16 * length (e .rows
 unfolding entryBytes bytes
 entry-size e = omega (arith, rows-length (e .rows))
 
--- so many bytes at most for pairs with these rows
+-- this many bytes at most for pairs with these rows
 abbrev room : List Pair → ℕ
 room ps = 20 * (length (lefts ps) + length (rights ps)) + 16 * length (rights ps)
 

@@ -293,7 +293,7 @@ module _ (settings : List Setting) (w : Coherent settings) where
     tree-read : read (s .rules) (s .version .scopes) (rowsIn s input) ≡ form tree
     tree-read = read-read s input tree g
 
-    -- 1: the version asked for has not its rules
+    -- 1: the version asked for lacks its rules
     pub other-rules : (version : ℕ) (v : Version) → versionOf settings version ≡ some v → settingWith settings version (s .rules .number) ≡ none
         → (room : ℕ) → v .header + 16 * rowCount (s .version) input ≤ room → converted settings version input room ≡ refused 1 0 []
     unfolding converted convertedFor convertedIn ifForm withinLimits if_then_else_
@@ -305,7 +305,7 @@ module _ (settings : List Setting) (w : Coherent settings) where
       get : settingWith settings (t .version .number) (s .rules .number) ≡ some t
       get = ap (settingWith settings (t .version .number)) (sym same) ∙ with-is settings t (w .in-force) a
 
-      -- 2: it has not so many rows
+      -- 2: it allows fewer rows
       pub too-many : t .version .rows < rowCount (s .version) input → t .version .header + 16 * rowCount (s .version) input ≤ room
           → converted settings (t .version .number) input room ≡ refused 2 0 []
       unfolding converted convertedFor convertedIn ifForm withinLimits if_then_else_

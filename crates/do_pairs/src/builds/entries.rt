@@ -18,7 +18,7 @@ const LEFT: u32 = 2;
 
 const RIGHT: u32 = 3;
 
-// The number so many bytes behind the start of an entry.
+// The number this many bytes behind the start of an entry.
 fn part_at(list: &[u8], at: u32, offset: u32) -> u32 {
     word_at(list, at % MOST + offset % 32)
 }
@@ -27,7 +27,7 @@ fn row_at(list: &[u8], at: u32, offset: u32) -> u32 {
     part_at(list, at, offset) % ROWS
 }
 
-// The row behind so many from a row on.
+// The row behind this many from a row on.
 fn end_of(first: u32, count: u32) -> u16 {
     let end = first % ROWS + count % ROWS;
     if end < ROWS { end as u16 } else { 65535 }

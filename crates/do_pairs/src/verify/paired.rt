@@ -38,7 +38,7 @@ fn left_behind(left: u32, is_one: bool) -> u32 {
     }
 }
 
-// The row of the form behind so many, PATH rows aside.
+// The row of the form that has this number when PATH rows are not counted.
 fn form_row(form: &[u8], count: u32) -> u16 {
     let rows = rows_in(form);
     let mut left = count;

@@ -39,7 +39,7 @@ pub(crate) fn escape(names: &[u8], to: &mut [u8; ROOM]) -> usize {
     end
 }
 
-// The first bytes of what was written, so many.
+// The first `count` bytes of what was written.
 pub(crate) fn escaped_part(to: &[u8; ROOM], count: usize) -> &[u8] {
     front(to, count)
 }

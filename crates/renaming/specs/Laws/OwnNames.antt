@@ -302,7 +302,7 @@ firsts-different seen (n ∷ ns) d =
     (λ e. firsts-different seen ns d)
     (λ e. firsts-different (seen ++ (n ∷ [])) ns (different-snoc seen n d e))
 
--- from `k` on, so many numbers
+-- as many numbers as asked for, from `k` on
 abbrev pub counting : (k n : ℕ) → List ℕ
 counting k zero = []
 counting k (suc n) = k ∷ counting (suc k) n

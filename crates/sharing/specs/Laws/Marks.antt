@@ -438,7 +438,7 @@ module _ (top : ℕ) where
 pub scope-like : (s : Scope) (k : ℕ) → LikeScope (k + length (flatten s)) s (markScope s k .0)
 scope-like s k = mark-scope (k + length (flatten s)) s k (omega arith) .0
 
--- and for an input of so many rows
+-- and for an input of this many rows
 pub marked-like : (s : Scope) → LikeScope (length (flatten s)) s (mark s)
 unfolding mark
 marked-like s = mark-scope (length (flatten s)) s 0 (omega arith) .0

@@ -70,7 +70,7 @@ Among k n fs space name none = Unit {0}
 Among k n fs space name (some (original field at)) = has (firsts n fs) space name ≡ ltb field (k + n)
 Among k n fs space name (some (inserted h)) = Unit {0}
 
--- behind a field that has not the name
+-- behind a field that does not declare the name
 behind : (k n : ℕ) (i : Item) (fs : Fields) (space name : ℕ) (o : Option Spot) → has (headOf i .decls) space name ≡ false
     → ((m : ℕ) → Among (suc k) m fs space name o) → Among k n (i ▸ fs) space name o
 unfolding firsts has
