@@ -17,23 +17,23 @@ use Rattle.rules.specs.Tools.{if_then_else_, between, only, _orElse_}
 use Rattle.rules.specs.Versions.{Setting, version1, today, topName, base}
 use Rattle.rules.specs.Rows as rules
 use Rattle.rules.specs.Rows.{Raw, raw, rawBytes, bytes, encode, decodeRow, encodeRow}
-use Rattle.rules.specs.Tree.{Scope, flatten, Reading, bad, deep, form}
+use Rattle.rules.specs.Tree.{Scope, flatten, RowsRead, bad, deep, form}
 use Rattle.rules.specs.Begins.{IsForm, Right}
 use Rattle.rules.specs.Reader.{read}
 use Rattle.rules.specs.Answer.{AnswerOf, refused, accepted, mapAnswer, hasHeader, settingOf, rowCount, rowsOf, rowsIn}
-use Rattle.rules.specs.Laws.Reading.ReadRight.{read-right}
-use Rattle.rules.specs.Laws.Reading.BeginsWritten.{rows-length}
+use Rattle.rules.specs.Laws.Read.ReadRight.{read-right}
+use Rattle.rules.specs.Laws.Read.BeginsWritten.{rows-length}
 use Rattle.renaming.specs.Renaming.{renamedIndex, renamedRow, renamedPart, renamedRows, renamed, renamedIn, renamedFor, renamedBytes, namesOf, firsts, placeOf}
 use Rattle.renaming.specs.Anonymous.{keyIn, afterReading, anonymousIn, anonymousFor, anonymous, anonymousAfter, anonymousOutput, over, keyAfter}
 use Rattle.form.specs.Header.{headerIn, headerFor, headerOf}
 use Rattle.form.specs.declared.header.Header.{Header as Heading}
 use Rattle.form.specs.declared.header.Header.the-variants.{Rows, Wrong, Count}
-use Rattle.reader.specs.Readings.{answerOf, readOf}
-use Rattle.rows.specs.Taken.{asIndex, taken}
+use Rattle.reader.specs.ReadTo.{answerOf, readOf}
+use Rattle.rows.specs.RowAt.{asIndex, taken}
 use Rattle.put.specs.Put.{ruleIndex, ruleRow, bytesOf, rowBytes, putRow}
 use Rattle.anonymise.specs.Meaning.{meaning}
 use Rattle.anonymise.specs.Renamed.{inputRow, keyOf, renamedRowT, leftBy, rowWritten, rowsWritten}
-use Rattle.anonymise.specs.Run.{Ran, allWritten, fillT, before, readThen, runT}
+use Rattle.anonymise.specs.Run.{Ran, allWritten, fillNamesT, before, readThen, runT}
 use Rattle.anonymise.specs.declared.run.Answer.{Answer}
 use Rattle.anonymise.specs.declared.run.Answer.the-variants.{Header, RowCount, Room}
 
@@ -196,15 +196,15 @@ module _ (l out key : List ℕ) (asks : settingOf base l ≡ some one) (right : 
       (all-written (keyIn one l) (drop 8 l) (flatten t) 0 (drop 8 (take (length l) out)) (rw count-is (sym (f .of-tree))) (omega arith) part)
 
   whole-says : (t : Scope) → IsForm today (rowsIn one l) t → length l ≤ length out
-      → Says l out key (accepted (keyIn one l)) (before (fillT l (take (length l) out) key) (drop (length l) out))
-  unfolding before fillT mapAnswer anonymousAfter keyAfter
+      → Says l out key (accepted (keyIn one l)) (before (fillNamesT l (take (length l) out) key) (drop (length l) out))
+  unfolding before fillNamesT mapAnswer anonymousAfter keyAfter
   whole-says t f roomy =
       let w = rows-are t f roomy in
       let form-out : (take 8 l ++ allWritten (drop 8 l) (drop 8 (take (length l) out))) ++ drop (length l) out ≡ renamedBytes (placeOf (keyIn one l)) base l ++ drop (length l) out =
       rw (form-is (placeOf (keyIn one l)), w) in
       (ap (λ (k : List ℕ). accepted (length k)) same-key, form-out, ap (λ (k : List ℕ). over k key) same-key)
 
-  read-says : (r : Reading) → Right today 32 (rowsIn one l) r → length l ≤ length out → Says l out key (afterReading r (keyIn one l)) (readThen (answerOf r) l out key)
+  read-says : (r : RowsRead) → Right today 32 (rowsIn one l) r → length l ≤ length out → Says l out key (afterReading r (keyIn one l)) (readThen (answerOf r) l out key)
   unfolding afterReading mapAnswer anonymousAfter keyAfter answerOf readThen
   read-says (bad p) h roomy =
       let k : p % 4294967296 ≡ p = omega (arith, h .in-range, rows-in, sizes l right .0) in

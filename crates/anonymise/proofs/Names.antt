@@ -27,7 +27,7 @@ use Rattle.names.specs.declared.Found.the-variants.{At, Nothing}
 use Rattle.index.specs.Indexed.{Holds, Covers}
 use Rattle.index.proofs.Storey.{covers-all}
 use Rattle.rows.proofs.row.Row as row
-use Rattle.rows.specs.Taken.{rowTo}
+use Rattle.rows.specs.RowAt.{rowTo}
 use Rattle.rows.specs.declared.row.Index.{Index}
 use Rattle.rows.specs.declared.row.Index.the-variants.{Number, Name}
 use Rattle.rows.specs.declared.row.Row.{Row}

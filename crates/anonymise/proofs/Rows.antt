@@ -25,7 +25,7 @@ use Rattle.renaming.specs.Anonymous.{over}
 use Rattle.names.specs.Table.{Slot, emptySlot, nameOf}
 use Rattle.index.specs.Indexed.{Holds}
 use Rattle.index.proofs.Storey.{holds-none}
-use Rattle.rows.specs.Taken.{asIndex, taken}
+use Rattle.rows.specs.RowAt.{asIndex, taken}
 use Rattle.rows.specs.declared.row.Index.{Index}
 use Rattle.rows.specs.declared.row.Index.the-variants.{Number, Name}
 use Rattle.rows.specs.declared.row.Row.{Row}

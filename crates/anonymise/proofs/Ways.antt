@@ -13,12 +13,12 @@ use Rattle.renaming.specs.Anonymous.{over}
 use Rattle.names.specs.Table.{Slot, emptySlot}
 use Rattle.index.specs.Indexed.{Holds}
 use Rattle.index.proofs.Storey.{holds-none}
-use Rattle.reader.specs.Readings.{readOf}
-use Rattle.reader.specs.declared.read.Reading.{Reading}
-use Rattle.reader.specs.declared.read.Reading.the-variants as reading
+use Rattle.reader.specs.ReadTo.{readOf}
+use Rattle.reader.specs.declared.read.RowsRead.{RowsRead}
+use Rattle.reader.specs.declared.read.RowsRead.the-variants as rowsRead
 use Rattle.anonymise.specs.Seen.{slotsFrom, seenIn, Knows}
 use Rattle.anonymise.specs.Renamed.{keyOf, rowsWritten}
-use Rattle.anonymise.specs.Run.{allWritten, fillT, before, readThen, runT}
+use Rattle.anonymise.specs.Run.{allWritten, fillNamesT, before, readThen, runT}
 use Rattle.anonymise.specs.declared.run.Answer.{Answer}
 use Rattle.anonymise.specs.declared.run.Answer.the-variants.{Accepted, Room, Broken, Deep}
 use Rattle.anonymise.proofs.Names.{seen-long}
@@ -73,8 +73,8 @@ pub fill-done : (form front key key′ body front′ : List ℕ) (n : ℕ) → 8
     → body ≡ allWritten (take (length form - 8) (drop 8 form)) (take (length front - 8) (drop 8 front))
     → key′ ≡ over (keyOf (take (length form - 8) (drop 8 form))) key
     → front′ ≡ over (take 8 form) (take 8 front ++ (body ++ drop (length front - 8) (drop 8 front)))
-    → Accepted n & front′ & key′ ≡ fillT form front key
-unfolding fillT
+    → Accepted n & front′ & key′ ≡ fillNamesT form front key
+unfolding fillNamesT
 fill-done form front key key′ body front′ n long same count w q p =
     let rows = all-behind form in
     let part = all-behind front in
@@ -93,19 +93,19 @@ module _ (form out key : List ℕ) where
   unfolding runT
   run-short h = yes! _ (omega tests) refl
 
-  module _ (h : length form ≤ length out) (r : Reading) (w : r ≡ readOf (take (length form - 8) (drop 8 form))) where
+  module _ (h : length form ≤ length out) (r : RowsRead) (w : r ≡ readOf (take (length form - 8) (drop 8 form))) where
     reads : r ≡ readOf (drop 8 form)
     reads = rw all-behind at w
 
-    pub run-broken : (row : ℕ) → r ≡ reading.Broken row → Broken (row % 4294967296) & out & key ≡ runT form out key
+    pub run-broken : (row : ℕ) → r ≡ rowsRead.Broken row → Broken (row % 4294967296) & out & key ≡ runT form out key
     unfolding runT readThen
     run-broken row e = no! _ (omega tests) (rw (← reads, e))
 
-    pub run-deep : (row : ℕ) → r ≡ reading.Deep row → Deep (row % 4294967296) & out & key ≡ runT form out key
+    pub run-deep : (row : ℕ) → r ≡ rowsRead.Deep row → Deep (row % 4294967296) & out & key ≡ runT form out key
     unfolding runT readThen
     run-deep row e = no! _ (omega tests) (rw (← reads, e))
 
-    pub run-whole : (l key′ : List ℕ) (a : Answer) → r ≡ reading.Whole → a & l & key′ ≡ fillT form (take (length form) out) key → a & (l ++ drop (length form) out) & key′ ≡ runT form out key
+    pub run-whole : (l key′ : List ℕ) (a : Answer) → r ≡ rowsRead.Whole → a & l & key′ ≡ fillNamesT form (take (length form) out) key → a & (l ++ drop (length form) out) & key′ ≡ runT form out key
     unfolding runT readThen before
     run-whole l key′ a e v = no! _ (omega tests) (rw (← reads, e, ← v))
 

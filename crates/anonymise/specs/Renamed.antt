@@ -6,7 +6,7 @@ use Rattle.kit.specs.Out.{Out, _&_}
 use Rattle.rules.specs.Versions.{topName}
 use Rattle.rules.specs.Answer.{rowsOf}
 use Rattle.renaming.specs.Renaming.{renamed, nameIn, namesOf, firsts, placeOf}
-use Rattle.rows.specs.Taken.{rowTo}
+use Rattle.rows.specs.RowAt.{rowTo}
 use Rattle.rows.specs.declared.row.Index.{Index}
 use Rattle.rows.specs.declared.row.Index.the-variants.{Number, Name}
 use Rattle.rows.specs.declared.row.Row.{Row}

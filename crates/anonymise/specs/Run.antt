@@ -6,9 +6,9 @@ use lib.ListN.{length, take, drop}
 use Rattle.kit.specs.Pick.{pick}
 use Rattle.kit.specs.Out.{Out, _&_}
 use Rattle.renaming.specs.Anonymous.{over}
-use Rattle.reader.specs.Readings.{readOf}
-use Rattle.reader.specs.declared.read.Reading.{Reading}
-use Rattle.reader.specs.declared.read.Reading.the-variants as reading
+use Rattle.reader.specs.ReadTo.{readOf}
+use Rattle.reader.specs.declared.read.RowsRead.{RowsRead}
+use Rattle.reader.specs.declared.read.RowsRead.the-variants as rowsRead
 use Rattle.anonymise.specs.Renamed.{keyOf, rowsWritten}
 use Rattle.anonymise.specs.declared.run.Answer.{Answer}
 use Rattle.anonymise.specs.declared.run.Answer.the-variants.{Accepted, Room, Broken, Deep}
@@ -22,18 +22,18 @@ unfoldable pub allWritten : (rows out : List ℕ) → List ℕ
 allWritten rows out = rowsWritten (keyOf rows) rows 0 (length rows / 16) out
 
 -- `front` is the part of the output that is as long as the form
-unfoldable pub fillT : (form front key : List ℕ) → Ran
-fillT form front key =
+unfoldable pub fillNamesT : (form front key : List ℕ) → Ran
+fillNamesT form front key =
     Accepted (length (keyOf (drop 8 form))) & (take 8 form ++ allWritten (drop 8 form) (drop 8 front)) & over (keyOf (drop 8 form)) key
 
 -- the front is filled, and the rest is as it was
 unfoldable pub before : Ran → (rest : List ℕ) → Ran
 before (a & l & key) rest = a & (l ++ rest) & key
 
-unfoldable pub readThen : Reading → (form out key : List ℕ) → Ran
-readThen (reading.Broken row) form out key = Broken (row % 4294967296) & out & key
-readThen (reading.Deep row) form out key = Deep (row % 4294967296) & out & key
-readThen reading.Whole form out key = before (fillT form (take (length form) out) key) (drop (length form) out)
+unfoldable pub readThen : RowsRead → (form out key : List ℕ) → Ran
+readThen (rowsRead.Broken row) form out key = Broken (row % 4294967296) & out & key
+readThen (rowsRead.Deep row) form out key = Deep (row % 4294967296) & out & key
+readThen rowsRead.Whole form out key = before (fillNamesT form (take (length form) out) key) (drop (length form) out)
 
 -- the run on a form whose header was right
 unfoldable pub runT : (form out key : List ℕ) → Ran

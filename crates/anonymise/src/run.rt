@@ -8,7 +8,7 @@ use form::header::header_of;
 use names::Slot;
 use names::slot_at;
 use put::put_row;
-use reader::read::Reading;
+use reader::read::RowsRead;
 use reader::read::read;
 ghost use mathlib.Core.Path.{_≡_};
 ghost use Prim.Native.Nat.{_*_, _/_, _≤_, _<_};
@@ -20,7 +20,7 @@ ghost use Rattle.renaming.specs.Anonymous.{anonymous, anonymousOutput, over, ke
 ghost use Rattle.anonymise.specs.Meaning.{meaning};
 ghost use Rattle.anonymise.specs.Seen.{seenIn, Knows};
 ghost use Rattle.anonymise.specs.Renamed.{keyOf, rowWritten, rowsWritten};
-ghost use Rattle.anonymise.specs.Run.{allWritten, fillT, runT};
+ghost use Rattle.anonymise.specs.Run.{allWritten, fillNamesT, runT};
 
 pub enum Answer {
     // How many names there are.
@@ -113,7 +113,7 @@ fn write_form(rows: &[u8], out: &mut [u8], key: &mut [u32]) -> usize
 // Fills the part of the output that is as long as the form.
 fn fill(form: &[u8], front: &mut [u8], key: &mut [u32]) -> Answer
     requires { ⌜ (8 ≤ length (now form)) × (length (now form) ≤ 16376) × (length (now front) ≡ length (now form)) ⌝ }
-    ensures { λ r. ⌜ (r & now (front .exit) & now (key .exit)) ≡ fillT (now (form .entry)) (now (front .entry)) (now (key .entry)) ⌝ }
+    ensures { λ r. ⌜ (r & now (front .exit) & now (key .exit)) ≡ fillNamesT (now (form .entry)) (now (front .entry)) (now (key .entry)) ⌝ }
 {
     let names = write_form(&form[HEADER..], &mut front[HEADER..], key);
     copy_header(form, front);
@@ -131,9 +131,9 @@ fn run(form: &[u8], out: &mut [u8], key: &mut [u32]) -> Answer
         return Answer::Room;
     }
     match read(&form[HEADER..]) {
-        Reading::Broken(row) => Answer::Broken((row % 4294967296) as u32),
-        Reading::Deep(row) => Answer::Deep((row % 4294967296) as u32),
-        Reading::Whole => fill(form, &mut out[..size], key),
+        RowsRead::Broken(row) => Answer::Broken((row % 4294967296) as u32),
+        RowsRead::Deep(row) => Answer::Deep((row % 4294967296) as u32),
+        RowsRead::Whole => fill(form, &mut out[..size], key),
     }
 }
 

@@ -18,17 +18,17 @@ use Rattle.rules.specs.Rules.{declarations}
 use Rattle.rules.specs.Good.{GoodHead, GoodScope, GoodFields, GoodItem}
 use Rattle.rules.specs.Laws.ToolLaws.{All, done, _&_, all-append, all-map}
 use Rattle.unresolving.specs.Back.{orZero, namesIn, nameOut}
-use Rattle.agree.specs.Spaces.{SpacesDecls}
-use Rattle.agree.specs.GoodSpaces.{head-decls}
+use Rattle.agree.specs.Fit.Spaces.{SpacesDecls}
+use Rattle.agree.specs.Fit.GoodSpaces.{head-decls}
 use Rattle.parts.specs.declared.Parts.{Parts}
 use Rattle.names.specs.Table.{Slot, spaceOf, nameOf, numberOf, findIn}
 use Rattle.names.specs.declared.Found.{Found}
 use Rattle.names.specs.declared.Found.the-variants.{At, Nothing}
-use Rattle.claim_scopes.specs.Entries.{keyT, slotT, enterT}
+use Rattle.claim_scopes.specs.Entries.{entryKeyT, slotT, enterT}
 use Rattle.claim_laws.specs.RowParts.{asParts, codeIn, scope-size, fields-size}
 use Rattle.claim_laws.specs.Keys.{orFound, find-append, find-other, Other, other-first, other-last, key-is}
 use Rattle.back_notes.specs.Note.{Note, note, noNote, Noted}
-use Rattle.back_notes.specs.Names.{slotOf, entryT, slotsT}
+use Rattle.back_notes.specs.Names.{slotOf, noteEntryT, slotsT}
 use Rattle.back_laws.specs.Stand.{with, withNotes}
 use Rattle.back_laws.specs.Notes.{rowOut, declNotes, blankNotes, operandNotes, operandsNotes, innerRows, item-length, names-append, more-names, fewer-names, Blank, blank-field, blank-ref, blank-export, blank-case, decls-few, own-head}
 use Rattle.back_laws.specs.Listed.{declsN, operandsN, exportN, headN, itemN, fieldsN, scopeN, head-n, operands-n, scope-n, end-n, fields-n, plain-n, holds-n}
@@ -50,7 +50,7 @@ slots-append (x ∷ xs) ys = go (eqb (x .parts .code) 2) (slots-append xs ys)
 
 -- where there is room for all of them, all are entered
 pub slots-all : (room : ℕ) (ss : List Slot) (rs : List Noted) → length ss + length (slotsOf rs) ≤ room → slotsT room ss rs ≡ ss ++ slotsOf rs
-unfolding slotsT slotsOf entryT pick
+unfolding slotsT slotsOf noteEntryT pick
 slots-all room ss [] l = sym (append-nil ss)
 slots-all room ss (r ∷ rs) l = go (eqb (r .parts .code) 2) l (λ ss′ m. slots-all room ss′ rs m)
   where

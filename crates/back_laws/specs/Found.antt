@@ -17,18 +17,18 @@ use Rattle.rules.specs.Rules.{declarations}
 use Rattle.rules.specs.Good.{GoodHead, GoodScope, GoodFields, GoodItem}
 use Rattle.rules.specs.Laws.ToolLaws.{All, done, _&_, all-append, all-map}
 use Rattle.unresolving.specs.Back.{orZero, namesIn, nameOut}
-use Rattle.agree.specs.Spaces.{SpacesDecls}
-use Rattle.agree.specs.GoodSpaces.{head-decls}
+use Rattle.agree.specs.Fit.Spaces.{SpacesDecls}
+use Rattle.agree.specs.Fit.GoodSpaces.{head-decls}
 use Rattle.names.specs.Table.{Slot, spaceOf, nameOf, numberOf, findIn}
 use Rattle.names.specs.declared.Found.{Found}
 use Rattle.names.specs.declared.Found.the-variants.{At, Nothing}
 use Rattle.parts.specs.declared.Parts.{Parts}
-use Rattle.claim_scopes.specs.Entries.{keyT, slotT, entryOf, lookT}
+use Rattle.claim_scopes.specs.Entries.{entryKeyT, slotT, entryOf, lookT}
 use Rattle.claim_laws.specs.RowParts.{scope-size, fields-size}
 use Rattle.claim_laws.specs.Keys.{orFound, find-append, find-other, Other, other-first, other-last, Of, Within, wider, key-is, key-within, outside}
 use Rattle.back_notes.specs.Note.{note}
 use Rattle.back_notes.specs.Names
-use Rattle.back_notes.specs.Names.{valueT, nameT}
+use Rattle.back_notes.specs.Names.{valueT, nameOfT}
 use Rattle.back_laws.specs.Notes.{rowOut, innerRows, item-length, inner-length, more-names, fewer-names, decls-few, own-head}
 use Rattle.back_laws.specs.Entered.{declSlots, scopeSlots, fieldsSlots, itemSlots}
 
@@ -38,30 +38,30 @@ foundOf (some n) = At n
 
 -- ---- the declarations of one scope
 
-same-key : (k space space′ : ℕ) → k < 65536 → eqb (keyT k space) (keyT k space′) ≡ eqb space space′
+same-key : (k space space′ : ℕ) → k < 65536 → eqb (entryKeyT k space) (entryKeyT k space′) ≡ eqb space space′
 same-key k space space′ l = go (eqb space space′) refl
   where
-    go : (t : Bool) → eqb space space′ ≡ t → eqb (keyT k space) (keyT k space′) ≡ t
-    go true e = rw (eqb-true space space′ e) (eq-eqb (keyT k space′) (keyT k space′) refl)
+    go : (t : Bool) → eqb space space′ ≡ t → eqb (entryKeyT k space) (entryKeyT k space′) ≡ t
+    go true e = rw (eqb-true space space′ e) (eq-eqb (entryKeyT k space′) (entryKeyT k space′) refl)
     go false e =
         let n = eqb-false space space′ e in
         let a = key-is k space l in
         let b = key-is k space′ l in
-        ne-eqb (keyT k space) (keyT k space′) (λ q. n (omega arith))
+        ne-eqb (entryKeyT k space) (entryKeyT k space′) (λ q. n (omega arith))
 
 -- the j-th of a space behind those before
 decl-found : (k : ℕ) (past ds : List Declaration) (space j x : ℕ) → k < 65536 → length past + length ds < 65536 → x ≡ length (namesIn past space) + j + 1
-    → findIn (declSlots k past ds) (keyT k space) x ≡ foundOf (getElem? (namesIn ds space) j)
+    → findIn (declSlots k past ds) (entryKeyT k space) x ≡ foundOf (getElem? (namesIn ds space) j)
 unfolding findIn declSlots slotT namesIn foundOf if_then_else_ pick
 decl-found k past [] space j x l b e = refl
 decl-found k past (d ∷ ds) space j x l b e =
     go (eqb (d .space) space) refl j e (λ j′ e′. decl-found k (past ++ (d ∷ [])) ds space j′ x l (let m = length-append past (d ∷ []) in omega arith) e′)
   where
     later : Found
-    later = findIn (declSlots k (past ++ (d ∷ [])) ds) (keyT k space) x
+    later = findIn (declSlots k (past ++ (d ∷ [])) ds) (entryKeyT k space) x
 
     go : (t : Bool) → eqb (d .space) space ≡ t → (j : ℕ) → x ≡ length (namesIn past space) + j + 1 → ((j′ : ℕ) → x ≡ length (namesIn (past ++ (d ∷ [])) space) + j′ + 1 → later ≡ foundOf (getElem? (namesIn ds space) j′))
-        → pick (eqb (keyT k (d .space)) (keyT k space)) (pick (eqb (length (namesIn past (d .space)) % 65536 + 1) x) (At (d .name)) later) later ≡ foundOf (getElem? (if t then d .name ∷ namesIn ds space else namesIn ds space) j)
+        → pick (eqb (entryKeyT k (d .space)) (entryKeyT k space)) (pick (eqb (length (namesIn past (d .space)) % 65536 + 1) x) (At (d .name)) later) later ≡ foundOf (getElem? (if t then d .name ∷ namesIn ds space else namesIn ds space) j)
     go true t zero e below =
         let q = eqb-true (d .space) space t in
         let few = fewer-names past space in
@@ -103,7 +103,7 @@ before-these lo hi lo′ hi′ ss a p = all-map ss (λ s o. let u = o .high in r
 behind-these : (lo hi lo′ hi′ : ℕ) (ss : List Slot) → hi′ ≤ lo → Within lo hi ss → Beyond lo′ hi′ ss
 behind-these lo hi lo′ hi′ ss a p = all-map ss (λ s o. let u = o .low in record { side = inr (omega arith) }) p
 
-beyond-other : (lo hi k space : ℕ) (ss : List Slot) → k < 65536 → space < 13 → lo ≤ k → k < hi → Beyond lo hi ss → All (Other (keyT k space)) ss
+beyond-other : (lo hi k space : ℕ) (ss : List Slot) → k < 65536 → space < 13 → lo ≤ k → k < hi → Beyond lo hi ss → All (Other (entryKeyT k space)) ss
 beyond-other lo hi k space ss l h a b p =
     let w = key-within k space l (omega arith) in
     let u = w .0 in
@@ -188,7 +188,7 @@ module _ (rules : RuleSet) where
   decls-append k past (x ∷ xs) ys = rw (decls-append k (past ++ (x ∷ [])) xs ys, append-assoc past (x ∷ []) xs)
 
   own-found : (kind : ℕ) (fs : Fields) (n k : ℕ) (past : List Declaration) (space x : ℕ) → GoodFields rules fs kind → space < 13 → k < 65536 → k < n → n + length (fieldsRows fs) < 65536
-      → findIn (fieldsSlots n k past fs) (keyT k space) x ≡ findIn (declSlots k past (declarations fs)) (keyT k space) x
+      → findIn (fieldsSlots n k past fs) (entryKeyT k space) x ≡ findIn (declSlots k past (declarations fs)) (entryKeyT k space) x
   unfolding scopeSlots declarations declSlots
   own-found kind end n k past space x g h l b w = refl
   own-found kind (i ▸ fs) n k past space x g h l b w =
@@ -199,9 +199,9 @@ module _ (rules : RuleSet) where
       let I = itemSlots (n + length hs) i in
       let F = fieldsSlots (n + length (itemRows i)) k (past ++ headOf i .decls) fs in
       let G = declSlots k (past ++ headOf i .decls) (declarations fs) in
-      let inner : All (Other (keyT k space)) I = outside (n + length hs) (n + length hs + length (innerRows i)) k space I l (omega arith) (item-within kind i (n + length hs) (g .0) (omega arith)) .0 (omega arith) in
-      let later : findIn F (keyT k space) x ≡ findIn G (keyT k space) x = own-found kind fs (n + length (itemRows i)) k (past ++ headOf i .decls) space x (g .1) h l (omega arith) (omega arith) in
-      rw (find-append D (I ++ F) (keyT k space) x, other-first I F (keyT k space) x inner, decls-append k past (headOf i .decls) (declarations fs), find-append D G (keyT k space) x, later)
+      let inner : All (Other (entryKeyT k space)) I = outside (n + length hs) (n + length hs + length (innerRows i)) k space I l (omega arith) (item-within kind i (n + length hs) (g .0) (omega arith)) .0 (omega arith) in
+      let later : findIn F (entryKeyT k space) x ≡ findIn G (entryKeyT k space) x = own-found kind fs (n + length (itemRows i)) k (past ++ headOf i .decls) space x (g .1) h l (omega arith) (omega arith) in
+      rw (find-append D (I ++ F) (entryKeyT k space) x, other-first I F (entryKeyT k space) x inner, decls-append k past (headOf i .decls) (declarations fs), find-append D G (entryKeyT k space) x, later)
 
 -- ---- in a table of more slots
 
@@ -209,7 +209,7 @@ module _ (rules : RuleSet) where
 pub record Stand (all : List Slot) (k : ℕ) (ds : List Declaration) : Type 0 where
   pub few : length ds < 65535
   pub row : k < 65535
-  pub found : (space m : ℕ) → space < 13 → findIn all (keyT k space) (m + 1) ≡ foundOf (getElem? (namesIn ds space) m)
+  pub found : (space m : ℕ) → space < 13 → findIn all (entryKeyT k space) (m + 1) ≡ foundOf (getElem? (namesIn ds space) m)
 
 -- those of all scopes of a tree
 abbrev mutual
@@ -243,7 +243,7 @@ module _ (rules : RuleSet) where
         few = omega arith;
         row = omega arith;
         found = λ space j h.
-            let key = keyT n space in
+            let key = entryKeyT n space in
             let hi = n + length (flatten (scope kind name fs)) in
             let low : n < hi = omega arith in
             let a = beyond-other n hi n space pre (omega arith) h (omega arith) low p in
@@ -330,7 +330,7 @@ Open all (k ∷ ks) (t ∷ ts) = Stand all k t × Open all ks ts
 -- no slot stands under the name 0, and none is of a scope in row 65535
 pub record Sound (all : List Slot) : Type 0 where
   pub named : (key : ℕ) → findIn all key 0 ≡ Nothing
-  pub low : (space x : ℕ) → space < 13 → findIn all (keyT 65535 space) x ≡ Nothing
+  pub low : (space x : ℕ) → space < 13 → findIn all (entryKeyT 65535 space) x ≡ Nothing
 
 past-names : (xs : List ℕ) (m : ℕ) → length xs ≤ m → getElem? xs m ≡ none
 past-names [] m h = refl
@@ -351,20 +351,20 @@ unfolding valueT entryOf valueOf
 value-entry (At v) = refl
 value-entry Nothing = refl
 
-by-number : (all : List Slot) (k : ℕ) (ds : List Declaration) (space m : ℕ) → Sound all → Stand all k ds → space < 13 → findIn all (keyT k space) (Names.keyT m) ≡ foundOf (getElem? (namesIn ds space) m)
+by-number : (all : List Slot) (k : ℕ) (ds : List Declaration) (space m : ℕ) → Sound all → Stand all k ds → space < 13 → findIn all (entryKeyT k space) (Names.keyT m) ≡ foundOf (getElem? (namesIn ds space) m)
 unfolding Names.keyT foundOf pick
 by-number all k ds space m S T h = go (ltb m 65535) refl
   where
-    go : (t : Bool) → ltb m 65535 ≡ t → findIn all (keyT k space) (pick t (m + 1) 0) ≡ foundOf (getElem? (namesIn ds space) m)
+    go : (t : Bool) → ltb m 65535 ≡ t → findIn all (entryKeyT k space) (pick t (m + 1) 0) ≡ foundOf (getElem? (namesIn ds space) m)
     go true e = T .found space m h
     go false e =
         let low = ltb-false m 65535 e in
         let few = T .few in
         let fewer = fewer-names ds space in
-        rw (past-names (namesIn ds space) m (omega arith)) (S .named (keyT k space))
+        rw (past-names (namesIn ds space) m (omega arith)) (S .named (entryKeyT k space))
 
 outward : (all : List Slot) (ks : List ℕ) (tables : List (List Declaration)) (space d m : ℕ) → Sound all → Open all ks tables → space < 13
-    → valueOf (findIn all (keyT (rowOut ks d) space) (Names.keyT m)) ≡ nameOut tables space d m
+    → valueOf (findIn all (entryKeyT (rowOut ks d) space) (Names.keyT m)) ≡ nameOut tables space d m
 unfolding rowOut nameOut _then_
 outward all [] [] space d m S o h = rw (S .low space (Names.keyT m) h) (unfold valueOf orZero in refl)
 outward all [] (t ∷ ts) space d m S o h = absurd o
@@ -373,6 +373,6 @@ outward all (k ∷ ks) (t ∷ ts) space zero m S o h = rw (by-number all k t spa
 outward all (k ∷ ks) (t ∷ ts) space (suc d) m S o h = outward all ks ts space d m S (o .1) h
 
 -- THE NAME that is noted of an OUTER is that of the item that it counts to.
-pub outer-named : (all : List Slot) (ks : List ℕ) (tables : List (List Declaration)) (p : Parts) → Sound all → Open all ks tables → p .b < 13 → nameT all p (note 0 (rowOut ks (p .x))) ≡ nameOut tables (p .b) (p .x) (p .y)
-unfolding nameT lookT
-outer-named all ks tables p S o h = value-entry (findIn all (keyT (rowOut ks (p .x)) (p .b)) (Names.keyT (p .y))) ∙ outward all ks tables (p .b) (p .x) (p .y) S o h
+pub outer-named : (all : List Slot) (ks : List ℕ) (tables : List (List Declaration)) (p : Parts) → Sound all → Open all ks tables → p .b < 13 → nameOfT all p (note 0 (rowOut ks (p .x))) ≡ nameOut tables (p .b) (p .x) (p .y)
+unfolding nameOfT lookT
+outer-named all ks tables p S o h = value-entry (findIn all (entryKeyT (rowOut ks (p .x)) (p .b)) (Names.keyT (p .y))) ∙ outward all ks tables (p .b) (p .x) (p .y) S o h

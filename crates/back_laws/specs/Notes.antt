@@ -22,12 +22,12 @@ use Rattle.rules.specs.Rules.{declarations}
 use Rattle.rules.specs.Good.{GoodHead, GoodScope, GoodFields, GoodItem, height, heights, heightItem}
 use Rattle.unresolving.specs.Back.{namesIn}
 use Rattle.parts.specs.declared.Parts.{Parts}
-use Rattle.claim_scopes.specs.Open.{scopeT, rowIn, hereT, closeT, openT}
-use Rattle.claim_numbers.specs.Count.{noCounts, moreT, numberIn, moreIn, lessIn, numberT, countsT}
+use Rattle.claim_scopes.specs.Open.{openScopeT, rowIn, hereT, openClosedT, openOneT}
+use Rattle.claim_numbers.specs.Count.{noCounts, moreCountT, numberIn, moreIn, lessIn, numberBeforeT, countsT}
 use Rattle.claim_laws.specs.RowParts.{asParts, allParts, codeIn, scope-size, fields-size, holds-size}
-use Rattle.agree.specs.Spaces.{SpacesDecls}
-use Rattle.agree.specs.GoodSpaces.{head-decls}
-use Rattle.agree.specs.SlotLaws.{decl-rows-length}
+use Rattle.agree.specs.Fit.Spaces.{SpacesDecls}
+use Rattle.agree.specs.Fit.GoodSpaces.{head-decls}
+use Rattle.agree.specs.Tables.SlotLaws.{decl-rows-length}
 use Rattle.back_notes.specs.Note.{Note, note, noNote}
 use Rattle.back_notes.specs.Number.{outT, noteT, notesT}
 
@@ -125,8 +125,8 @@ more-names past d space =
     let e = names-append past (d ∷ []) space in
     (λ q. let n = length-append (namesIn past space) (d .name ∷ []) in rw (e, eq-eqb (d .space) space q) (omega arith), λ q. rw (e, ne-eqb (d .space) space q) (append-nil (namesIn past space)))
 
-more-counted : (c : List ℕ) (past : List Declaration) (d : Declaration) → Counted c past → d .space < 13 → length past < 65535 → Counted (moreT c (d .space)) (past ++ (d ∷ []))
-unfolding moreT
+more-counted : (c : List ℕ) (past : List Declaration) (d : Declaration) → Counted c past → d .space < 13 → length past < 65535 → Counted (moreCountT c (d .space)) (past ++ (d ∷ []))
+unfolding moreCountT
 more-counted c past d C h l =
     record { long = length-set c (d .space) (getD c (d .space) 0 % 65536 + 1) ∙ C .long; are = λ space g. go space g (eqb (d .space) space) refl }
   where
@@ -151,7 +151,7 @@ run : (n : ℕ) (st cs : List (List ℕ)) → List Row → List Note
 run n st cs rs = notesT n st cs (allParts rs)
 
 run-row : (n : ℕ) (st cs : List (List ℕ)) (r : Row) (rs : List Row)
-    → run n st cs (r ∷ rs) ≡ noteT st (numberT cs (asParts r)) (asParts r) ∷ run (suc n) (openT 64 st (asParts r) n) (countsT 64 cs (asParts r)) rs
+    → run n st cs (r ∷ rs) ≡ noteT st (numberBeforeT cs (asParts r)) (asParts r) ∷ run (suc n) (openOneT 64 st (asParts r) n) (countsT 64 cs (asParts r)) rs
 unfolding run notesT allParts
 run-row n st cs r rs = rw (add-one n)
 
@@ -163,7 +163,7 @@ pub record Blank (r : Row) : Type 0 where
   pub no-close : codeIn r ≡ 8 → ⊥
 
 run-blank : (n : ℕ) (st cs : List (List ℕ)) (r : Row) (rs : List Row) → Blank r → run n st cs (r ∷ rs) ≡ noNote ∷ run (suc n) st cs rs
-unfolding noteT openT countsT pick
+unfolding noteT openOneT countsT pick
 run-blank n st cs r rs b =
     run-row n st cs r rs ∙ rw (ne-eqb (codeIn r) 2 (b .no-decl), ne-eqb (codeIn r) 5 (b .no-outer), ne-eqb (codeIn r) 7 (b .no-open), ne-eqb (codeIn r) 8 (b .no-close))
 
@@ -198,8 +198,8 @@ blank-export (some n) = blank (Export n) (omega arith) (omega arith) (omega arit
 -- ---- a field's rows
 
 run-decl : (n k : ℕ) (s : List ℕ) (st : List (List ℕ)) (c : List ℕ) (cs : List (List ℕ)) (past : List Declaration) (d : Declaration) (rs : List Row) → rowIn s ≡ k → k < 65536 → Counted c past → d .space < 13
-    → run n (s ∷ st) (c ∷ cs) (Decl (d .space) (d .name) (d .z) ∷ rs) ≡ note (length (namesIn past (d .space))) k ∷ run (suc n) (s ∷ st) (moreT c (d .space) ∷ cs) rs
-unfolding noteT numberT numberIn openT countsT moreIn hereT asParts encode pick
+    → run n (s ∷ st) (c ∷ cs) (Decl (d .space) (d .name) (d .z) ∷ rs) ≡ note (length (namesIn past (d .space))) k ∷ run (suc n) (s ∷ st) (moreCountT c (d .space) ∷ cs) rs
+unfolding noteT numberBeforeT numberIn openOneT countsT moreIn hereT asParts encode pick
 run-decl n k s st c cs past d rs e l C h =
     let low : k % 65536 ≡ k = omega arith in
     run-row n (s ∷ st) (c ∷ cs) (Decl (d .space) (d .name) (d .z)) rs ∙ rw (lt-leb 13 (d .space) h, C .are (d .space) h, e, low)
@@ -207,14 +207,14 @@ run-decl n k s st c cs past d rs e l C h =
 -- the counts behind these declarations
 unfoldable pub countAll : List ℕ → List Declaration → List ℕ
 countAll c [] = c
-countAll c (d ∷ ds) = countAll (moreT c (d .space)) ds
+countAll c (d ∷ ds) = countAll (moreCountT c (d .space)) ds
 
 all-counted : (c : List ℕ) (past ds : List Declaration) → Counted c past → SpacesDecls ds → length past + length ds < 65536 → Counted (countAll c ds) (past ++ ds)
 unfolding countAll
 all-counted c past [] C h l = rw (append-nil past) C
 all-counted c past (d ∷ ds) C h l =
     let n = length-append past (d ∷ []) in
-    rw (← append-assoc past (d ∷ []) ds) (all-counted (moreT c (d .space)) (past ++ (d ∷ [])) ds (more-counted c past d C (h .0) (omega arith)) (h .1) (omega arith))
+    rw (← append-assoc past (d ∷ []) ds) (all-counted (moreCountT c (d .space)) (past ++ (d ∷ [])) ds (more-counted c past d C (h .0) (omega arith)) (h .1) (omega arith))
 
 run-decls : (n k : ℕ) (s : List ℕ) (st : List (List ℕ)) (c : List ℕ) (cs : List (List ℕ)) (past ds : List Declaration) (rs : List Row) → rowIn s ≡ k → k < 65536 → Counted c past → SpacesDecls ds → length past + length ds < 65536
     → run n (s ∷ st) (c ∷ cs) (declRows ds ++ rs) ≡ declNotes k past ds ++ run (n + length (declRows ds)) (s ∷ st) (countAll c ds ∷ cs) rs
@@ -225,11 +225,11 @@ run-decls n k s st c cs past (d ∷ ds) rs e l C h b =
     let m = length-append past (d ∷ []) in
     run-decl n k s st c cs past d (declRows ds ++ rs) e l C (h .0)
     ∙ ap (λ (x : List Note). note (length (namesIn past (d .space))) k ∷ x)
-    (run-decls (suc n) k s st (moreT c (d .space)) cs (past ++ (d ∷ [])) ds rs e l (more-counted c past d C (h .0) (omega arith)) (h .1) (omega arith) ∙ rw z)
+    (run-decls (suc n) k s st (moreCountT c (d .space)) cs (past ++ (d ∷ [])) ds rs e l (more-counted c past d C (h .0) (omega arith)) (h .1) (omega arith) ∙ rw z)
 
 run-outer : (n : ℕ) (st : List (List ℕ)) (ks : List ℕ) (cs : List (List ℕ)) (space : ℕ) (up at : Index) (z : ℕ) (rs : List Row) → OpenAt st ks
     → run n st cs (Outer space up at z ∷ rs) ≡ note 0 (rowOut ks (number up)) ∷ run (suc n) st cs rs
-unfolding noteT openT countsT asParts encode pick
+unfolding noteT openOneT countsT asParts encode pick
 run-outer n st ks cs space up at z rs o = run-row n st cs (Outer space up at z) rs ∙ rw (out-is st ks (number up) o)
 
 pub blank-case : (name z : ℕ) → Blank (Case name z)
@@ -279,12 +279,12 @@ module _ (s : List ℕ) (st : List (List ℕ)) (k : ℕ) (ks : List ℕ) (cs : L
 -- ---- a scope
 
 run-open : (n kind name : ℕ) (st cs : List (List ℕ)) (rs : List Row) → length st < 64 → length cs ≡ length st
-    → run n st cs (Open kind name ∷ rs) ≡ noNote ∷ run (suc n) (scopeT name n ∷ st) (noCounts ∷ cs) rs
-unfolding noteT openT countsT asParts encode pick
+    → run n st cs (Open kind name ∷ rs) ≡ noNote ∷ run (suc n) (openScopeT name n ∷ st) (noCounts ∷ cs) rs
+unfolding noteT openOneT countsT asParts encode pick
 run-open n kind name st cs rs l e = run-row n st cs (Open kind name) rs ∙ rw (e, lt-ltb _ _ l)
 
 run-close : (n : ℕ) (s : List ℕ) (st : List (List ℕ)) (c : List ℕ) (cs : List (List ℕ)) (rs : List Row) → run n (s ∷ st) (c ∷ cs) (Close ∷ rs) ≡ noNote ∷ run (suc n) st cs rs
-unfolding noteT openT countsT closeT lessIn asParts encode pick
+unfolding noteT openOneT countsT openClosedT lessIn asParts encode pick
 run-close n s st c cs rs = run-row n (s ∷ st) (c ∷ cs) Close rs
 
 -- the rows of the scope that an item holds
@@ -303,7 +303,7 @@ item-length i = ap length (item-split i) ∙ length-append (headRows (headOf i))
 count-append : (c : List ℕ) (xs ys : List Declaration) → countAll c (xs ++ ys) ≡ countAll (countAll c xs) ys
 unfolding countAll
 count-append c [] ys = refl
-count-append c (x ∷ xs) ys = count-append (moreT c (x .space)) xs ys
+count-append c (x ∷ xs) ys = count-append (moreCountT c (x .space)) xs ys
 
 -- what runs over the rows of a scope, of fields, of what an item holds
 abbrev RunsScope : (n : ℕ) (st : List (List ℕ)) (ks : List ℕ) (cs : List (List ℕ)) → Scope → Type 0
@@ -317,14 +317,14 @@ abbrev RunsItem : (n : ℕ) (st : List (List ℕ)) (ks : List ℕ) (cs : List (L
 RunsItem n st ks cs i = (rs : List Row) → run n st cs (innerRows i ++ rs) ≡ itemNotes n ks i ++ run (n + length (innerRows i)) st cs rs
 
 scope-step : (n kind name : ℕ) (st : List (List ℕ)) (ks : List ℕ) (cs : List (List ℕ)) (fs : Fields) → length st < 64 → length cs ≡ length st
-    → RunsFields (suc n) (scopeT name n) st n ks noCounts cs [] fs → RunsScope n st ks cs (scope kind name fs)
+    → RunsFields (suc n) (openScopeT name n) st n ks noCounts cs [] fs → RunsScope n st ks cs (scope kind name fs)
 unfolding flatten scopeNotes
 scope-step n kind name st ks cs fs l e below rs =
     let xs = fieldsRows fs in
     let z : suc (suc n + length xs) ≡ n + suc (length (xs ++ (Close ∷ []))) = omega (arith, length-append xs (Close ∷ [])) in
     rw (append-assoc xs (Close ∷ []) rs, append-assoc (fieldsNotes (suc n) n ks [] fs) (noNote ∷ []))
     (run-open n kind name st cs (xs ++ (Close ∷ rs)) l e
-    ∙ ap (λ (m : List Note). noNote ∷ m) (below (Close ∷ rs) ∙ ap (λ (m : List Note). fieldsNotes (suc n) n ks [] fs ++ m) (run-close (suc n + length xs) (scopeT name n) st (countAll noCounts (declarations fs)) cs rs ∙ rw z)))
+    ∙ ap (λ (m : List Note). noNote ∷ m) (below (Close ∷ rs) ∙ ap (λ (m : List Note). fieldsNotes (suc n) n ks [] fs ++ m) (run-close (suc n + length xs) (openScopeT name n) st (countAll noCounts (declarations fs)) cs rs ∙ rw z)))
 
 end-step : (n : ℕ) (s : List ℕ) (st : List (List ℕ)) (k : ℕ) (ks c : List ℕ) (cs : List (List ℕ)) (past : List Declaration) → RunsFields n s st k ks c cs past end
 unfolding flatten scopeNotes declarations countAll
@@ -396,7 +396,7 @@ module _ (rules : RuleSet) where
         let h = deep-scope kind name fs in
         let m = scope-size kind name fs in
         scope-step n kind name st ks cs fs (omega arith) e
-        (fields-run kind fs (suc n) (scopeT name n) st n ks noCounts cs [] g (refl, omega arith, o) e (omega arith) (omega arith) (omega arith) none-counted)
+        (fields-run kind fs (suc n) (openScopeT name n) st n ks noCounts cs [] g (refl, omega arith, o) e (omega arith) (omega arith) (omega arith) none-counted)
 
     fields-run : (kind : ℕ) (fs : Fields) (n : ℕ) (s : List ℕ) (st : List (List ℕ)) (k : ℕ) (ks c : List ℕ) (cs : List (List ℕ)) (past : List Declaration) → GoodFields rules fs kind → OpenAt (s ∷ st) (k ∷ ks) → length cs ≡ length st
         → length st + suc (heights fs) ≤ 64 → n + length (fieldsRows fs) < 65536 → length past + length (fieldsRows fs) < 65536 → Counted c past → RunsFields n s st k ks c cs past fs

@@ -18,9 +18,9 @@ use Rattle.parts.specs.declared.Parts.{Parts}
 use Rattle.claim_laws.specs.RowParts.{asParts, codeIn}
 use Rattle.back_notes.specs.Note.{Note, Noted}
 use Rattle.back_rows.specs.Below.{nth}
-use Rattle.back_rows.specs.Alias.{aliasT, forT}
-use Rattle.back_rows.specs.Restore.{Wrote, putBytes, wroteThen, Rest, rest, leaves, restoreT}
-use Rattle.back_rows.specs.Write.{beforeField, Going, going, goes, goesOn, servedT, goesThen, backT}
+use Rattle.back_rows.specs.Alias.{aliasBeforeT, forT}
+use Rattle.back_rows.specs.Restore.{Wrote, putBytes, wroteThen, Rest, rest, leaves, restoreRefT}
+use Rattle.back_rows.specs.Write.{beforeField, Going, going, goes, goesOn, servedT, goesThen, writeBackT}
 use Rattle.back_rows.specs.declared.alias.Alias.{Alias}
 use Rattle.back_laws.specs.Stand.{with}
 use Rattle.back_laws.specs.Groups.{no-groups, shifted}
@@ -126,7 +126,7 @@ module _ (here : List Declaration) (outside : List (List Declaration)) where
   module _ (before : List Noted) (nothing : Own before) (some-before : 0 < length before) (l₀ D : List Noted) (k : Wrote → Wrote) (ends : After D k) (field : beforeField D ≡ l₀) (low : NotFresh D) where
     -- what is to be shown of operands
     pub record Done (os : List Operand) (xs : List Noted) (hs : List Head) (l : List Noted) : Type 0 where
-      pub does : (inside : Bool) (left : List Noted) → pick inside left l₀ ≡ l → (to : ℕ) (out : List ℕ) → backT (xs ++ D) (going 0 inside left to) out ≡ k (putRows (operandRows (reverse (firstFit here outside os (waiting hs)))) (to & out))
+      pub does : (inside : Bool) (left : List Noted) → pick inside left l₀ ≡ l → (to : ℕ) (out : List ℕ) → writeBackT (xs ++ D) (going 0 inside left to) out ≡ k (putRows (operandRows (reverse (firstFit here outside os (waiting hs)))) (to & out))
 
     none-done : (hs : List Head) (l : List Noted) → Done [] [] hs l
     unfolding firstFit operandRows putRows
@@ -138,7 +138,7 @@ module _ (here : List Declaration) (outside : List (List Declaration)) where
     copy-done {o} {os} {xs} {hs} {l} b n own c f below = record { does = go }
       where
         go : (inside : Bool) (left : List Noted) → pick inside left l₀ ≡ l → (to : ℕ) (out : List ℕ)
-            → backT (with (opRow b) n ∷ (xs ++ D)) (going 0 inside left to) out ≡ k (putRows (operandRows (reverse (firstFit here outside (o ∷ os) (waiting hs)))) (to & out))
+            → writeBackT (with (opRow b) n ∷ (xs ++ D)) (going 0 inside left to) out ≡ k (putRows (operandRows (reverse (firstFit here outside (o ∷ os) (waiting hs)))) (to & out))
         go inside left e to out =
             let F = firstFit here outside os (waiting hs) in
             let stays : inside && not (eqb (codeIn (opRow b)) 1) ≡ inside = rw (ne-eqb (codeIn (opRow b)) 1 (op-code b .0)) (and-true inside) in
@@ -150,25 +150,25 @@ module _ (here : List Declaration) (outside : List (List Declaration)) where
 
     -- a reference: the rows before it that may serve it are those that wait
     ref-goes : (r : Noted) (rs l : List Noted) → Own (r ∷ rs) → r .parts .code ≡ 3 → beforeField rs ≡ l₀ → (inside : Bool) (left : List Noted) → pick inside left l₀ ≡ l → (to : ℕ) (out : List ℕ)
-        → backT (r ∷ rs) (going 0 inside left to) out ≡ goesThen (servedT r l to out) (λ c′ out′. backT rs c′ out′)
+        → writeBackT (r ∷ rs) (going 0 inside left to) out ≡ goesThen (servedT r l to out) (λ c′ out′. writeBackT rs c′ out′)
     ref-goes r rs l own c f inside left e to out = referred r rs own c inside left to out ∙ rw (f, e)
 
     -- it stays
-    ref-stays : (r : Noted) (rs l : List Noted) (to : ℕ) (out : List ℕ) → forT (aliasT l) (r .parts) ≡ false
-        → goesThen (servedT r l to out) (λ c′ out′. backT rs c′ out′) ≡ wroteThen (putBytes (r .bytes) to out) (λ to′ out′. backT rs (going 0 true l to′) out′)
+    ref-stays : (r : Noted) (rs l : List Noted) (to : ℕ) (out : List ℕ) → forT (aliasBeforeT l) (r .parts) ≡ false
+        → goesThen (servedT r l to out) (λ c′ out′. writeBackT rs c′ out′) ≡ wroteThen (putBytes (r .bytes) to out) (λ to′ out′. writeBackT rs (going 0 true l to′) out′)
     unfolding servedT pick
     ref-stays r rs l to out f = rw f (go (putBytes (r .bytes) to out))
       where
-        go : (w : Wrote) → goesThen (goesOn true l w) (λ c′ out′. backT rs c′ out′) ≡ wroteThen w (λ to′ out′. backT rs (going 0 true l to′) out′)
+        go : (w : Wrote) → goesThen (goesOn true l w) (λ c′ out′. writeBackT rs c′ out′) ≡ wroteThen w (λ to′ out′. writeBackT rs (going 0 true l to′) out′)
         go (to′ & out′) = unfold goesOn goesThen wroteThen in refl
 
     -- it is restored
-    ref-restored : (r : Noted) (rs l l₁ l′ : List Noted) (a : Alias) (to : ℕ) (out : List ℕ) (w : Wrote) → aliasT l ≡ a → drop (a .size) l ≡ l₁ → forT a (r .parts) ≡ true → restoreT a l₁ to out ≡ leaves w l′
-        → goesThen (servedT r l to out) (λ c′ out′. backT rs c′ out′) ≡ wroteThen w (λ to′ out′. backT rs (going 0 true l′ to′) out′)
+    ref-restored : (r : Noted) (rs l l₁ l′ : List Noted) (a : Alias) (to : ℕ) (out : List ℕ) (w : Wrote) → aliasBeforeT l ≡ a → drop (a .size) l ≡ l₁ → forT a (r .parts) ≡ true → restoreRefT a l₁ to out ≡ leaves w l′
+        → goesThen (servedT r l to out) (λ c′ out′. writeBackT rs c′ out′) ≡ wroteThen w (λ to′ out′. writeBackT rs (going 0 true l′ to′) out′)
     unfolding servedT pick
     ref-restored r rs l l₁ l′ a to out w s d f e = rw (s, f, d, e) (go w)
       where
-        go : (w : Wrote) → goesThen (goes (leaves w l′)) (λ c′ out′. backT rs c′ out′) ≡ wroteThen w (λ to′ out′. backT rs (going 0 true l′ to′) out′)
+        go : (w : Wrote) → goesThen (goes (leaves w l′)) (λ c′ out′. writeBackT rs c′ out′) ≡ wroteThen w (λ to′ out′. writeBackT rs (going 0 true l′ to′) out′)
         go (to′ & out′) = unfold goes leaves goesThen wroteThen in refl
 
     inside-is : (left : List Noted) → pick true left l₀ ≡ left
@@ -183,16 +183,16 @@ module _ (here : List Declaration) (outside : List (List Declaration)) where
       unfolding opRow asParts encode
       own = own-row (Ref space (Num n) 0 z) m (xs ++ D) (omega arith) (omega arith)
 
-      goes-to : (l : List Noted) (inside : Bool) (left : List Noted) → pick inside left l₀ ≡ l → (to : ℕ) (out : List ℕ) → backT (r ∷ (xs ++ D)) (going 0 inside left to) out ≡ goesThen (servedT r l to out) (λ c′ out′. backT (xs ++ D) c′ out′)
+      goes-to : (l : List Noted) (inside : Bool) (left : List Noted) → pick inside left l₀ ≡ l → (to : ℕ) (out : List ℕ) → writeBackT (r ∷ (xs ++ D)) (going 0 inside left to) out ≡ goesThen (servedT r l to out) (λ c′ out′. writeBackT (xs ++ D) c′ out′)
       goes-to l inside left e to out = ref-goes r (xs ++ D) l own (unfold opRow asParts encode in refl) (before-ops D p ∙ field) inside left e to out
 
       -- written as it is
-      stay-done : {hs : List Head} {l : List Noted} → forT (aliasT l) (r .parts) ≡ false → firstFit here outside (ref space (Num n) [] z ∷ os) (waiting hs) ≡ ref space (Num n) [] z ∷ firstFit here outside os (waiting hs)
+      stay-done : {hs : List Head} {l : List Noted} → forT (aliasBeforeT l) (r .parts) ≡ false → firstFit here outside (ref space (Num n) [] z ∷ os) (waiting hs) ≡ ref space (Num n) [] z ∷ firstFit here outside os (waiting hs)
           → Done os xs hs l → Done (ref space (Num n) [] z ∷ os) (r ∷ xs) hs l
       stay-done {hs} {l} f q below = record { does = go }
         where
           go : (inside : Bool) (left : List Noted) → pick inside left l₀ ≡ l → (to : ℕ) (out : List ℕ)
-              → backT (r ∷ (xs ++ D)) (going 0 inside left to) out ≡ k (putRows (operandRows (reverse (firstFit here outside (ref space (Num n) [] z ∷ os) (waiting hs)))) (to & out))
+              → writeBackT (r ∷ (xs ++ D)) (going 0 inside left to) out ≡ k (putRows (operandRows (reverse (firstFit here outside (ref space (Num n) [] z ∷ os) (waiting hs)))) (to & out))
           go inside left e to out =
               let F = firstFit here outside os (waiting hs) in
               goes-to l inside left e to out ∙ ref-stays r (xs ++ D) l to out f
@@ -202,13 +202,13 @@ module _ (here : List Declaration) (outside : List (List Declaration)) where
               ∙ ap (λ (w : Wrote). k (putRows (operandRows (reverse F)) w)) (one-put (opRow (a-ref space n z)) to out))
 
       -- written as it was
-      serve-done : {hs hs′ : List Head} {l l₁ l′ : List Noted} (a : Alias) (g : Group) → aliasT l ≡ a → drop (a .size) l ≡ l₁ → forT a (r .parts) ≡ true
-          → ((to : ℕ) (out : List ℕ) → restoreT a l₁ to out ≡ leaves (putRows (operandRow (g .was)) (to & out)) l′)
+      serve-done : {hs hs′ : List Head} {l l₁ l′ : List Noted} (a : Alias) (g : Group) → aliasBeforeT l ≡ a → drop (a .size) l ≡ l₁ → forT a (r .parts) ≡ true
+          → ((to : ℕ) (out : List ℕ) → restoreRefT a l₁ to out ≡ leaves (putRows (operandRow (g .was)) (to & out)) l′)
           → firstFit here outside (ref space (Num n) [] z ∷ os) (waiting hs) ≡ g .was ∷ firstFit here outside os (waiting hs′) → Done os xs hs′ l′ → Done (ref space (Num n) [] z ∷ os) (r ∷ xs) hs l
       serve-done {hs} {hs′} {l} {l₁} {l′} a g s d f e q below = record { does = go }
         where
           go : (inside : Bool) (left : List Noted) → pick inside left l₀ ≡ l → (to : ℕ) (out : List ℕ)
-              → backT (r ∷ (xs ++ D)) (going 0 inside left to) out ≡ k (putRows (operandRows (reverse (firstFit here outside (ref space (Num n) [] z ∷ os) (waiting hs)))) (to & out))
+              → writeBackT (r ∷ (xs ++ D)) (going 0 inside left to) out ≡ k (putRows (operandRows (reverse (firstFit here outside (ref space (Num n) [] z ∷ os) (waiting hs)))) (to & out))
           go inside left i to out =
               let F = firstFit here outside os (waiting hs′) in
               let w = putRows (operandRow (g .was)) (to & out) in
@@ -242,13 +242,13 @@ module _ (here : List Declaration) (outside : List (List Declaration)) where
     ref-parts space n z = refl
 
     ref-done : (space n z : ℕ) {os : List Operand} {xs : List Noted} (m : Note) (p : Ops os xs) {h : Head} {ys : List Noted} {hs : List Head} {l : List Noted} (A : Shown here outside h ys) (W : Waits here outside before hs l)
-        (R : Restores here outside before hs (h ∷ []) (A .decl) (λ w. wroteThen w (λ to out. restoreT (seenAt here outside A (length l)) l to out))) → (t : Bool) → isFor here outside (A .decl) (ref space (Num n) [] z) ≡ t
+        (R : Restores here outside before hs (h ∷ []) (A .decl) (λ w. wroteThen w (λ to out. restoreRefT (seenAt here outside A (length l)) l to out))) → (t : Bool) → isFor here outside (A .decl) (ref space (Num n) [] z) ≡ t
         → Done os xs (h ∷ hs) (ys ++ l) → Done os xs (R .hs′) (R .l′) → Done (ref space (Num n) [] z ∷ os) (with (opRow (a-ref space n z)) m ∷ xs) (h ∷ hs) (ys ++ l)
     ref-done space n z {os} {xs} m p {h} {ys} {hs} {l} A W R true e stays serves =
         let o = ref space (Num n) [] z in
         let fits : isFor here outside (R .group .decl) o ≡ true = rw (R .decl-is) e in
         serve-done space n z m p (seenAt here outside A (length l)) (R .group) (A .sees l (behind here outside before nothing some-before W)) (shown-rest here outside A l) (rw (ref-parts space n z) (is-for here outside A (length l) space n z ∙ e))
-        (writes-pair (λ to out. restoreT (seenAt here outside A (length l)) l to out) (λ w. leaves (putRows (operandRow (R .group .was)) w) (R .l′)) (R .writes))
+        (writes-pair (λ to out. restoreRefT (seenAt here outside A (length l)) l to out) (λ w. leaves (putRows (operandRow (R .group .was)) w) (R .l′)) (R .writes))
         (rw (waiting-more h hs (R .hs′) (R .group) (R .is)) (fit-first o os (R .group) (waiting (R .hs′)) fits)) serves
     ref-done space n z {os} {xs} m p {h} {ys} {hs} {l} A W R false e stays serves =
         let o = ref space (Num n) [] z in
@@ -266,7 +266,7 @@ module _ (here : List Declaration) (outside : List (List Declaration)) where
         let o = own-case name z n (xs ++ D) in
         copy-done (a-case name z) n (o .0) (o .1) (case-stays name z) (ops p W s)
     ops (one-op {os = os} (a-ref space m z) n p) all s =
-        stay-done space m z n p (no-for (aliasT before) (asParts (opRow (a-ref space m z))) nothing) (rw waiting-none (fit-none (ref space (Num m) [] z ∷ os) ∙ ap (λ (x : List Operand). ref space (Num m) [] z ∷ x) (sym (fit-none os)))) (ops p all s)
+        stay-done space m z n p (no-for (aliasBeforeT before) (asParts (opRow (a-ref space m z))) nothing) (rw waiting-none (fit-none (ref space (Num m) [] z ∷ os) ∙ ap (λ (x : List Operand). ref space (Num m) [] z ∷ x) (sym (fit-none os)))) (ops p all s)
     ops (one-op (a-ref space m z) n p) (more {hs = hs} A W) s =
         let R = restored here outside before nothing some-before A W (omega arith) in
         let less = R .less in

@@ -22,8 +22,8 @@ use Rattle.rows.specs.declared.row.Row as code-row
 use Rattle.put.specs.Put.{ruleIndex, ruleRow, bytesOf, rowBytes}
 use Rattle.claim_laws.specs.RowParts.{asParts}
 use Rattle.back_notes.specs.Note.{Noted}
-use Rattle.back_rows.specs.Alias.{aliasT, forT, linkedT}
-use Rattle.back_rows.specs.Restore.{Wrote, putBytes, wroteThen, Rest, rest, leaves, beginT, pathT, restoreT}
+use Rattle.back_rows.specs.Alias.{aliasBeforeT, forT, isLinkedT}
+use Rattle.back_rows.specs.Restore.{Wrote, putBytes, wroteThen, Rest, rest, leaves, beginT, pathT, restoreRefT}
 use Rattle.back_rows.specs.declared.alias.Alias.{Alias}
 use Rattle.back_laws.specs.Groups.{parted, lone, joined, shifted, no-groups}
 
@@ -92,7 +92,7 @@ module _ (here : List Declaration) (outside : List (List Declaration)) where
     pub kind : Kind h operand value
     pub size : ℕ
     pub long : length xs ≡ suc size
-    pub sees : (l : List Noted) → 0 < length l → aliasT (xs ++ l) ≡ seen (suc size) (length l) h decl number operand value
+    pub sees : (l : List Noted) → 0 < length l → aliasBeforeT (xs ++ l) ≡ seen (suc size) (length l) h decl number operand value
 
   abbrev pub seenAt : {h : Head} {xs : List Noted} → Shown h xs → (start : ℕ) → Alias
   seenAt {h} s start = seen (suc (s .size)) start h (s .decl) (s .number) (s .operand) (s .value)
@@ -102,7 +102,7 @@ module _ (here : List Declaration) (outside : List (List Declaration)) where
 
   -- ---- the tests
 
-  is-linked : {a b : Head} {xs ys : List Noted} (A : Shown a xs) (B : Shown b ys) (m n : ℕ) → linkedT (seenAt A m) (seenAt B n) ≡ links here outside a b
+  is-linked : {a b : Head} {xs ys : List Noted} (A : Shown a xs) (B : Shown b ys) (m n : ℕ) → isLinkedT (seenAt A m) (seenAt B n) ≡ links here outside a b
   unfolding links firstDecl firstOperand standsOn digits asParts encode flag number
   is-linked {a} {b} A B m n = rw (ne-eqb (suc (A .size)) 0 (omega arith), A .alone-is) (go (B .kind))
     where
@@ -167,16 +167,16 @@ module _ (here : List Declaration) (outside : List (List Declaration)) where
       then-same (putRows (pathRows ps) w) _ (λ to out. leaves (putOne row (to & out)) l) (λ to out. rw e (ap (λ (v : Wrote). leaves v l) (put-ref (last .decl .b) n (length ps) (last .operand .z) to out)))
       ∙ then-is (putRows (pathRows ps) w) (λ (v : Wrote). leaves (putOne row v) l)
 
-  not-linked-none : (a b : Alias) → a .size ≡ 0 → linkedT a b ≡ false
+  not-linked-none : (a b : Alias) → a .size ≡ 0 → isLinkedT a b ≡ false
   not-linked-none a b e = rw e
 
-  path-stops : (turns : ℕ) (last first : Alias) (l : List Noted) (count to : ℕ) (out : List ℕ) → linkedT (aliasT l) first ≡ false → pathT turns last first l count to out ≡ leaves (beginT last first count to out) l
+  path-stops : (turns : ℕ) (last first : Alias) (l : List Noted) (count to : ℕ) (out : List ℕ) → isLinkedT (aliasBeforeT l) first ≡ false → pathT turns last first l count to out ≡ leaves (beginT last first count to out) l
   unfolding pathT pick
   path-stops zero last first l count to out e = refl
   path-stops (suc turns) last first l count to out e = rw e
 
   stops : {before : List Noted} {hs tail : List Head} {l : List Noted} (turns : ℕ) (last first : Alias) (n : ℕ) (ps : List ℕ) (g : Group) → Waits before hs l → first .operand .x ≡ n
-      → g .was ≡ ref (last .decl .b) (Num n) ps (last .operand .z) → linkedT (aliasT l) first ≡ false → groups here outside (reverse hs ++ tail) ≡ groups here outside (reverse hs) ++ (g ∷ [])
+      → g .was ≡ ref (last .decl .b) (Num n) ps (last .operand .z) → isLinkedT (aliasBeforeT l) first ≡ false → groups here outside (reverse hs ++ tail) ≡ groups here outside (reverse hs) ++ (g ∷ [])
       → Restores before hs tail (g .decl) (λ w. wroteThen (putRows (pathRows ps) w) (λ to out. pathT turns last first l (length ps) to out))
   stops {before} {hs} {tail} {l} turns last first n ps g W e was apart is =
       record {
@@ -193,7 +193,7 @@ module _ (here : List Declaration) (outside : List (List Declaration)) where
       }
 
   -- one export more before it
-  goes-on : (turns : ℕ) (last first a : Alias) (l l₀ : List Noted) (ps : List ℕ) → aliasT l ≡ a → drop (a .size) l ≡ l₀ → linkedT a first ≡ true → length ps + 1 < 4294967296 → (w : Wrote)
+  goes-on : (turns : ℕ) (last first a : Alias) (l l₀ : List Noted) (ps : List ℕ) → aliasBeforeT l ≡ a → drop (a .size) l ≡ l₀ → isLinkedT a first ≡ true → length ps + 1 < 4294967296 → (w : Wrote)
       → wroteThen (putRows (pathRows ps) w) (λ to out. pathT (suc turns) last first l (length ps) to out) ≡ wroteThen (putRows (pathRows (a .value ∷ ps)) w) (λ to out. pathT turns last a l₀ (length (a .value ∷ ps)) to out)
   unfolding pathT pathRows putRows pick
   goes-on turns last first a l l₀ ps s d t b w =
@@ -226,7 +226,7 @@ module _ (here : List Declaration) (outside : List (List Declaration)) where
   unfolding links
   linked-nine a b e = eqb-true (a .code) 9 (and-left (eqb (a .code) 9) _ e)
 
-  module _ (before : List Noted) (nothing : aliasT before .size ≡ 0) (some-before : 0 < length before) where
+  module _ (before : List Noted) (nothing : aliasBeforeT before .size ≡ 0) (some-before : 0 < length before) where
     pub behind : {hs : List Head} {l : List Noted} → Waits before hs l → 0 < length l
     behind W = let f = fuller W in omega arith
 
@@ -234,7 +234,7 @@ module _ (here : List Declaration) (outside : List (List Declaration)) where
         → length ps + length hs < 4294967296 → groups here outside (b ∷ tail) ≡ g ∷ [] → g .was ≡ ref (last .decl .b) (Num (B .operand .x)) ps (last .operand .z)
         → Restores before hs (b ∷ tail) (g .decl) (λ w. wroteThen (putRows (pathRows ps) w) (λ to out. pathT turns last (seenAt B m) l (length ps) to out))
     path all turns last {b} B m ps g f c one was =
-        stops turns last (seenAt B m) (B .operand .x) ps g all refl was (not-linked-none (aliasT before) (seenAt B m) nothing) (one ∙ rw (no-groups here outside))
+        stops turns last (seenAt B m) (B .operand .x) ps g all refl was (not-linked-none (aliasBeforeT before) (seenAt B m) nothing) (one ∙ rw (no-groups here outside))
     path (more {h = a} {xs = xs} {hs = hs} {l = l} A W) zero last B m ps g f c one was = absurd (omega arith)
     path {tail = tail} (more {h = a} {xs = xs} {hs = hs} {l = l} A W) (suc turns) last {b} B m ps g f c one was =
         go (links here outside a b) refl
@@ -273,13 +273,13 @@ module _ (here : List Declaration) (outside : List (List Declaration)) where
     unfolding alone served firstOperand firstDecl orZero
     path-was h d from n z value a o x = rw (a, o, x)
 
-    restores-name : (a : Alias) (space d n z : ℕ) → a .operand ≡ asParts (Outer space (Num d) (Num n) z) → (l : List Noted) (to : ℕ) (out : List ℕ) → restoreT a l to out ≡ leaves (putOne (Ref space (Id (a .value)) 0 z) (to & out)) l
-    unfolding restoreT asParts encode flag number pick
+    restores-name : (a : Alias) (space d n z : ℕ) → a .operand ≡ asParts (Outer space (Num d) (Num n) z) → (l : List Noted) (to : ℕ) (out : List ℕ) → restoreRefT a l to out ≡ leaves (putOne (Ref space (Id (a .value)) 0 z) (to & out)) l
+    unfolding restoreRefT asParts encode flag number pick
     restores-name a space d n z e l to out = rw e (ap (λ (v : Wrote). leaves v l) (put-name space (a .value) z to out))
 
     restores-path : (a : Alias) (from n z : ℕ) → a .operand ≡ asParts (Ref from (Num n) 0 z) → (l : List Noted) (to : ℕ) (out : List ℕ)
-        → restoreT a l to out ≡ wroteThen (putOne (Path (a .value)) (to & out)) (λ to′ out′. pathT (a .start) a a l 1 to′ out′)
-    unfolding restoreT pick
+        → restoreRefT a l to out ≡ wroteThen (putOne (Path (a .value)) (to & out)) (λ to′ out′. pathT (a .start) a a l 1 to′ out′)
+    unfolding restoreRefT pick
     restores-path a from n z e l to out =
         let other : eqb (a .operand .code) 5 ≡ false = unfold asParts encode in rw e in
         rw other (ap (λ (v : Wrote). wroteThen v (λ to′ out′. pathT (a .start) a a l 1 to′ out′)) (put-path (a .value) to out))
@@ -303,10 +303,10 @@ module _ (here : List Declaration) (outside : List (List Declaration)) where
 
     -- THE REFERENCE that the last field served: what is written for it is the group's, and the fields before its group are left.
     pub restored : {h : Head} {xs : List Noted} {hs : List Head} {l : List Noted} (A : Shown h xs) → Waits before hs l → length hs < 4294967295
-        → Restores before hs (h ∷ []) (A .decl) (λ w. wroteThen w (λ to out. restoreT (seenAt A (length l)) l to out))
+        → Restores before hs (h ∷ []) (A .decl) (λ w. wroteThen w (λ to out. restoreRefT (seenAt A (length l)) l to out))
     restored {h} {xs} {hs} {l} A W small = go (A .kind)
       where
-        go : Kind h (A .operand) (A .value) → Restores before hs (h ∷ []) (A .decl) (λ w. wroteThen w (λ to out. restoreT (seenAt A (length l)) l to out))
+        go : Kind h (A .operand) (A .value) → Restores before hs (h ∷ []) (A .decl) (λ w. wroteThen w (λ to out. restoreRefT (seenAt A (length l)) l to out))
         go (leads space d n z o p v c) =
             record {
               hs′ = hs;

@@ -10,7 +10,7 @@ use Rattle.rules.specs.Rows.{Raw, raw, Row, encode, encodeRow}
 use Rattle.rules.specs.Answer.{rowsBytes}
 use Rattle.read_form.specs.Laws.OutputLength.{rows-length}
 use Rattle.parts.specs.declared.Parts.{Parts}
-use Rattle.parts.specs.Apart.{partsAt}
+use Rattle.parts.specs.PartsAt.{partsAt}
 use Rattle.matched.specs.Counted.{rawOf}
 use Rattle.matched.proofs.Ends.{At}
 use Rattle.claim_rows.specs.Left.{rowsFrom, rowsAt}

@@ -13,23 +13,23 @@ use borrow.Author.Tests.{lt-ltb, le-ltb, eq-eqb, ne-eqb}
 use Rattle.kit.specs.Pick.{pick}
 use Rattle.kit.specs.Out.{Out, _&_}
 use Rattle.kit.proofs.Laws.{past, left-suc}
-use Rattle.parts.specs.Apart.{partsAt}
+use Rattle.parts.specs.PartsAt.{partsAt}
 use Rattle.parts.specs.declared.Parts.{Parts}
 use Rattle.names.specs.Table.{Slot, pushed, noScope, scopeAt}
 use Rattle.names.proofs.Laws.{any-default}
 use Rattle.claim_rows.specs.Left.{rowsAt}
 use Rattle.claim_rows.proofs.Ways.{rows-there, rows-past}
-use Rattle.claim_scopes.specs.Open.{behindT, openIn, hereT, openT}
+use Rattle.claim_scopes.specs.Open.{openBehindT, openIn, hereT, openOneT}
 use Rattle.claim_scopes.specs.Entries.{slotT, lookT, enterT, laidT}
 use Rattle.claim_scopes.specs.declared.entries.Entry.{Entry}
 use Rattle.claim_scopes.specs.declared.entries.Entry.the-variants.{Value, Nothing}
 use Rattle.claim_scopes.proofs.Held.{open-behind, Laid, laid-none, slot-enters, laid-is}
-use Rattle.claim_numbers.specs.Count.{noCounts, countT, countsIn, numberT, countsT}
+use Rattle.claim_numbers.specs.Count.{noCounts, countBeforeT, countsIn, numberBeforeT, countsT}
 use Rattle.claim_numbers.specs.Enter.{laidBy}
 use Rattle.claim_numbers.proofs.Ways.{counted-behind}
 use Rattle.back_notes.specs.Note.{Note, note, noNote, Noted, rowAt, notedFrom, notedAt}
-use Rattle.back_notes.specs.Number.{outT, noteT, Went, wentT, onT, rowT, notesT}
-use Rattle.back_notes.specs.Names.{slotOf, enteredT, entryT, slotsT, keyT, valueT, nameT, namedT, nameRowT, namingT, namedFrom, namesT}
+use Rattle.back_notes.specs.Number.{outT, noteT, Went, wentT, onT, numberRowT, notesT}
+use Rattle.back_notes.specs.Names.{slotOf, enteredT, noteEntryT, slotsT, keyT, valueT, nameOfT, namedT, nameRowT, namingT, namedFrom, namesT}
 
 -- ---- notes
 
@@ -80,9 +80,9 @@ pub ruleset noting = (note-decl, note-outer, note-other, needs)
 -- ---- number_row, number_rows
 
 pub row-is : (p : Parts) (i : ℕ) (scopes counts : List (List ℕ)) (noted : List Note) (depth number : ℕ) (counts′ : List (List ℕ)) (n : Note) (noted′ : List Note) (d : ℕ) (scopes′ : List (List ℕ))
-    → (number & counts′) ≡ countT counts depth p → n ≡ noteT (openIn scopes depth) number p → noted′ ≡ set noted i n → (d & scopes′) ≡ behindT scopes depth p i
-    → (d & scopes′ & counts′ & noted′) ≡ rowT p i scopes counts noted depth
-unfolding rowT onT wentT
+    → (number & counts′) ≡ countBeforeT counts depth p → n ≡ noteT (openIn scopes depth) number p → noted′ ≡ set noted i n → (d & scopes′) ≡ openBehindT scopes depth p i
+    → (d & scopes′ & counts′ & noted′) ≡ numberRowT p i scopes counts noted depth
+unfolding numberRowT onT wentT
 row-is p i scopes counts noted depth number counts′ n noted′ d scopes′ c e s b = rw (← c, s, e, ← b)
 
 abbrev outOf : {A B : Type 0} → Out A B → A
@@ -109,11 +109,11 @@ module _ (rows : List ℕ) (noted : List Note) where
     goes-end h = rw (rows-past rows i h) at (g .goes)
 
     module _ (h : i < length rows / 16) (p : Parts) (e : p ≡ partsAt rows i) where
-      next : sets (set noted i (noteT (openIn scopes depth) (numberT (countsIn counts depth) p) p)) (i + 1) (notesT (i + 1) (openT 64 (openIn scopes depth) p i) (countsT 64 (countsIn counts depth) p) (rowsAt rows (i + 1))) ≡ T
+      next : sets (set noted i (noteT (openIn scopes depth) (numberBeforeT (countsIn counts depth) p) p)) (i + 1) (notesT (i + 1) (openOneT 64 (openIn scopes depth) p i) (countsT 64 (countsIn counts depth) p) (rowsAt rows (i + 1))) ≡ T
       unfolding notesT
       next = rw (e, add-one i) (rw (rows-there rows i h, add-one i) at (g .goes))
 
-      after : (C : Out ℕ (List (List ℕ))) → C ≡ countT counts depth p → (B : Out ℕ (List (List ℕ))) → B ≡ behindT scopes depth p i
+      after : (C : Out ℕ (List (List ℕ))) → C ≡ countBeforeT counts depth p → (B : Out ℕ (List (List ℕ))) → B ≡ openBehindT scopes depth p i
           → (d : ℕ) (scopes′ counts′ : List (List ℕ)) (noted′ : List Note) → (d & scopes′ & counts′ & noted′) ≡ wentT B (leftOf C) (set noted i (noteT (openIn scopes depth) (outOf C) p)) → Goes rows scopes′ counts′ noted′ d (i + 1) T
       unfolding wentT
       after (number & ct) k (b & sc) o d scopes′ counts′ noted′ q =
@@ -127,19 +127,19 @@ module _ (rows : List ℕ) (noted : List Note) where
           let O = open-behind scopes depth p i (omega arith) sc b o in
           let N = counted-behind scopes counts depth p i (omega arith) (long ∙ sym counted) number b sc ct k o in
           let room = O .room in
-          let opens : openIn sc b ≡ openT 64 (openIn scopes depth) p i = rw (← long) (O .are) in
+          let opens : openIn sc b ≡ openOneT 64 (openIn scopes depth) p i = rw (← long) (O .are) in
           let counts-are : countsIn ct b ≡ countsT 64 (countsIn counts depth) p = rw (← counted) (N .are) in
           rw (d-is, s-is, c-is, n-is) (record { goes = rw (opens, counts-are, N .number-is) next; deep = omega arith; long = O .long ∙ long; counted = N .long ∙ counted })
 
-      goes-on : (d : ℕ) (scopes′ counts′ : List (List ℕ)) (noted′ : List Note) → (d & scopes′ & counts′ & noted′) ≡ rowT p i scopes counts noted depth → Goes rows scopes′ counts′ noted′ d (i + 1) T
-      unfolding rowT
-      goes-on d scopes′ counts′ noted′ q = go (countT counts depth p) refl q
+      goes-on : (d : ℕ) (scopes′ counts′ : List (List ℕ)) (noted′ : List Note) → (d & scopes′ & counts′ & noted′) ≡ numberRowT p i scopes counts noted depth → Goes rows scopes′ counts′ noted′ d (i + 1) T
+      unfolding numberRowT
+      goes-on d scopes′ counts′ noted′ q = go (countBeforeT counts depth p) refl q
         where
-          go : (C : Out ℕ (List (List ℕ))) → C ≡ countT counts depth p → (d & scopes′ & counts′ & noted′) ≡ onT C p i scopes noted depth → Goes rows scopes′ counts′ noted′ d (i + 1) T
+          go : (C : Out ℕ (List (List ℕ))) → C ≡ countBeforeT counts depth p → (d & scopes′ & counts′ & noted′) ≡ onT C p i scopes noted depth → Goes rows scopes′ counts′ noted′ d (i + 1) T
           go (number & ct) k e = after (number & ct) k _ refl d scopes′ counts′ noted′ (unfold onT in e)
 
 pub turn-goes : (rows : List ℕ) (scopes counts : List (List ℕ)) (noted : List Note) (depth i : ℕ) (p : Parts) (d : ℕ) (scopes′ counts′ : List (List ℕ)) (noted′ T : List Note)
-    → (d & scopes′ & counts′ & noted′) ≡ rowT p i scopes counts noted depth → p ≡ partsAt rows i → Goes rows scopes counts noted depth i T → i < length rows / 16 → Goes rows scopes′ counts′ noted′ d (i + 1) T
+    → (d & scopes′ & counts′ & noted′) ≡ numberRowT p i scopes counts noted depth → p ≡ partsAt rows i → Goes rows scopes counts noted depth i T → i < length rows / 16 → Goes rows scopes′ counts′ noted′ d (i + 1) T
 turn-goes rows scopes counts noted depth i p d scopes′ counts′ noted′ T q e g h = goes-on rows noted scopes counts depth i T g h p e d scopes′ counts′ noted′ q
 
 pub ruleset turns = (goes-start, goes-end, turn-goes, needs)
@@ -170,12 +170,12 @@ pub ruleset entering = (enters-none, enters-decl, needs)
 
 -- behind a row the slots are those of the twin
 record Listed (before table table′ : List Slot) (p : Parts) (n : Note) (used r : ℕ) : Type 0 where
-  are : take r table′ ≡ entryT (length before) (take used table) p n
+  are : take r table′ ≡ noteEntryT (length before) (take used table) p n
   laid : Laid before table′ r
 
 module _ (before table : List Slot) (p : Parts) (n : Note) (used : ℕ) (h : Laid before table used) where
   by-code : (t : Bool) → eqb (p .code) 2 ≡ t → (table′ : List Slot) (r : ℕ) → (r & table′) ≡ enteredT p n table used → Listed before table table′ p n used r
-  unfolding enteredT entryT pick
+  unfolding enteredT noteEntryT pick
   by-code true t table′ r e =
       let s = slot-enters before table used (slotOf p n) h table′ r (rw t at e) in
       record { are = rw t (s .are); laid = s .laid }
@@ -206,7 +206,7 @@ module _ (rows : List ℕ) (noted : List Note) (before : List Slot) where
     unfolding slotsT rowAt
     enters-on h p e n f r table′ q =
         let L = by-code before table p n used (g .laid) (eqb (p .code) 2) refl table′ r q in
-        let twin : slotsT (length before) (entryT (length before) (take used table) p n) (notedAt rows noted (i + 1)) ≡ T = rw (e, f) (rw (noted-there rows noted i h) at (g .goes)) in
+        let twin : slotsT (length before) (noteEntryT (length before) (take used table) p n) (notedAt rows noted (i + 1)) ≡ T = rw (e, f) (rw (noted-there rows noted i h) at (g .goes)) in
         record { goes = rw (L .are) twin; laid = L .laid }
 
 pub ruleset enterings = (enters-start, enters-end, enters-on, needs)
@@ -222,12 +222,12 @@ unfolding keyT pick
 key-none number h = rw (le-ltb _ _ h)
 
 module _ (ss : List Slot) (p : Parts) (n : Note) (scope key : ℕ) (s : scope ≡ getD n 1 0) (k : key ≡ keyT (p .y)) (e : Entry) (l : e ≡ lookT ss scope (p .b) key) where
-  pub name-value : (v : ℕ) → e ≡ Value v → v ≡ nameT ss p n
-  unfolding nameT valueT
+  pub name-value : (v : ℕ) → e ≡ Value v → v ≡ nameOfT ss p n
+  unfolding nameOfT valueT
   name-value v h = rw (← s, ← k, ← l, h)
 
-  pub name-nothing : e ≡ Nothing → 0 ≡ nameT ss p n
-  unfolding nameT valueT
+  pub name-nothing : e ≡ Nothing → 0 ≡ nameOfT ss p n
+  unfolding nameOfT valueT
   name-nothing h = rw (← s, ← k, ← l, h)
 
 pub ruleset naming = (key-some, key-none, name-value, name-nothing, needs)
@@ -237,7 +237,7 @@ module _ (ss : List Slot) (p : Parts) (i : ℕ) (noted : List Note) where
   unfolding nameRowT pick
   row-none h = rw (ne-eqb _ _ h)
 
-  pub row-named : p .code ≡ 5 → (n : Note) → n ≡ getD noted i noNote → (name : ℕ) → name ≡ nameT ss p n → (noted′ : List Note) → noted′ ≡ set noted i (note name (getD n 1 0)) → noted′ ≡ nameRowT ss p i noted
+  pub row-named : p .code ≡ 5 → (n : Note) → n ≡ getD noted i noNote → (name : ℕ) → name ≡ nameOfT ss p n → (noted′ : List Note) → noted′ ≡ set noted i (note name (getD n 1 0)) → noted′ ≡ nameRowT ss p i noted
   unfolding nameRowT namedT pick
   row-named h n e name f noted′ g = rw (eq-eqb _ _ h, ← e, ← f) g
 

@@ -6,7 +6,7 @@ use lib.ListN.{length, getD, set}
 use Rattle.kit.specs.Pick.{pick}
 use Rattle.kit.specs.Out.{Out, _&_}
 use Rattle.parts.specs.declared.Parts.{Parts}
-use Rattle.parts.specs.Apart.{partsAt}
+use Rattle.parts.specs.PartsAt.{partsAt}
 use Rattle.names.specs.Table.{Slot, pushed}
 use Rattle.claim_scopes.specs.Entries.{slotT, lookT, enterT}
 use Rattle.claim_scopes.specs.declared.entries.Entry.{Entry}
@@ -24,13 +24,13 @@ unfoldable pub enteredT : Parts → Note → List Slot → (used : ℕ) → Out 
 enteredT p n table used = pick (eqb (p .code) 2) (pushed table used (slotOf p n)) (used & table)
 
 -- the slots that are used behind a row, of `room`
-unfoldable pub entryT : (room : ℕ) → List Slot → Parts → Note → List Slot
-entryT room ss p n = pick (eqb (p .code) 2) (enterT room ss (slotOf p n)) ss
+unfoldable pub noteEntryT : (room : ℕ) → List Slot → Parts → Note → List Slot
+noteEntryT room ss p n = pick (eqb (p .code) 2) (enterT room ss (slotOf p n)) ss
 
 -- every DECL of these rows is entered
 unfoldable pub slotsT : (room : ℕ) → List Slot → List Noted → List Slot
 slotsT room ss [] = ss
-slotsT room ss (r ∷ rs) = slotsT room (entryT room ss (r .parts) (r .note)) rs
+slotsT room ss (r ∷ rs) = slotsT room (noteEntryT room ss (r .parts) (r .note)) rs
 
 -- ---- looked up
 
@@ -44,12 +44,12 @@ valueT (Value name) = name
 valueT Nothing = 0
 
 -- the name of what an OUTER with this note counts to, 0 where there is nothing
-unfoldable pub nameT : List Slot → Parts → Note → ℕ
-nameT ss p n = valueT (lookT ss (getD n 1 0) (p .b) (keyT (p .y)))
+unfoldable pub nameOfT : List Slot → Parts → Note → ℕ
+nameOfT ss p n = valueT (lookT ss (getD n 1 0) (p .b) (keyT (p .y)))
 
 -- the note of a row with its name
 unfoldable pub namedT : List Slot → Parts → Note → Note
-namedT ss p n = pick (eqb (p .code) 5) (note (nameT ss p n) (getD n 1 0)) n
+namedT ss p n = pick (eqb (p .code) 5) (note (nameOfT ss p n) (getD n 1 0)) n
 
 -- notes the name of row i, if it is an OUTER
 unfoldable pub nameRowT : List Slot → Parts → (i : ℕ) (noted : List Note) → List Note

@@ -6,8 +6,8 @@ use lib.ListN.{set}
 use Rattle.kit.specs.Pick.{pick}
 use Rattle.kit.specs.Out.{Out, _&_}
 use Rattle.parts.specs.declared.Parts.{Parts}
-use Rattle.claim_scopes.specs.Open.{rowIn, openIn, hereT, behindT, openT}
-use Rattle.claim_numbers.specs.Count.{countT, numberT, countsT}
+use Rattle.claim_scopes.specs.Open.{rowIn, openIn, hereT, openBehindT, openOneT}
+use Rattle.claim_numbers.specs.Count.{countBeforeT, numberBeforeT, countsT}
 use Rattle.back_notes.specs.Note.{Note, note, noNote}
 
 -- the row of the OPEN of the scope so far out, of those that are open; 65535 where there is none
@@ -29,15 +29,15 @@ unfoldable pub wentT : Out ℕ (List (List ℕ)) → (counts : List (List ℕ)) 
 wentT (depth & scopes) counts noted = depth & scopes & counts & noted
 
 unfoldable pub onT : Out ℕ (List (List ℕ)) → Parts → (i : ℕ) (scopes : List (List ℕ)) (noted : List Note) (depth : ℕ) → Went
-onT (number & counts) p i scopes noted depth = wentT (behindT scopes depth p i) counts (set noted i (noteT (openIn scopes depth) number p))
+onT (number & counts) p i scopes noted depth = wentT (openBehindT scopes depth p i) counts (set noted i (noteT (openIn scopes depth) number p))
 
 -- notes row i, and answers how many scopes are open behind it
-unfoldable pub rowT : Parts → (i : ℕ) (scopes counts : List (List ℕ)) (noted : List Note) (depth : ℕ) → Went
-rowT p i scopes counts noted depth = onT (countT counts depth p) p i scopes noted depth
+unfoldable pub numberRowT : Parts → (i : ℕ) (scopes counts : List (List ℕ)) (noted : List Note) (depth : ℕ) → Went
+numberRowT p i scopes counts noted depth = onT (countBeforeT counts depth p) p i scopes noted depth
 
 -- ---- as a list: the notes of rows, the first of which is row i, where these scopes are open and these were counted
 
 -- what is noted of rows, from row i on
 unfoldable pub notesT : (i : ℕ) (st cs : List (List ℕ)) → List Parts → List Note
 notesT i st cs [] = []
-notesT i st cs (p ∷ ps) = noteT st (numberT cs p) p ∷ notesT (i + 1) (openT 64 st p i) (countsT 64 cs p) ps
+notesT i st cs (p ∷ ps) = noteT st (numberBeforeT cs p) p ∷ notesT (i + 1) (openOneT 64 st p i) (countsT 64 cs p) ps

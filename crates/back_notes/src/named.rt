@@ -21,7 +21,7 @@ ghost use Rattle.index.specs.Indexed.{Holds};
 ghost use Rattle.claim_scopes.specs.Entries.{entryOf};
 ghost use Rattle.claim_numbers.specs.Enter.{laidBy};
 ghost use Rattle.back_notes.specs.Note.{notedAt};
-ghost use Rattle.back_notes.specs.Names.{keyT, enteredT, slotsT, valueT, nameT, namedT, nameRowT, namedFrom, namesT};
+ghost use Rattle.back_notes.specs.Names.{keyT, enteredT, slotsT, valueT, nameOfT, namedT, nameRowT, namedFrom, namesT};
 
 // ---- entered under numbers
 
@@ -65,7 +65,7 @@ fn key(number: u32) -> u32
 // The name of what an OUTER with this note counts to, 0 where there is nothing.
 fn name_of(p: Parts, n: Note, table: &[Slot], index: &[u16], used: usize) -> u32
     requires { ⌜ Holds (now table) (now index) used ⌝ }
-    ensures { λ r. ⌜ r ≡ nameT (take used (now (table .entry))) p n ⌝ }
+    ensures { λ r. ⌜ r ≡ nameOfT (take used (now (table .entry))) p n ⌝ }
 {
     let scope = n[1] as usize;
     match look_up(table, index, used, scope, p.b, key(p.y)) {

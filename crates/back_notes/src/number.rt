@@ -18,7 +18,7 @@ ghost use lib.Seq.{sets};
 ghost use Rattle.kit.specs.Out.{_&_};
 ghost use Rattle.claim_rows.specs.Left.{rowsAt};
 ghost use Rattle.claim_scopes.specs.Open.{openIn};
-ghost use Rattle.back_notes.specs.Number.{outT, noteT, rowT, notesT};
+ghost use Rattle.back_notes.specs.Number.{outT, noteT, numberRowT, notesT};
 
 // The most scopes that are open one in another, in any version.
 const SCOPES: usize = 64;
@@ -66,7 +66,7 @@ fn number_row(
     noted: &mut [Note],
     depth: usize,
 ) -> usize
-    ensures { λ r. ⌜ (r & now (scopes .exit) & now (counts .exit) & now (noted .exit)) ≡ rowT p i (now (scopes .entry)) (now (counts .entry)) (now (noted .entry)) depth ⌝ }
+    ensures { λ r. ⌜ (r & now (scopes .exit) & now (counts .exit) & now (noted .exit)) ≡ numberRowT p i (now (scopes .entry)) (now (counts .entry)) (now (noted .entry)) depth ⌝ }
 {
     let number = count(counts, depth, p);
     let n = note_of(p, number, scopes, depth);

@@ -13,7 +13,7 @@ use borrow.Author.Tests.{lt-ltb, le-ltb, eq-eqb, ne-eqb, ltb-false, not-true, no
 use Rattle.kit.specs.Pick.{pick}
 use Rattle.kit.specs.Out.{Out, _&_}
 use Rattle.kit.proofs.Laws.{down}
-use Rattle.parts.specs.Apart.{partsAt}
+use Rattle.parts.specs.PartsAt.{partsAt}
 use Rattle.parts.specs.declared.Parts.{Parts}
 use Rattle.rows.specs.declared.row.Index.the-variants.{Number, Name}
 use Rattle.rows.specs.declared.row.Row.{Row}
@@ -21,9 +21,9 @@ use Rattle.rows.specs.declared.row.Row.the-variants.{Ref, Path}
 use Rattle.put.specs.Put.{putRow, copyRow, rowBytes}
 use Rattle.back_notes.specs.Note.{Note, noNote, Noted, rowAt}
 use Rattle.back_rows.specs.Below.{below, nth}
-use Rattle.back_rows.specs.Alias.{noParts, noAliasT, noteOf, madeT, aliasT, forT, linkedT}
-use Rattle.back_rows.specs.Restore.{Wrote, putBytes, putBackT, copyBackT, wroteThen, Rest, rest, restedAt, leaves, beginT, pathT, restoreT}
-use Rattle.back_rows.specs.Write.{fieldT, beforeField, leftOutT, Going, going, cursorAt, startT, goes, goesOn, servedT, refT, rowT, goesThen, backT}
+use Rattle.back_rows.specs.Alias.{noParts, noAliasT, noteOf, aliasOfT, aliasBeforeT, forT, isLinkedT}
+use Rattle.back_rows.specs.Restore.{Wrote, putBytes, putBackT, copyBackT, wroteThen, Rest, rest, restedAt, leaves, beginT, pathT, restoreRefT}
+use Rattle.back_rows.specs.Write.{fieldBeforeT, beforeField, leftOutT, Going, going, cursorAt, startT, goes, goesOn, servedT, backRefT, backRowT, goesThen, writeBackT}
 use Rattle.back_rows.specs.declared.alias.Alias.{Alias}
 use Rattle.back_rows.specs.declared.restore.Restored.{Restored}
 use Rattle.back_rows.specs.declared.write.Cursor.{Cursor}
@@ -74,18 +74,18 @@ module _ (rows : List ℕ) (noted : List Note) (end size value start : ℕ) (t :
   unfolding rowAt
   decl-below = let i = from-end end size start 2 1 refl (omega arith) l s in rw (nth-below rows noted end (size - 2) (within size 2 end (omega arith) (omega arith) l), i, e)
 
-  pub made-other : (d .code ≡ 2 → ⊥) → (a : Alias) → a ≡ noAliasT end → a ≡ madeT size value (below rows noted end)
-  unfolding madeT pick
+  pub made-other : (d .code ≡ 2 → ⊥) → (a : Alias) → a ≡ noAliasT end → a ≡ aliasOfT size value (below rows noted end)
+  unfolding aliasOfT pick
   made-other h a q = rw (decl-below, ne-eqb _ _ h, below-length) q
 
   module _ (h : d .code ≡ 2) where
-    pub made-low : d .x < 2147483648 → (a : Alias) → a ≡ noAliasT end → a ≡ madeT size value (below rows noted end)
-    unfolding madeT pick
+    pub made-low : d .x < 2147483648 → (a : Alias) → a ≡ noAliasT end → a ≡ aliasOfT size value (below rows noted end)
+    unfolding aliasOfT pick
     made-low g a q = rw (decl-below, eq-eqb _ _ h, lt-ltb _ _ g, below-length) q
 
     pub made-is : 2147483648 ≤ d .x → (f : Parts) → f ≡ partsAt rows start → (n : Note) → n ≡ getD noted (start + 1) noNote → (o : Parts) → o ≡ partsAt rows (start + 2)
-        → record { size = size; start = start; field = f; decl = d; number = getD n 0 0; operand = o; value = value } ≡ madeT size value (below rows noted end)
-    unfolding madeT rowAt pick
+        → record { size = size; start = start; field = f; decl = d; number = getD n 0 0; operand = o; value = value } ≡ aliasOfT size value (below rows noted end)
+    unfolding aliasOfT rowAt pick
     made-is g f u n v o w =
         let i = from-end end size start 2 1 refl (omega arith) l s in
         let j = from-end end size start 1 0 refl (omega arith) l s ∙ add-zero start in
@@ -113,25 +113,25 @@ module _ (rows : List ℕ) (noted : List Note) (end size value start : ℕ) (t :
 pub ruleset making = (made-other, made-low, made-is, needs)
 
 module _ (rows : List ℕ) (noted : List Note) (end : ℕ) (a : Alias) where
-  pub before-short : end < 4 → a ≡ noAliasT end → a ≡ aliasT (below rows noted end)
-  unfolding aliasT pick
+  pub before-short : end < 4 → a ≡ noAliasT end → a ≡ aliasBeforeT (below rows noted end)
+  unfolding aliasBeforeT pick
   before-short h q = rw (below-length rows noted end, lt-ltb _ _ h) q
 
   module _ (h : 4 ≤ end) (p : Parts) (e : p ≡ partsAt rows (end - 1)) where
     last-below : nth (below rows noted end) 0 ≡ rowAt rows noted (end - 1)
     last-below = let i : end - 1 - 0 ≡ end - 1 = omega arith in rw (nth-below rows noted end 0 (omega arith), i)
 
-    pub before-export : p .code ≡ 9 → a ≡ madeT 4 (p .x) (below rows noted end) → a ≡ aliasT (below rows noted end)
-    unfolding aliasT rowAt pick
+    pub before-export : p .code ≡ 9 → a ≡ aliasOfT 4 (p .x) (below rows noted end) → a ≡ aliasBeforeT (below rows noted end)
+    unfolding aliasBeforeT rowAt pick
     before-export g q = rw (below-length rows noted end, le-ltb _ _ h, last-below, ← e, eq-eqb _ _ g) q
 
     module _ (g : p .code ≡ 9 → ⊥) where
-      pub before-outer : p .code ≡ 5 → (n : Note) → n ≡ getD noted (end - 1) noNote → a ≡ madeT 3 (getD n 0 0) (below rows noted end) → a ≡ aliasT (below rows noted end)
-      unfolding aliasT rowAt pick
+      pub before-outer : p .code ≡ 5 → (n : Note) → n ≡ getD noted (end - 1) noNote → a ≡ aliasOfT 3 (getD n 0 0) (below rows noted end) → a ≡ aliasBeforeT (below rows noted end)
+      unfolding aliasBeforeT rowAt pick
       before-outer k n m q = rw (below-length rows noted end, le-ltb _ _ h, last-below, ← e, ne-eqb _ _ g, eq-eqb _ _ k, ← m) q
 
-      pub before-other : (p .code ≡ 5 → ⊥) → a ≡ noAliasT end → a ≡ aliasT (below rows noted end)
-      unfolding aliasT rowAt pick
+      pub before-other : (p .code ≡ 5 → ⊥) → a ≡ noAliasT end → a ≡ aliasBeforeT (below rows noted end)
+      unfolding aliasBeforeT rowAt pick
       before-other k q = rw (below-length rows noted end, le-ltb _ _ h, last-below, ← e, ne-eqb _ _ g, ne-eqb _ _ k) q
 
 pub ruleset seeing = (before-short, before-export, before-outer, before-other, needs)
@@ -149,12 +149,12 @@ ends-pick end false a b p q = q
 none-ends : (end : ℕ) → Ends end (noAliasT end)
 none-ends end = omega arith
 
-made-ends : (size value : ℕ) (l : List Noted) → Ends (length l) (madeT size value l)
-unfolding madeT
+made-ends : (size value : ℕ) (l : List Noted) → Ends (length l) (aliasOfT size value l)
+unfolding aliasOfT
 made-ends size value l = ends-pick (length l) _ _ _ (ends-pick (length l) _ _ _ (none-ends (length l)) refl) (none-ends (length l))
 
-alias-ends : (l : List Noted) → Ends (length l) (aliasT l)
-unfolding aliasT
+alias-ends : (l : List Noted) → Ends (length l) (aliasBeforeT l)
+unfolding aliasBeforeT
 alias-ends l =
     ends-pick (length l) _ _ _ (none-ends (length l))
     (ends-pick (length l) _ _ _ (made-ends 4 _ l) (ends-pick (length l) _ _ _ (made-ends 3 _ l) (none-ends (length l))))
@@ -170,16 +170,16 @@ small-pick end false a b p q = q
 none-small : (end : ℕ) → Small end (noAliasT end)
 none-small end = omega arith
 
-made-small : (size value : ℕ) (l : List Noted) → size ≤ length l → Small (length l) (madeT size value l)
-unfolding madeT
+made-small : (size value : ℕ) (l : List Noted) → size ≤ length l → Small (length l) (aliasOfT size value l)
+unfolding aliasOfT
 made-small size value l h = small-pick (length l) _ _ _ (small-pick (length l) _ _ _ (none-small (length l)) h) (none-small (length l))
 
-alias-small : (l : List Noted) → Small (length l) (aliasT l)
-unfolding aliasT pick
+alias-small : (l : List Noted) → Small (length l) (aliasBeforeT l)
+unfolding aliasBeforeT pick
 alias-small l = go (ltb (length l) 4) refl
   where
     go : (t : Bool) → ltb (length l) 4 ≡ t
-        → Small (length l) (pick t (noAliasT (length l)) (pick (eqb (nth l 0 .parts .code) 9) (madeT 4 (nth l 0 .parts .x) l) (pick (eqb (nth l 0 .parts .code) 5) (madeT 3 (noteOf (nth l 0)) l) (noAliasT (length l)))))
+        → Small (length l) (pick t (noAliasT (length l)) (pick (eqb (nth l 0 .parts .code) 9) (aliasOfT 4 (nth l 0 .parts .x) l) (pick (eqb (nth l 0 .parts .code) 5) (aliasOfT 3 (noteOf (nth l 0)) l) (noAliasT (length l)))))
     go true e = none-small (length l)
     go false e =
         let h : 4 ≤ length l = ltb-false (length l) 4 e in
@@ -187,13 +187,13 @@ alias-small l = go (ltb (length l) 4) refl
         small-pick (length l) (eqb (nth l 0 .parts .code) 9) _ _ (made-small 4 (nth l 0 .parts .x) l h)
         (small-pick (length l) (eqb (nth l 0 .parts .code) 5) _ _ (made-small 3 (noteOf (nth l 0)) l three) (none-small (length l)))
 
-pub rest-below : (rows : List ℕ) (noted : List Note) (end : ℕ) (a : Alias) → a ≡ aliasT (below rows noted end) → below rows noted (a .start) ≡ drop (a .size) (below rows noted end)
+pub rest-below : (rows : List ℕ) (noted : List Note) (end : ℕ) (a : Alias) → a ≡ aliasBeforeT (below rows noted end) → below rows noted (a .start) ≡ drop (a .size) (below rows noted end)
 rest-below rows noted end a e =
     let n = below-length rows noted end in
     let s = alias-ends (below rows noted end) in
     let t = alias-small (below rows noted end) in
     let i : a .start ≡ end - a .size = rw e (s ∙ rw n) in
-    let z : a .size ≡ aliasT (below rows noted end) .size = ap (λ (x : Alias). x .size) e in
+    let z : a .size ≡ aliasBeforeT (below rows noted end) .size = ap (λ (x : Alias). x .size) e in
     let j : a .size ≤ end = omega (arith, t, n, z) in
     rw i (sym (below-drop rows noted end (a .size) j))
 
@@ -230,48 +230,48 @@ module _ (rows : List ℕ) (noted : List Note) (last first : Alias) (count at : 
   unfolding pathT leaves
   path-ends h e = let z : turns ≡ 0 = omega arith in rw (z, ← e) at inv
 
-  module _ (h : 0 < turns) (a : Alias) (q : a ≡ aliasT (below rows noted (first .start))) (b : Bool) (l : b ≡ linkedT a first) where
+  module _ (h : 0 < turns) (a : Alias) (q : a ≡ aliasBeforeT (below rows noted (first .start))) (b : Bool) (l : b ≡ isLinkedT a first) where
     pub path-stops : not b ≡ true → (r & out′) ≡ beginT last first count at out → (rest r (below rows noted (first .start)) & out′) ≡ T
     unfolding pathT leaves pick
     path-stops g e =
-        let f : linkedT (aliasT (below rows noted (first .start))) first ≡ false = rw (← q) (sym l ∙ not-true b g) in
+        let f : isLinkedT (aliasBeforeT (below rows noted (first .start))) first ≡ false = rw (← q) (sym l ∙ not-true b g) in
         rw (down turns h, f, ← e) at inv
 
     pub path-goes : not b ≡ false → (r & out′) ≡ putBackT (Path (a .value)) at out → (count′ : ℕ) → count′ ≡ (count + 1) % 4294967296 → pathT (turns - 1) last a (below rows noted (a .start)) count′ r out′ ≡ T
     unfolding pathT wroteThen pick
     path-goes g e count′ k =
-        let f : linkedT (aliasT (below rows noted (first .start))) first ≡ true = rw (← q) (sym l ∙ not-false b g) in
+        let f : isLinkedT (aliasBeforeT (below rows noted (first .start))) first ≡ true = rw (← q) (sym l ∙ not-false b g) in
         rw (rest-below rows noted (first .start) a q, k) (rw (down turns h, f, ← q, ← e) at inv)
 
 pub ruleset pathing = (path-ends, path-stops, path-goes, needs)
 
 module _ (rows : List ℕ) (noted : List Note) (a : Alias) (to : ℕ) (out : List ℕ) where
   pub restores-name : a .operand .code ≡ 5 → (r : ℕ) (out′ : List ℕ) → (r & out′) ≡ putBackT (Ref (a .operand .b) (Name (a .value)) 0 (a .operand .z)) to out
-      → (rest r (below rows noted (a .start)) & out′) ≡ restoreT a (below rows noted (a .start)) to out
-  unfolding restoreT leaves pick
+      → (rest r (below rows noted (a .start)) & out′) ≡ restoreRefT a (below rows noted (a .start)) to out
+  unfolding restoreRefT leaves pick
   restores-name h r out′ e = rw (eq-eqb _ _ h, ← e)
 
   pub restores-path : (a .operand .code ≡ 5 → ⊥) → (r : ℕ) (out′ : List ℕ) → (r & out′) ≡ putBackT (Path (a .value)) to out → (R : Rest) (out″ : List ℕ)
-      → (R & out″) ≡ pathT (a .start) a a (below rows noted (a .start)) 1 r out′ → (R & out″) ≡ restoreT a (below rows noted (a .start)) to out
-  unfolding restoreT wroteThen pick
+      → (R & out″) ≡ pathT (a .start) a a (below rows noted (a .start)) 1 r out′ → (R & out″) ≡ restoreRefT a (below rows noted (a .start)) to out
+  unfolding restoreRefT wroteThen pick
   restores-path h r out′ e R out″ f = rw (ne-eqb _ _ h, ← e) f
 
 pub ruleset restoring = (restores-name, restores-path, needs)
 
 -- ---- field_before, left_for, left_out
 
-module _ (rows : List ℕ) (k T : ℕ) (inv : fieldT rows k ≡ T) where
+module _ (rows : List ℕ) (k T : ℕ) (inv : fieldBeforeT rows k ≡ T) where
   pub field-none : k ≤ 0 → 0 ≡ T
-  unfolding fieldT
+  unfolding fieldBeforeT
   field-none h = let z : k ≡ 0 = omega arith in rw z at inv
 
   module _ (h : 0 < k) (p : Parts) (e : p ≡ partsAt rows (k - 1)) where
     pub field-found : p .code ≡ 1 → k - 1 ≡ T
-    unfolding fieldT pick
+    unfolding fieldBeforeT pick
     field-found g = rw (down k h, ← e, eq-eqb _ _ g) at inv
 
-    pub field-turn : (p .code ≡ 1 → ⊥) → fieldT rows (k - 1) ≡ T
-    unfolding fieldT pick
+    pub field-turn : (p .code ≡ 1 → ⊥) → fieldBeforeT rows (k - 1) ≡ T
+    unfolding fieldBeforeT pick
     field-turn g = rw (down k h, ← e, ne-eqb _ _ g) at inv
 
 pub ruleset fielding = (field-none, field-found, field-turn, needs)
@@ -284,16 +284,16 @@ pub left-first : (inside : Bool) (next f r : ℕ) → inside ≡ false → r ≡
 unfolding pick
 left-first inside next f r h e = rw h e
 
-field-below : (rows : List ℕ) (noted : List Note) (i : ℕ) → below rows noted (fieldT rows i) ≡ beforeField (below rows noted i)
-unfolding below fieldT beforeField rowAt pick
+field-below : (rows : List ℕ) (noted : List Note) (i : ℕ) → below rows noted (fieldBeforeT rows i) ≡ beforeField (below rows noted i)
+unfolding below fieldBeforeT beforeField rowAt pick
 field-below rows noted zero = refl
 field-below rows noted (suc k) = go (eqb (partsAt rows k .code) 1) (field-below rows noted k)
   where
-    go : (t : Bool) → below rows noted (fieldT rows k) ≡ beforeField (below rows noted k) → below rows noted (pick t k (fieldT rows k)) ≡ pick t (below rows noted k) (beforeField (below rows noted k))
+    go : (t : Bool) → below rows noted (fieldBeforeT rows k) ≡ beforeField (below rows noted k) → below rows noted (pick t k (fieldBeforeT rows k)) ≡ pick t (below rows noted k) (beforeField (below rows noted k))
     go true e = refl
     go false e = e
 
-left-below : (rows : List ℕ) (noted : List Note) (i next : ℕ) (inside : Bool) → below rows noted (pick inside next (fieldT rows i)) ≡ pick inside (below rows noted next) (beforeField (below rows noted i))
+left-below : (rows : List ℕ) (noted : List Note) (i next : ℕ) (inside : Bool) → below rows noted (pick inside next (fieldBeforeT rows i)) ≡ pick inside (below rows noted next) (beforeField (below rows noted i))
 unfolding pick
 left-below rows noted i next true = refl
 left-below rows noted i next false = field-below rows noted i
@@ -302,7 +302,7 @@ pub out-skip : (skip : ℕ) (l : List Noted) → 0 < skip → skip ≡ leftOutT 
 unfolding leftOutT pick
 out-skip skip l h = rw (lt-ltb _ _ h)
 
-pub out-alias : (skip : ℕ) (l : List Noted) → skip ≤ 0 → (a : Alias) → a ≡ aliasT l → a .size ≡ leftOutT skip l
+pub out-alias : (skip : ℕ) (l : List Noted) → skip ≤ 0 → (a : Alias) → a ≡ aliasBeforeT l → a .size ≡ leftOutT skip l
 unfolding leftOutT pick
 out-alias skip l h a e = rw (le-ltb _ _ h, e)
 
@@ -315,23 +315,23 @@ unfolding rowAt
 parts-are rows noted i p k = sym k
 
 module _ (rows : List ℕ) (noted : List Note) (i : ℕ) (p : Parts) (out : List ℕ) (c : Cursor) (k : p ≡ partsAt rows i)
-    (next : ℕ) (n : next ≡ pick (c .inside) (c .next) (fieldT rows i)) (a : Alias) (q : a ≡ aliasT (below rows noted next)) (b : Bool) (f : b ≡ forT a p) where
+    (next : ℕ) (n : next ≡ pick (c .inside) (c .next) (fieldBeforeT rows i)) (a : Alias) (q : a ≡ aliasBeforeT (below rows noted next)) (b : Bool) (f : b ≡ forT a p) where
   same-parts : rowAt rows noted i .parts ≡ p
   same-parts = parts-are rows noted i p k
 
   list : below rows noted next ≡ pick (c .inside) (below rows noted (c .next)) (beforeField (below rows noted i))
   list = rw n (left-below rows noted i (c .next) (c .inside))
 
-  pub ref-restored : b ≡ true → (r : Restored) (out′ : List ℕ) → (restedAt rows noted r & out′) ≡ restoreT a (below rows noted (a .start)) (c .to) out
-      → (going 0 true (below rows noted (r .next)) (r .to) & out′) ≡ refT (rowAt rows noted i) (below rows noted i) (cursorAt rows noted c) out
-  unfolding refT servedT goes pick
+  pub ref-restored : b ≡ true → (r : Restored) (out′ : List ℕ) → (restedAt rows noted r & out′) ≡ restoreRefT a (below rows noted (a .start)) (c .to) out
+      → (going 0 true (below rows noted (r .next)) (r .to) & out′) ≡ backRefT (rowAt rows noted i) (below rows noted i) (cursorAt rows noted c) out
+  unfolding backRefT servedT goes pick
   ref-restored t r out′ e = rw (← list, ← q, same-parts, ← f, t, ← rest-below rows noted next a q, ← e)
 
   pub ref-stays : b ≡ false → (r : ℕ) (out′ : List ℕ) → (r & out′) ≡ putBytes (take 16 (drop (16 * i) rows)) (c .to) out
-      → (going 0 true (below rows noted next) r & out′) ≡ refT (rowAt rows noted i) (below rows noted i) (cursorAt rows noted c) out
-  unfolding refT servedT goesOn pick
+      → (going 0 true (below rows noted next) r & out′) ≡ backRefT (rowAt rows noted i) (below rows noted i) (cursorAt rows noted c) out
+  unfolding backRefT servedT goesOn pick
   ref-stays t r out′ e =
-      let is : forT (aliasT (below rows noted next)) (rowAt rows noted i .parts) ≡ false = rw (← q, same-parts, ← f) t in
+      let is : forT (aliasBeforeT (below rows noted next)) (rowAt rows noted i .parts) ≡ false = rw (← q, same-parts, ← f) t in
       let copied : putBytes (rowAt rows noted i .bytes) (c .to) out ≡ (r & out′) = unfold rowAt in sym e in
       rw (← list, is, copied)
 
@@ -341,36 +341,36 @@ module _ (rows : List ℕ) (noted : List Note) (i : ℕ) (out : List ℕ) (c : C
   here : skip ≡ leftOutT (c .skip) (rowAt rows noted i ∷ below rows noted i)
   here = let e : i + 1 - 1 ≡ i = omega arith in rw (below-there rows noted (i + 1) (omega arith), e) at s
 
-  pub row-skipped : 0 < skip → (going (skip - 1) (c .inside) (below rows noted (c .next)) (c .to) & out) ≡ rowT (rowAt rows noted i) (below rows noted i) (cursorAt rows noted c) out
-  unfolding rowT pick
+  pub row-skipped : 0 < skip → (going (skip - 1) (c .inside) (below rows noted (c .next)) (c .to) & out) ≡ backRowT (rowAt rows noted i) (below rows noted i) (cursorAt rows noted c) out
+  unfolding backRowT pick
   row-skipped h = rw (← here, lt-ltb _ _ h)
 
   module _ (h : skip ≤ 0) (p : Parts) (k : p ≡ partsAt rows i) where
-    pub row-referred : p .code ≡ 3 → (C : Going) (out′ : List ℕ) → (C & out′) ≡ refT (rowAt rows noted i) (below rows noted i) (cursorAt rows noted c) out
-        → (C & out′) ≡ rowT (rowAt rows noted i) (below rows noted i) (cursorAt rows noted c) out
-    unfolding rowT pick
+    pub row-referred : p .code ≡ 3 → (C : Going) (out′ : List ℕ) → (C & out′) ≡ backRefT (rowAt rows noted i) (below rows noted i) (cursorAt rows noted c) out
+        → (C & out′) ≡ backRowT (rowAt rows noted i) (below rows noted i) (cursorAt rows noted c) out
+    unfolding backRowT pick
     row-referred g C out′ e =
         let is : eqb (rowAt rows noted i .parts .code) 3 ≡ true = rw (parts-are rows noted i p k) (eq-eqb _ _ g) in
         rw (← here, le-ltb _ _ h, is) e
 
     pub row-copied : (p .code ≡ 3 → ⊥) → (r : ℕ) (out′ : List ℕ) → (r & out′) ≡ putBytes (take 16 (drop (16 * i) rows)) (c .to) out
-        → (going 0 (c .inside && not (eqb (p .code) 1)) (below rows noted (c .next)) r & out′) ≡ rowT (rowAt rows noted i) (below rows noted i) (cursorAt rows noted c) out
-    unfolding rowT goesOn rowAt pick
+        → (going 0 (c .inside && not (eqb (p .code) 1)) (below rows noted (c .next)) r & out′) ≡ backRowT (rowAt rows noted i) (below rows noted i) (cursorAt rows noted c) out
+    unfolding backRowT goesOn rowAt pick
     row-copied g r out′ e = rw (← here, le-ltb _ _ h, ← k, ne-eqb _ _ g, ← e)
 
 pub ruleset rowing = (row-skipped, row-referred, row-copied, needs)
 
-module _ (rows : List ℕ) (noted : List Note) (i : ℕ) (out : List ℕ) (c : Cursor) (T : Wrote) (inv : backT (below rows noted i) (cursorAt rows noted c) out ≡ T) where
+module _ (rows : List ℕ) (noted : List Note) (i : ℕ) (out : List ℕ) (c : Cursor) (T : Wrote) (inv : writeBackT (below rows noted i) (cursorAt rows noted c) out ≡ T) where
   pub back-ends : i ≤ 0 → (c .to & out) ≡ T
-  unfolding backT below
+  unfolding writeBackT below
   back-ends h = let z : i ≡ 0 = omega arith in rw z at inv
 
-  pub back-goes : 0 < i → (c′ : Cursor) (out′ : List ℕ) → (cursorAt rows noted c′ & out′) ≡ rowT (rowAt rows noted (i - 1)) (below rows noted (i - 1)) (cursorAt rows noted c) out
-      → backT (below rows noted (i - 1)) (cursorAt rows noted c′) out′ ≡ T
-  unfolding backT goesThen
+  pub back-goes : 0 < i → (c′ : Cursor) (out′ : List ℕ) → (cursorAt rows noted c′ & out′) ≡ backRowT (rowAt rows noted (i - 1)) (below rows noted (i - 1)) (cursorAt rows noted c) out
+      → writeBackT (below rows noted (i - 1)) (cursorAt rows noted c′) out′ ≡ T
+  unfolding writeBackT goesThen
   back-goes h c′ out′ e = rw (below-there rows noted i h, ← e) at inv
 
-pub back-starts : (rows : List ℕ) (noted : List Note) (to i : ℕ) (out : List ℕ) → backT (below rows noted i) (cursorAt rows noted (record { skip = 0; inside = false; next = 0; to = to })) out ≡ backT (below rows noted i) (startT to) out
+pub back-starts : (rows : List ℕ) (noted : List Note) (to i : ℕ) (out : List ℕ) → writeBackT (below rows noted i) (cursorAt rows noted (record { skip = 0; inside = false; next = 0; to = to })) out ≡ writeBackT (below rows noted i) (startT to) out
 unfolding below
 back-starts rows noted to i out = refl
 

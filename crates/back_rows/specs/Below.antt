@@ -2,7 +2,7 @@
 use mathlib.Core.List.{List, [], _∷_}
 use Prim.Native.Nat.{ℕ, zero, suc}
 use lib.ListN.{getD}
-use Rattle.parts.specs.Apart.{parts}
+use Rattle.parts.specs.PartsAt.{parts}
 use Rattle.back_notes.specs.Note.{Note, noNote, Noted, rowAt}
 
 -- those before row i

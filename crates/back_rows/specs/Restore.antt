@@ -12,7 +12,7 @@ use Rattle.rows.specs.declared.row.Row.the-variants.{Ref, Path}
 use Rattle.put.specs.Put.{rowBytes}
 use Rattle.back_notes.specs.Note.{Note, Noted}
 use Rattle.back_rows.specs.Below.{below}
-use Rattle.back_rows.specs.Alias.{aliasT, linkedT}
+use Rattle.back_rows.specs.Alias.{aliasBeforeT, isLinkedT}
 use Rattle.back_rows.specs.declared.alias.Alias.{Alias}
 use Rattle.back_rows.specs.declared.restore.Restored.{Restored}
 
@@ -59,12 +59,12 @@ beginT last first count to out = putBackT (Ref (last .decl .b) (Number (first .o
 unfoldable pub pathT : (turns : ℕ) (last first : Alias) → List Noted → (count to : ℕ) (out : List ℕ) → Out Rest (List ℕ)
 pathT zero last first l count to out = leaves (beginT last first count to out) l
 pathT (suc turns) last first l count to out =
-    pick (linkedT (aliasT l) first)
-    (wroteThen (putBackT (Path (aliasT l .value)) to out) λ to′ out′. pathT turns last (aliasT l) (drop (aliasT l .size) l) ((count + 1) % 4294967296) to′ out′)
+    pick (isLinkedT (aliasBeforeT l) first)
+    (wroteThen (putBackT (Path (aliasBeforeT l .value)) to out) λ to′ out′. pathT turns last (aliasBeforeT l) (drop (aliasBeforeT l .size) l) ((count + 1) % 4294967296) to′ out′)
     (leaves (beginT last first count to out) l)
 
 -- a name further out, or a path; these rows stand before the alias
-unfoldable pub restoreT : Alias → List Noted → (to : ℕ) (out : List ℕ) → Out Rest (List ℕ)
-restoreT a l to out =
+unfoldable pub restoreRefT : Alias → List Noted → (to : ℕ) (out : List ℕ) → Out Rest (List ℕ)
+restoreRefT a l to out =
     pick (eqb (a .operand .code) 5) (leaves (putBackT (Ref (a .operand .b) (Name (a .value)) 0 (a .operand .z)) to out) l)
     (wroteThen (putBackT (Path (a .value)) to out) λ to′ out′. pathT (a .start) a a l 1 to′ out′)

@@ -6,17 +6,17 @@ use lib.Dec.{eqb, ltb}
 use lib.ListN.{drop}
 use Rattle.kit.specs.Pick.{pick}
 use Rattle.kit.specs.Out.{Out, _&_}
-use Rattle.parts.specs.Apart.{partsAt}
+use Rattle.parts.specs.PartsAt.{partsAt}
 use Rattle.back_notes.specs.Note.{Note, Noted}
 use Rattle.back_rows.specs.Below.{below}
-use Rattle.back_rows.specs.Alias.{aliasT, forT}
-use Rattle.back_rows.specs.Restore.{Wrote, copyBackT, wroteThen, Rest, restoreT}
+use Rattle.back_rows.specs.Alias.{aliasBeforeT, forT}
+use Rattle.back_rows.specs.Restore.{Wrote, copyBackT, wroteThen, Rest, restoreRefT}
 use Rattle.back_rows.specs.declared.write.Cursor.{Cursor}
 
 -- the FIELD that is next before row i
-unfoldable pub fieldT : (rows : List ℕ) (i : ℕ) → ℕ
-fieldT rows zero = 0
-fieldT rows (suc k) = pick (eqb (partsAt rows k .code) 1) k (fieldT rows k)
+unfoldable pub fieldBeforeT : (rows : List ℕ) (i : ℕ) → ℕ
+fieldBeforeT rows zero = 0
+fieldBeforeT rows (suc k) = pick (eqb (partsAt rows k .code) 1) k (fieldBeforeT rows k)
 
 -- the rows before it
 unfoldable pub beforeField : List Noted → List Noted
@@ -25,7 +25,7 @@ beforeField (r ∷ rs) = pick (eqb (r .parts .code) 1) rs (beforeField rs)
 
 -- how many rows are to be left out
 unfoldable pub leftOutT : (skip : ℕ) → List Noted → ℕ
-leftOutT skip l = pick (ltb 0 skip) skip (aliasT l .size)
+leftOutT skip l = pick (ltb 0 skip) skip (aliasBeforeT l .size)
 
 -- ---- where the rows are gone through; `left` are the rows whose inserted fields may serve the next reference
 
@@ -57,24 +57,24 @@ goesOn inside l (to & out) = going 0 inside l to & out
 -- a reference, where these rows have the inserted fields that may serve it
 unfoldable pub servedT : Noted → List Noted → (to : ℕ) (out : List ℕ) → Out Going (List ℕ)
 servedT r l to out =
-    pick (forT (aliasT l) (r .parts)) (goes (restoreT (aliasT l) (drop (aliasT l .size) l) to out))
+    pick (forT (aliasBeforeT l) (r .parts)) (goes (restoreRefT (aliasBeforeT l) (drop (aliasBeforeT l .size) l) to out))
     (goesOn true l (copyBackT r to out))
 
 -- a reference, which is row i: as it was before the inserted fields that served it, or as it is
-unfoldable pub refT : Noted → List Noted → Going → (out : List ℕ) → Out Going (List ℕ)
-refT r rs c out = servedT r (pick (c .inside) (c .left) (beforeField rs)) (c .to) out
+unfoldable pub backRefT : Noted → List Noted → Going → (out : List ℕ) → Out Going (List ℕ)
+backRefT r rs c out = servedT r (pick (c .inside) (c .left) (beforeField rs)) (c .to) out
 
 -- a row: left out with an inserted field, restored where it is a reference, else written as it is
-unfoldable pub rowT : Noted → List Noted → Going → (out : List ℕ) → Out Going (List ℕ)
-rowT r rs c out =
+unfoldable pub backRowT : Noted → List Noted → Going → (out : List ℕ) → Out Going (List ℕ)
+backRowT r rs c out =
     pick (ltb 0 (leftOutT (c .skip) (r ∷ rs))) (going (leftOutT (c .skip) (r ∷ rs) - 1) (c .inside) (c .left) (c .to) & out)
-    (pick (eqb (r .parts .code) 3) (refT r rs c out)
+    (pick (eqb (r .parts .code) 3) (backRefT r rs c out)
     (goesOn (c .inside && not (eqb (r .parts .code) 1)) (c .left) (copyBackT r (c .to) out)))
 
 unfoldable pub goesThen : {A : Type 0} → Out Going (List ℕ) → (Going → List ℕ → A) → A
 goesThen (c & out) f = f c out
 
 -- writes the rows of the input to the end of `out`, and answers the row at which they begin there
-unfoldable pub backT : List Noted → Going → (out : List ℕ) → Wrote
-backT [] c out = c .to & out
-backT (r ∷ rs) c out = goesThen (rowT r rs c out) λ c′ out′. backT rs c′ out′
+unfoldable pub writeBackT : List Noted → Going → (out : List ℕ) → Wrote
+writeBackT [] c out = c .to & out
+writeBackT (r ∷ rs) c out = goesThen (backRowT r rs c out) λ c′ out′. writeBackT rs c′ out′

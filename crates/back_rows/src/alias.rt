@@ -10,7 +10,7 @@ use rows::row::OUTER;
 ghost use mathlib.Core.Path.{_≡_};
 ghost use Prim.Native.Nat.{_≤_};
 ghost use Rattle.back_rows.specs.Below.{below};
-ghost use Rattle.back_rows.specs.Alias.{noParts, noAliasT, madeT, aliasT, forT, linkedT};
+ghost use Rattle.back_rows.specs.Alias.{noParts, noAliasT, aliasOfT, aliasBeforeT, forT, isLinkedT};
 
 // The code of a field that is an alias of an instance's export.
 const OF_EXPORT: u8 = 9;
@@ -63,7 +63,7 @@ fn no_alias(end: usize) -> Alias
 // The inserted field of this many rows that end before the row `end`.
 fn alias_of(rows: &[u8], noted: &[Note], end: usize, size: usize, value: u32) -> Alias
     requires { ⌜ (3 ≤ size) × (size ≤ end) ⌝ }
-    ensures { λ r. ⌜ r ≡ madeT size value (below (now (rows .entry)) (now (noted .entry)) end) ⌝ }
+    ensures { λ r. ⌜ r ≡ aliasOfT size value (below (now (rows .entry)) (now (noted .entry)) end) ⌝ }
 {
     let start = end - size;
     let decl = parts_at(rows, start + 1);
@@ -87,7 +87,7 @@ fn alias_of(rows: &[u8], noted: &[Note], end: usize, size: usize, value: u32) ->
 // The inserted field that ends before the row `end`. An alias of an export has four rows, the last an EXPORT; one of an outer
 // item has three, the last an OUTER.
 pub(crate) fn alias_before(rows: &[u8], noted: &[Note], end: usize) -> Alias
-    ensures { λ r. ⌜ r ≡ aliasT (below (now (rows .entry)) (now (noted .entry)) end) ⌝ }
+    ensures { λ r. ⌜ r ≡ aliasBeforeT (below (now (rows .entry)) (now (noted .entry)) end) ⌝ }
 {
     if end < 4 {
         return no_alias(end);
@@ -111,7 +111,7 @@ pub(crate) fn is_for(a: Alias, p: Parts) -> bool
 
 // Whether b goes on with the path of a: both are aliases of exports of instances, at the same place, and b's instance is a.
 pub(crate) fn is_linked(a: Alias, b: Alias) -> bool
-    ensures { λ r. ⌜ r ≡ linkedT a b ⌝ }
+    ensures { λ r. ⌜ r ≡ isLinkedT a b ⌝ }
 {
     (a.size != 0)
         & ((a.field.b == OF_EXPORT)

@@ -14,7 +14,7 @@ ghost use Prim.Native.Nat.{_*_, _/_, _<_};
 ghost use lib.ListN.{length, take, drop};
 ghost use Rattle.kit.specs.Out.{_&_};
 ghost use Rattle.back_rows.specs.Below.{below};
-ghost use Rattle.back_rows.specs.Restore.{putBytes, putBackT, restedAt, beginT, pathT, restoreT};
+ghost use Rattle.back_rows.specs.Restore.{putBytes, putBackT, restedAt, beginT, pathT, restoreRefT};
 
 // Writes a row before those that begin at `to`, and answers where they begin then; where there is no room, nothing is written.
 fn put_back(out: &mut [u8], to: usize, row: Row) -> usize
@@ -90,7 +90,7 @@ fn restore_path(rows: &[u8], noted: &[Note], last: Alias, out: &mut [u8], to: us
 
 // The reference that the alias served: a name further out, or a path.
 pub(crate) fn restore(rows: &[u8], noted: &[Note], a: Alias, out: &mut [u8], to: usize) -> Restored
-    ensures { λ r. ⌜ (restedAt (now (rows .entry)) (now (noted .entry)) r & now (out .exit)) ≡ restoreT a (below (now (rows .entry)) (now (noted .entry)) (a .start)) to (now (out .entry)) ⌝ }
+    ensures { λ r. ⌜ (restedAt (now (rows .entry)) (now (noted .entry)) r & now (out .exit)) ≡ restoreRefT a (below (now (rows .entry)) (now (noted .entry)) (a .start)) to (now (out .entry)) ⌝ }
 {
     if a.operand.code == OUTER {
         return Restored {

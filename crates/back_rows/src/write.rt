@@ -15,10 +15,10 @@ ghost use Prim.Native.Nat.{_+_, _/_, _<_};
 ghost use lib.ListN.{length};
 ghost use Rattle.kit.specs.Pick.{pick};
 ghost use Rattle.kit.specs.Out.{_&_};
-ghost use Rattle.parts.specs.Apart.{partsAt};
+ghost use Rattle.parts.specs.PartsAt.{partsAt};
 ghost use Rattle.back_notes.specs.Note.{rowAt};
 ghost use Rattle.back_rows.specs.Below.{below};
-ghost use Rattle.back_rows.specs.Write.{fieldT, leftOutT, cursorAt, startT, refT, rowT, backT};
+ghost use Rattle.back_rows.specs.Write.{fieldBeforeT, leftOutT, cursorAt, startT, backRefT, backRowT, writeBackT};
 
 // Where the rows are gone through: how many rows of an inserted field are still to be left out; the row behind the inserted fields
 // that may serve the next reference, if a reference of the field was met; where the rows that were written begin.
@@ -31,7 +31,7 @@ pub struct Cursor {
 
 // The FIELD that is next before row i.
 fn field_before(rows: &[u8], i: usize) -> usize
-    ensures { λ r. ⌜ r ≡ fieldT (now (rows .entry)) i ⌝ }
+    ensures { λ r. ⌜ r ≡ fieldBeforeT (now (rows .entry)) i ⌝ }
 {
     let mut k = i;
     while 0 < k {
@@ -45,7 +45,7 @@ fn field_before(rows: &[u8], i: usize) -> usize
 
 // The row behind the inserted fields that may serve the reference in row i: it is `next`, if one of its field was met before.
 fn left_for(rows: &[u8], i: usize, inside: bool, next: usize) -> usize
-    ensures { λ r. ⌜ r ≡ pick inside next (fieldT (now (rows .entry)) i) ⌝ }
+    ensures { λ r. ⌜ r ≡ pick inside next (fieldBeforeT (now (rows .entry)) i) ⌝ }
 {
     if inside { next } else { field_before(rows, i) }
 }
@@ -63,7 +63,7 @@ fn left_out(rows: &[u8], noted: &[Note], end: usize, skip: usize) -> usize
 // A reference, which is row i: as it was before the inserted fields that served it, or as it is.
 fn back_ref(rows: &[u8], noted: &[Note], i: usize, p: Parts, out: &mut [u8], c: Cursor) -> Cursor
     requires { ⌜ (i < length (now rows) / 16) × (p ≡ partsAt (now rows) i) ⌝ }
-    ensures { λ r. ⌜ (cursorAt (now (rows .entry)) (now (noted .entry)) r & now (out .exit)) ≡ refT (rowAt (now (rows .entry)) (now (noted .entry)) i) (below (now (rows .entry)) (now (noted .entry)) i) (cursorAt (now (rows .entry)) (now (noted .entry)) c) (now (out .entry)) ⌝ }
+    ensures { λ r. ⌜ (cursorAt (now (rows .entry)) (now (noted .entry)) r & now (out .exit)) ≡ backRefT (rowAt (now (rows .entry)) (now (noted .entry)) i) (below (now (rows .entry)) (now (noted .entry)) i) (cursorAt (now (rows .entry)) (now (noted .entry)) c) (now (out .entry)) ⌝ }
 {
     let next = left_for(rows, i, c.inside, c.next);
     let a = alias_before(rows, noted, next);
@@ -87,7 +87,7 @@ fn back_ref(rows: &[u8], noted: &[Note], i: usize, p: Parts, out: &mut [u8], c: 
 // Row i.
 fn back_row(rows: &[u8], noted: &[Note], i: usize, out: &mut [u8], c: Cursor) -> Cursor
     requires { ⌜ i < length (now rows) / 16 ⌝ }
-    ensures { λ r. ⌜ (cursorAt (now (rows .entry)) (now (noted .entry)) r & now (out .exit)) ≡ rowT (rowAt (now (rows .entry)) (now (noted .entry)) i) (below (now (rows .entry)) (now (noted .entry)) i) (cursorAt (now (rows .entry)) (now (noted .entry)) c) (now (out .entry)) ⌝ }
+    ensures { λ r. ⌜ (cursorAt (now (rows .entry)) (now (noted .entry)) r & now (out .exit)) ≡ backRowT (rowAt (now (rows .entry)) (now (noted .entry)) i) (below (now (rows .entry)) (now (noted .entry)) i) (cursorAt (now (rows .entry)) (now (noted .entry)) c) (now (out .entry)) ⌝ }
 {
     let skip = left_out(rows, noted, i + 1, c.skip);
     if 0 < skip {
@@ -113,7 +113,7 @@ fn back_row(rows: &[u8], noted: &[Note], i: usize, out: &mut [u8], c: Cursor) ->
 // Writes the rows of the input to the end of `out`, and answers the row at which they begin there. Rows for which there is no
 // room are left out.
 pub fn write_back(rows: &[u8], noted: &[Note], out: &mut [u8]) -> usize
-    ensures { λ r. ⌜ (r & now (out .exit)) ≡ backT (below (now (rows .entry)) (now (noted .entry)) (length (now (rows .entry)) / 16)) (startT (length (now (out .entry)) / 16)) (now (out .entry)) ⌝ }
+    ensures { λ r. ⌜ (r & now (out .exit)) ≡ writeBackT (below (now (rows .entry)) (now (noted .entry)) (length (now (rows .entry)) / 16)) (startT (length (now (out .entry)) / 16)) (now (out .entry)) ⌝ }
 {
     let mut c = Cursor {
         skip: 0,

@@ -20,8 +20,8 @@ use Rattle.unresolving.specs.Laws.Aliases.{codeOf, fromOf, pathAlias}
 use Rattle.claim_laws.specs.RowParts.{asParts}
 use Rattle.names.specs.Table.{Slot}
 use Rattle.back_notes.specs.Note.{Note, note, noNote, Noted}
-use Rattle.back_notes.specs.Names.{namedT, nameT}
-use Rattle.back_rows.specs.Alias.{aliasT, madeT}
+use Rattle.back_notes.specs.Names.{namedT, nameOfT}
+use Rattle.back_rows.specs.Alias.{aliasBeforeT, aliasOfT}
 use Rattle.back_laws.specs.Stand.{with, withNotes}
 use Rattle.back_laws.specs.Notes.{rowOut, declNotes, blankNotes, operandNotes, operandsNotes, headNotes}
 use Rattle.back_laws.specs.Listed.{headN}
@@ -94,15 +94,15 @@ module _ (all : List Slot) (S : Sound all) (here : List Declaration) (outside : 
     o = Outer space (Num d) (Num n) z
 
     abbrev value : ℕ
-    value = nameT all (asParts o) (note 0 (rowOut (k ∷ ks) d))
+    value = nameOfT all (asParts o) (note 0 (rowOut (k ∷ ks) d))
 
     rows : reverse (renamed all (headN k ks past h)) ≡ with o (note value (rowOut (k ∷ ks) d)) ∷ (with (Decl space (fresh b) z) (note (length (namesIn past space)) k) ∷ (with (Field 11 0 z) noNote ∷ []))
     unfolding renamed headN headRows headNotes withNotes outerAlias declRows declNotes operandRows operandRow operandsNotes operandNotes exportRows blankNotes namedT asParts encode number flag pick
     rows = refl
 
-    sees : (l : List Noted) → 0 < length l → aliasT ((with o (note value (rowOut (k ∷ ks) d)) ∷ (with (Decl space (fresh b) z) (note (length (namesIn past space)) k) ∷ (with (Field 11 0 z) noNote ∷ []))) ++ l)
+    sees : (l : List Noted) → 0 < length l → aliasBeforeT ((with o (note value (rowOut (k ∷ ks) d)) ∷ (with (Decl space (fresh b) z) (note (length (namesIn past space)) k) ∷ (with (Field 11 0 z) noNote ∷ []))) ++ l)
         ≡ seen here outside 3 (length l) h D (length (namesIn past space)) (asParts o) value
-    unfolding aliasT madeT asParts encode number flag outerAlias fresh pick
+    unfolding aliasBeforeT aliasOfT asParts encode number flag outerAlias fresh pick
     sees l f =
         let long : ltb (suc (suc (suc (length l)))) 4 ≡ false = le-ltb (suc (suc (suc (length l)))) 4 (omega arith) in
         let left : suc (suc (suc (length l))) - 3 ≡ length l = omega arith in
@@ -142,8 +142,8 @@ module _ (all : List Slot) (S : Sound all) (here : List Declaration) (outside : 
     unfolding renamed headN headRows headNotes withNotes pathAlias exportAlias declRows declNotes operandRows operandRow pathRows operandsNotes operandNotes exportRows blankNotes namedT asParts encode number flag pick
     rows-four = refl
 
-    sees-four : (l : List Noted) → 0 < length l → aliasT (exported ++ l) ≡ seen here outside 4 (length l) g E (length (namesIn past space)) (asParts r) x
-    unfolding aliasT madeT asParts encode number flag pathAlias exportAlias fresh pick
+    sees-four : (l : List Noted) → 0 < length l → aliasBeforeT (exported ++ l) ≡ seen here outside 4 (length l) g E (length (namesIn past space)) (asParts r) x
+    unfolding aliasBeforeT aliasOfT asParts encode number flag pathAlias exportAlias fresh pick
     sees-four l f =
         let long : ltb (suc (suc (suc (suc (length l))))) 4 ≡ false = le-ltb (suc (suc (suc (suc (length l))))) 4 (omega arith) in
         let left : suc (suc (suc (suc (length l)))) - 4 ≡ length l = omega arith in

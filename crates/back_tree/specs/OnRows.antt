@@ -18,22 +18,22 @@ use Rattle.rules.specs.Answer.{rowsBytes}
 use Rattle.rules.specs.Laws.ToolLaws.{All, done, _&_ as _also_, all-append}
 use Rattle.rules.specs.Laws.Output.Numbers.{NumberedScope}
 use Rattle.unresolving.specs.Back.{namesIn, unresolveScope, unresolve}
-use Rattle.parts.specs.Apart.{partsAt}
+use Rattle.parts.specs.PartsAt.{partsAt}
 use Rattle.parts.specs.declared.Parts.{Parts}
 use Rattle.names.specs.Table.{Slot, spaceOf, nameOf, findIn}
 use Rattle.names.specs.declared.Found.{Found}
 use Rattle.names.specs.declared.Found.the-variants.{Nothing}
 use Rattle.matched.proofs.Ends.{At}
 use Rattle.claim_rows.specs.Left.{rowsFrom, rowsAt}
-use Rattle.claim_scopes.specs.Entries.{keyT, slotT}
+use Rattle.claim_scopes.specs.Entries.{entryKeyT, slotT}
 use Rattle.claim_laws.specs.RowParts.{asParts, allParts}
 use Rattle.claim_laws.specs.Keys.{find-other, outside}
 use Rattle.back_notes.specs.Note.{Note, note, noNote, Noted, notedFrom, notedAt}
 use Rattle.back_notes.specs.Number.{notesT}
-use Rattle.back_notes.specs.Names.{slotsT, nameT, namedT, nameRowT, namingT, namedFrom, namesT}
+use Rattle.back_notes.specs.Names.{slotsT, nameOfT, namedT, nameRowT, namingT, namedFrom, namesT}
 use Rattle.back_rows.specs.Below.{below}
 use Rattle.back_rows.specs.Restore.{Wrote}
-use Rattle.back_rows.specs.Write.{going, startT, backT}
+use Rattle.back_rows.specs.Write.{going, startT, writeBackT}
 use Rattle.back_laws.specs.Stand.{withNotes, part-is, rows-are, Stands, noted-are, below-are}
 use Rattle.back_laws.specs.Notes.{scopeNotes, numbered-rows}
 use Rattle.back_laws.specs.Listed.{scopeN, scopeLong}
@@ -94,7 +94,7 @@ module _ (rules : RuleSet) (t : Scope) (good : GoodScope rules t) (few : length 
   sound =
       record {
         named = λ key. none-named tree key (scope-named t 0);
-        low = λ space x h. find-other tree (keyT 65535 space) x (outside 0 (0 + length (flatten t)) 65535 space tree (omega arith) (omega arith) (scope-within rules t 0 good (omega arith)) .1 (omega arith));
+        low = λ space x h. find-other tree (entryKeyT 65535 space) x (outside 0 (0 + length (flatten t)) 65535 space tree (omega arith) (omega arith) (scope-within rules t 0 good (omega arith)) .1 (omega arith));
       }
 
   stands : StandScope tree 0 t
@@ -144,7 +144,7 @@ module _ (rules : RuleSet) (t : Scope) (good : GoodScope rules t) (few : length 
     -- the names that are noted
     one-name : (p : Parts) (i : ℕ) (pre : List Note) (n : Note) (more : List Note) → length pre ≡ i → nameRowT tree p i (pre ++ (n ∷ more)) ≡ pre ++ (namedT tree p n ∷ more)
     unfolding nameRowT namedT pick
-    one-name p i pre n more e = rw (getD-at pre n more noNote i e) (go (eqb (p .code) 5) (note (nameT tree p n) (getD n 1 0)))
+    one-name p i pre n more e = rw (getD-at pre n more noNote i e) (go (eqb (p .code) 5) (note (nameOfT tree p n) (getD n 1 0)))
       where
         go : (b : Bool) (x : Note) → pick b (set (pre ++ (n ∷ more)) i (pick b x n)) (pre ++ (n ∷ more)) ≡ pre ++ (pick b x n ∷ more)
         go true x = set-at pre n more x i e
@@ -188,7 +188,7 @@ module _ (rules : RuleSet) (t : Scope) (good : GoodScope rules t) (few : length 
           rw count (ap (below body (second ++ more)) (sym z) ∙ below-are body (second ++ more) 0 (length rs) ∙ rw (noted-from second more second-long, listed) (unfold below in refl))
 
       -- THE ROWS that are written for those of an output
-      pub rows-back : MadeScope t → NumberedScope t → (to : ℕ) (out : List ℕ) → backT (below body (namesT room body (sets noted 0 (notesT 0 [] [] (rowsAt body 0)))) (length body / 16)) (startT to) out ≡ putRows (flatten (unresolve t)) (to & out)
+      pub rows-back : MadeScope t → NumberedScope t → (to : ℕ) (out : List ℕ) → writeBackT (below body (namesT room body (sets noted 0 (notesT 0 [] [] (rowsAt body 0)))) (length body / 16)) (startT to) out ≡ putRows (flatten (unresolve t)) (to & out)
       unfolding unresolve
       rows-back m num to out =
           rw (after-first, after-second, below-is)

@@ -21,10 +21,10 @@ use Rattle.names.specs.Table.{Slot}
 use Rattle.back_notes.specs.Note.{Note, noNote, Noted}
 use Rattle.back_notes.specs.Names.{namedT}
 use Rattle.back_rows.specs.Below.{nth}
-use Rattle.back_rows.specs.Alias.{noAliasT, noteOf, aliasT, madeT}
+use Rattle.back_rows.specs.Alias.{noAliasT, noteOf, aliasBeforeT, aliasOfT}
 use Rattle.back_rows.specs.declared.alias.Alias.{Alias}
 use Rattle.back_rows.specs.Restore.{Wrote}
-use Rattle.back_rows.specs.Write.{beforeField, going, backT}
+use Rattle.back_rows.specs.Write.{beforeField, going, writeBackT}
 use Rattle.back_laws.specs.Stand.{with, withNotes}
 use Rattle.back_laws.specs.Notes.{declNotes, blankNotes, operandNotes, operandsNotes}
 use Rattle.back_laws.specs.Listed.{declsN, operandsN, exportN, headN, head-n, operands-n}
@@ -94,11 +94,11 @@ one-row (one-op b n no-ops) = (_, refl)
 
 -- an EXPORT behind one row and a DECL of no fresh name ends no inserted field
 own-export : (r : Row) (n : Note) (x : Noted) (rest : List Noted) → codeIn r ≡ 9 → NotFresh rest → Own (with r n ∷ (x ∷ rest))
-unfolding aliasT
+unfolding aliasBeforeT
 own-export r n x rest c f = rw (eq-eqb (codeIn r) 9 c) (go (ltb (length (with r n ∷ (x ∷ rest))) 4))
   where
     go : (t : Bool)
-        → pick t (noAliasT (length (with r n ∷ (x ∷ rest)))) (pick true (madeT 4 (asParts r .x) (with r n ∷ (x ∷ rest))) (pick (eqb (codeIn r) 5) (madeT 3 (noteOf (with r n)) (with r n ∷ (x ∷ rest))) (noAliasT (length (with r n ∷ (x ∷ rest)))))) .size ≡ 0
+        → pick t (noAliasT (length (with r n ∷ (x ∷ rest)))) (pick true (aliasOfT 4 (asParts r .x) (with r n ∷ (x ∷ rest))) (pick (eqb (codeIn r) 5) (aliasOfT 3 (noteOf (with r n)) (with r n ∷ (x ∷ rest))) (noAliasT (length (with r n ∷ (x ∷ rest)))))) .size ≡ 0
     go true = unfold pick in refl
     go false = unfold pick in made-none 4 (asParts r .x) (with r n ∷ (x ∷ rest)) f
 
@@ -135,7 +135,7 @@ module _ (all-slots : List Slot) where
   -- ---- where inserted fields wait before it
 
   module _ (here : List Declaration) (outside : List (List Declaration)) (before : List Noted) (nothing : Own before) (some-before : 0 < length before) (k : Wrote → Wrote) (ends : Ends before k) where
-    left-one : (xs l : List Noted) (n : ℕ) → length xs ≡ suc n → aliasT (xs ++ l) .size ≡ suc n → Ends l k → Ends (xs ++ l) k
+    left-one : (xs l : List Noted) (n : ℕ) → length xs ≡ suc n → aliasBeforeT (xs ++ l) .size ≡ suc n → Ends l k → Ends (xs ++ l) k
     left-one [] l n e s E = absurd (omega arith)
     left-one (x ∷ xs) l n e s E = left-out x xs l k (rw s (omega arith)) E
 

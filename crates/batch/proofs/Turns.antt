@@ -13,7 +13,7 @@ use Rattle.rules.specs.Rows.{bytes}
 use Rattle.rules.specs.Rules.{Env}
 use Rattle.rules.specs.Answer.{outputInside}
 use Rattle.rules.specs.Laws.Output.OutBytes.{bytes-length}
-use Rattle.rules.specs.Laws.Demand3.{Usual}
+use Rattle.rules.specs.Laws.InputLaws.{Usual}
 use Rattle.read_form.specs.Laws.OutputLength.{output-length}
 use Rattle.batching.specs.Batch.{insideAnswer, insideOutput, memberAnswers, memberOutputs}
 use Rattle.batching.specs.BatchBytes.{packed, answersBytes}

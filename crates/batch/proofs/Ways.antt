@@ -18,7 +18,7 @@ use Rattle.rules.specs.Rows.{bytes}
 use Rattle.rules.specs.Tree.{Scope}
 use Rattle.rules.specs.Answer.{answer, output}
 use Rattle.rules.specs.Laws.ToolLaws.{and-right, leb-le}
-use Rattle.rules.specs.Laws.Demand3.{Usual}
+use Rattle.rules.specs.Laws.InputLaws.{Usual}
 use Rattle.limits.specs.Held.{setting}
 use Rattle.batching.specs.Batch.{rootOf, preludeOf, insideAnswer, insideOutput, memberAnswers, memberOutputs, shareOf, afterPrelude, sharesAfter, batchAnswer, batchOutputs}
 use Rattle.batching.specs.BatchBytes.{cut, packed, answersBytes, packedBatch, badMembers, fewBytes, Buffers, answersAfter, bytesAnswer, bytesBuffers}

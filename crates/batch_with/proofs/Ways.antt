@@ -7,9 +7,9 @@ use Prim.Native.Nat.{ℕ, _≤_, _<_}
 use lib.ListN.{length, take, drop, drop-of-length-le}
 use lib.Seq.{take-all, length-take-le}
 use Rattle.rules.specs.Tools.{if_then_else_, between}
-use Rattle.rules.specs.Versions.{Setting}
+use Rattle.rules.specs.Versions.{Setting, all}
 use Rattle.rules.specs.Answer.{output, outputInside}
-use Rattle.rules.specs.Laws.Demand3.{Usual}
+use Rattle.rules.specs.Laws.InputLaws.{Usual}
 use Rattle.read_form.specs.Laws.OutputLength.{output-length}
 use Rattle.batching.specs.Batch.{afterPrelude, sharesAfter, batchAnswer, batchOutputs}
 use Rattle.batching.specs.BatchBytes.{cut, badMembers, fewBytes, Buffers, answersAfter, bytesAnswer, bytesBuffers}
@@ -17,7 +17,7 @@ use Rattle.batching.specs.BatchCalls.{roomWith, batchCall, batchLeaves}
 use Rattle.batching.specs.Laws.CallLaws.{short-prelude}
 use Rattle.limits.specs.Held.{setting}
 use Rattle.names.specs.Table.{Slot}
-use Rattle.resolver_with.specs.Served.{served, asked}
+use Rattle.resolver_with.specs.Asked.{asked}
 use Rattle.resolver_with.specs.Areas.{lentOf}
 use Rattle.resolver_with.proofs.Asked.{setting-asked}
 use Rattle.resolver_with.proofs.Runs.{able-at}
@@ -57,11 +57,11 @@ module _ (s : Setting) (usual : Usual s) (prelude members lengths outs answers :
 -- ---- batch_with
 
 -- a batch is of the setting that its prelude asks for, whichever others are in force
-asked-call : (prelude members lengths : List ℕ) (preludeRoom room answersRoom : ℕ) → bytesAnswer served prelude members lengths preludeRoom room answersRoom ≡ bytesAnswer (asked prelude ∷ []) prelude members lengths preludeRoom room answersRoom
+asked-call : (prelude members lengths : List ℕ) (preludeRoom room answersRoom : ℕ) → bytesAnswer all prelude members lengths preludeRoom room answersRoom ≡ bytesAnswer (asked prelude ∷ []) prelude members lengths preludeRoom room answersRoom
 unfolding bytesAnswer batchAnswer
 asked-call prelude members lengths preludeRoom room answersRoom = rw (setting-asked prelude)
 
-asked-leaves : (prelude members lengths : List ℕ) (old : Buffers) → bytesBuffers served prelude members lengths old ≡ bytesBuffers (asked prelude ∷ []) prelude members lengths old
+asked-leaves : (prelude members lengths : List ℕ) (old : Buffers) → bytesBuffers all prelude members lengths old ≡ bytesBuffers (asked prelude ∷ []) prelude members lengths old
 unfolding bytesBuffers batchOutputs batchAnswer output outputInside
 asked-leaves prelude members lengths old = rw (setting-asked prelude)
 
@@ -78,7 +78,7 @@ module _ (i : ℕ) (prelude : List ℕ) (asks : setting i ≡ asked prelude) (re
 
   module _ (members lengths outs answers : List ℕ) where
     pub with-answers : (r : ℕ) → r ≡ batchCall (setting i ∷ []) false prelude members lengths (record { prelude = take room resolved; outs = outs; answers = answers })
-        → r ≡ batchCall served (isSmall (asked prelude .version) (lentOf e n k c m)) prelude members lengths (record { prelude = resolved; outs = outs; answers = answers })
+        → r ≡ batchCall all (isSmall (asked prelude .version) (lentOf e n k c m)) prelude members lengths (record { prelude = resolved; outs = outs; answers = answers })
     unfolding batchCall roomWith if_then_else_
     with-answers r q = rw (asked-call prelude members lengths (roomWith (isSmall (asked prelude .version) (lentOf e n k c m)) (length resolved)) (length outs) (length answers), ← asks, ← tested) (q ∙ rw front)
 
@@ -94,6 +94,6 @@ module _ (i : ℕ) (prelude : List ℕ) (asks : setting i ≡ asked prelude) (re
         rw (none-of-it, append-nil (new .prelude)) (rw all-of-it at q)
 
     pub with-leaves : (new : Buffers) → new ≡ batchLeaves (setting i ∷ []) false prelude members lengths (record { prelude = take room resolved; outs = outs; answers = answers })
-        → record { prelude = new .prelude ++ drop room resolved; outs = new .outs; answers = new .answers } ≡ batchLeaves served (isSmall (asked prelude .version) (lentOf e n k c m)) prelude members lengths (record { prelude = resolved; outs = outs; answers = answers })
+        → record { prelude = new .prelude ++ drop room resolved; outs = new .outs; answers = new .answers } ≡ batchLeaves all (isSmall (asked prelude .version) (lentOf e n k c m)) prelude members lengths (record { prelude = resolved; outs = outs; answers = answers })
     unfolding batchLeaves
     with-leaves new q = rw (asked-leaves prelude members lengths (record { prelude = resolved; outs = outs; answers = answers }), ← asks, ← tested) (leaves small is new q)

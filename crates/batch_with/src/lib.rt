@@ -16,7 +16,8 @@ ghost use Prim.Native.Nat.{_≤_};
 ghost use lib.ListN.{length};
 ghost use Rattle.limits.specs.Held.{setting};
 ghost use Rattle.batching.specs.BatchCalls.{roomWith, batchCall, batchLeaves};
-ghost use Rattle.resolver_with.specs.Served.{served, asked};
+ghost use Rattle.rules.specs.Versions.{all};
+ghost use Rattle.resolver_with.specs.Asked.{asked};
 ghost use Rattle.resolver_with.specs.Areas.{lentOf};
 ghost use Rattle.member_with.specs.Areas.{isSmall, TablesCleared, Large};
 
@@ -85,8 +86,8 @@ pub fn batch_with(
     chains: &mut [u16],
     ends: &mut [u32],
 ) -> u64
-    ensures { λ r. ⌜ r ≡ batchCall served (isSmall (asked (now (prelude .entry)) .version) (lentOf (now (entered .entry)) (now (names .entry)) (now (known .entry)) (now (chains .entry)) (now (ends .entry)))) (now (prelude .entry)) (now (members .entry)) (now (lengths .entry)) (record { prelude = now (resolved .entry); outs = now (outs .entry); answers = now (answers .entry) }) ⌝ }
-    ensures { λ _. ⌜ record { prelude = now (resolved .exit); outs = now (outs .exit); answers = now (answers .exit) } ≡ batchLeaves served (isSmall (asked (now (prelude .entry)) .version) (lentOf (now (entered .entry)) (now (names .entry)) (now (known .entry)) (now (chains .entry)) (now (ends .entry)))) (now (prelude .entry)) (now (members .entry)) (now (lengths .entry)) (record { prelude = now (resolved .entry); outs = now (outs .entry); answers = now (answers .entry) }) ⌝ }
+    ensures { λ r. ⌜ r ≡ batchCall all (isSmall (asked (now (prelude .entry)) .version) (lentOf (now (entered .entry)) (now (names .entry)) (now (known .entry)) (now (chains .entry)) (now (ends .entry)))) (now (prelude .entry)) (now (members .entry)) (now (lengths .entry)) (record { prelude = now (resolved .entry); outs = now (outs .entry); answers = now (answers .entry) }) ⌝ }
+    ensures { λ _. ⌜ record { prelude = now (resolved .exit); outs = now (outs .exit); answers = now (answers .exit) } ≡ batchLeaves all (isSmall (asked (now (prelude .entry)) .version) (lentOf (now (entered .entry)) (now (names .entry)) (now (known .entry)) (now (chains .entry)) (now (ends .entry)))) (now (prelude .entry)) (now (members .entry)) (now (lengths .entry)) (record { prelude = now (resolved .entry); outs = now (outs .entry); answers = now (answers .entry) }) ⌝ }
     ensures { λ _. ⌜ TablesCleared (asked (now (prelude .entry)) .version) (now (entered .entry)) (now (entered .exit)) (now (names .entry)) (now (names .exit)) (now (known .entry)) (now (known .exit)) (now (chains .entry)) (now (chains .exit)) (now (ends .entry)) (now (ends .exit)) ⌝ }
 {
     let i = asked_for(prelude);

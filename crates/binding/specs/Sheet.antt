@@ -11,7 +11,7 @@ use lib.ListN.{length, take, drop, replicate, getElem?}
 use Rattle.rules.specs.Tools.{if_then_else_, between, only, _then_, _orElse_}
 use Rattle.rules.specs.Versions.{Setting}
 use Rattle.rules.specs.Rows.{value, bytes, Num, Id}
-use Rattle.rules.specs.Tree.{Operand, ref, outer, case, Scope, flatten, Reading, bad, deep, form}
+use Rattle.rules.specs.Tree.{Operand, ref, outer, case, Scope, flatten, RowsRead, bad, deep, form}
 use Rattle.rules.specs.Reader.{read}
 use Rattle.rules.specs.Rules.{Result, resolve}
 use Rattle.rules.specs.Answer.{AnswerOf, refused, accepted, sameNumbers, settingOf, rowCount, rowsIn, formBytes}
@@ -137,7 +137,7 @@ pub record Run : Type 0 where
   -- the resolved form
   pub bytes : List ℕ
 
-unfoldable pub formOf : Reading → Option Scope
+unfoldable pub formOf : RowsRead → Option Scope
 formOf (bad place) = none
 formOf (deep place) = none
 formOf (form s) = some s

@@ -27,14 +27,14 @@ use Rattle.refusal.specs.declared.Refusal.{Refusal}
 use Rattle.refusal.specs.declared.Told.{Told}
 use Rattle.limits.specs.Held.{setting}
 use Rattle.names.specs.Table.{Slot, emptySlot}
-use Rattle.walk.specs.Walk.{Wrote₃}
-use Rattle.write.specs.declared.alias.State.{State}
+use Rattle.walk.specs.Scopes.{Wrote₃}
+use Rattle.write.specs.declared.alias.WriteState.{WriteState}
 use Rattle.write.specs.declared.alias.Walked.{Walked}
 use Rattle.write.specs.declared.alias.Walked.the-variants as walked
 use Rattle.whole_form.specs.Whole.{formOf}
 use Rattle.whole_form.specs.declared.read.Form.{Form}
 use Rattle.whole_form.specs.declared.read.Form.the-variants as read
-use Rattle.agree.specs.RootAgrees.{refusalOf, refusedBy}
+use Rattle.agree.specs.Walk.RootAgrees.{refusalOf, refusedBy}
 use Rattle.resolver.specs.Run.{seenOf, walkIn}
 use Rattle.resolver.specs.Steps.{stepsIn, stepsOf}
 use Rattle.resolver.specs.declared.steps.Steps.{Steps}
@@ -57,7 +57,7 @@ module _ (i a : ℕ) (h : a ≡ setting i .version .header) (form ends out : Lis
   walks-behind : (w & out) ≡ walkIn (setting i) (bodyOf i form) ends entered names (0 ∷ [])
   walks-behind = q ∙ ap (λ (l : List ℕ). walkIn (setting i) l ends entered names (0 ∷ [])) (take-all (length form - a) (drop a form) (simp length-drop (omega arith)) ∙ ap (λ (n : ℕ). drop n form) h)
 
-  pub steps-pass : (s : State) → w ≡ walked.Done s → Pass ≡ stepsIn (walkIn (setting i) (bodyOf i form) ends entered names (0 ∷ []))
+  pub steps-pass : (s : WriteState) → w ≡ walked.Done s → Pass ≡ stepsIn (walkIn (setting i) (bodyOf i form) ends entered names (0 ∷ []))
   unfolding stepsIn
   steps-pass s e = rw (← walks-behind, e)
 

@@ -12,7 +12,7 @@ use borrow.Author.Tests.{eqb-true, leb-true, lt-ltb, ltb-false}
 use mir.Syntax.{w8}
 use mir.Val.{Fits}
 use Rattle.rules.specs.Tools.{if_then_else_, only, _orElse_}
-use Rattle.rules.specs.Versions.{Setting, asClaimed}
+use Rattle.rules.specs.Versions.{Setting, asClaimed, all}
 use Rattle.rules.specs.Tree.{Scope}
 use Rattle.rules.specs.Answer.{AnswerOf, refused, accepted, hasHeader, settingOf}
 use Rattle.rules.specs.Laws.ToolLaws.{and-left, and-right}
@@ -27,7 +27,7 @@ use Rattle.resolver.specs.declared.steps.Steps.{Steps}
 use Rattle.resolver.specs.declared.steps.Steps.the-variants as steps
 use Rattle.resolver.proofs.Bytes.{all-bytes}
 use Rattle.resolver_with.specs.Areas.{slotsFor, linksFor, Lent, lentOf, roomy, Cleared}
-use Rattle.resolver_with.specs.Served.{served, asked}
+use Rattle.resolver_with.specs.Asked.{asked}
 use Rattle.resolver_with.proofs.Asked.{setting-asked}
 use Rattle.lent_areas.proofs.InForce.{first-asked}
 use Rattle.claim_check.specs.Meaning.{meaning, ruled}
@@ -101,10 +101,10 @@ module _ (i slots links : ℕ) (lent : Lent) (fits : Bool) (f : fits ≡ roomy (
 
 -- ---- the answer
 
-of-asked : (form : List ℕ) → settingOf served form ≡ (only (hasHeader (asked form) form) (asked form) orElse none)
+of-asked : (form : List ℕ) → settingOf all form ≡ (only (hasHeader (asked form) form) (asked form) orElse none)
 of-asked form = setting-asked form ∙ unfold settingOf in refl
 
-module _ (form : List ℕ) (all : (j : ℕ) → Fits w8 (getD form j 0)) (claim : List ℕ) (slots links : ℕ) (lent : Lent) (i : ℕ) (asks : setting i ≡ asked form) (fits : Bool) (f : fits ≡ roomy (setting i .version) lent) (small : Bool) (is : small ≡ (not fits || (ltb slots (slotsOf (versionOf i)) || ltb links (linksOf (versionOf i))))) where
+module _ (form : List ℕ) (each : (j : ℕ) → Fits w8 (getD form j 0)) (claim : List ℕ) (slots links : ℕ) (lent : Lent) (i : ℕ) (asks : setting i ≡ asked form) (fits : Bool) (f : fits ≡ roomy (setting i .version) lent) (small : Bool) (is : small ≡ (not fits || (ltb slots (slotsOf (versionOf i)) || ltb links (linksOf (versionOf i))))) where
   abbrev taken : ℕ
   taken = if fits then slots else 0
 
@@ -125,12 +125,12 @@ module _ (form : List ℕ) (all : (j : ℕ) → Fits w8 (getD form j 0)) (claim 
   tested = is ∙ as-taken fits
 
   pub small-returns : small ≡ true → (v : Verdict) → v ≡ smallT i form → meaning v ≡ ruled (checkWith form claim slots links lent)
-  small-returns e v q = ap meaning q ∙ (small-decided i form claim (all-bytes form all) taken links (sym tested ∙ e) ∙ ap ruled (sym with-asked))
+  small-returns e v q = ap meaning q ∙ (small-decided i form claim (all-bytes form each) taken links (sym tested ∙ e) ∙ ap ruled (sym with-asked))
 
   module _ (e : small ≡ false) where
     module _ (t : Steps) (said : t ≡ inputOf (setting i .rules) (readForm (setting i) form)) where
       judged : meaning (stepsBy i form claim (slotsOf (versionOf i)) t) ≡ ruled (checkWith form claim slots links lent)
-      judged = ap (λ (x : Steps). meaning (stepsBy i form claim (slotsOf (versionOf i)) x)) said ∙ (enough-decided i form claim (all-bytes form all) taken links (sym tested ∙ e) ∙ ap ruled (sym with-asked))
+      judged = ap (λ (x : Steps). meaning (stepsBy i form claim (slotsOf (versionOf i)) x)) said ∙ (enough-decided i form claim (all-bytes form each) taken links (sym tested ∙ e) ∙ ap ruled (sym with-asked))
 
       pub refused-returns : (why : Refusal) → t ≡ steps.Refused why → meaning (Refused why) ≡ ruled (checkWith form claim slots links lent)
       unfolding stepsBy
@@ -148,19 +148,19 @@ small-tests lent i table index slots links p q = rw (p, q)
 
 -- ---- the areas
 
-sized-asked : (form : List ℕ) → sizedBy served form ≡ some (asked form)
+sized-asked : (form : List ℕ) → sizedBy all form ≡ some (asked form)
 unfolding sizedBy
 sized-asked form = first-asked form
 
 module _ (form : List ℕ) (i : ℕ) (asks : setting i ≡ asked form) where
-  sized : sizedBy served form ≡ some (setting i)
+  sized : sizedBy all form ≡ some (setting i)
   sized = sized-asked form ∙ ap (λ (s : Setting). some s) (sym asks)
 
-  pub table-after : (old new : List Slot) → new ≡ cleared (slotsOf (versionOf i)) emptySlot old → new ≡ tableAfter served form old
+  pub table-after : (old new : List Slot) → new ≡ cleared (slotsOf (versionOf i)) emptySlot old → new ≡ tableAfter all form old
   unfolding tableAfter areaFor
   table-after old new e = rw sized e
 
-  pub index-after : (old new : List ℕ) → new ≡ cleared (linksOf (versionOf i)) 0 old → new ≡ indexAfter served form old
+  pub index-after : (old new : List ℕ) → new ≡ cleared (linksOf (versionOf i)) 0 old → new ≡ indexAfter all form old
   unfolding indexAfter areaFor
   index-after old new e = rw sized e
 

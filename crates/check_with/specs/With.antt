@@ -5,9 +5,10 @@ use Rattle.rules.specs.Tools.{if_then_else_}
 use Rattle.checking.specs.Check.{Verdict}
 use Rattle.checking.specs.CheckAnswer.{checkAnswer}
 use Rattle.resolver_with.specs.Areas.{Lent, roomy}
-use Rattle.resolver_with.specs.Served.{served, asked}
+use Rattle.rules.specs.Versions.{all}
+use Rattle.resolver_with.specs.Asked.{asked}
 
 -- `slots` and `links` are the lengths of the claim's table and its index
 unfoldable pub checkWith : (input claim : List ℕ) (slots links : ℕ) → Lent → Verdict
 checkWith input claim slots links lent =
-    checkAnswer served input claim (if roomy (asked input .version) lent then slots else 0) links
+    checkAnswer all input claim (if roomy (asked input .version) lent then slots else 0) links

@@ -23,7 +23,7 @@ ghost use mathlib.Core.List.{[], _∷_};
 ghost use Prim.Native.Nat.{_≤_};
 ghost use lib.Dec.{ltb};
 ghost use lib.ListN.{length};
-ghost use Rattle.rules.specs.Versions.{asClaimed};
+ghost use Rattle.rules.specs.Versions.{asClaimed, all};
 ghost use Rattle.read_form.specs.ReadForm.{readForm};
 ghost use Rattle.checking.specs.CheckAnswer.{slotsOf, linksOf, cleared, tableAfter, indexAfter};
 ghost use Rattle.limits.specs.Held.{setting};
@@ -31,7 +31,7 @@ ghost use Rattle.names.specs.Table.{emptySlot};
 ghost use Rattle.whole_form.specs.Whole.{formOf};
 ghost use Rattle.resolver.specs.Run.{walkIn};
 ghost use Rattle.resolver.specs.Steps.{stepsIn};
-ghost use Rattle.resolver_with.specs.Served.{served, asked};
+ghost use Rattle.resolver_with.specs.Asked.{asked};
 ghost use Rattle.resolver_with.specs.Areas.{slotsFor, linksFor, lentOf, Cleared};
 ghost use Rattle.resolver_with.specs.Exact.{Suits};
 ghost use Rattle.claim_check.specs.Meaning.{meaning, ruled};
@@ -103,7 +103,7 @@ fn try_fronts(
     ensures { λ r. ⌜ Kept (slotsFor (versionOf i)) (now (entered .entry)) (now (entered .exit)) × Kept (slotsFor (versionOf i)) (now (names .entry)) (now (names .exit)) × Kept (linksFor (versionOf i)) (now (known .entry)) (now (known .exit)) × Kept (linksFor (versionOf i)) (now (chains .entry)) (now (chains .exit)) × Kept (slotsFor (versionOf i)) (now (ends .entry)) (now (ends .exit)) ⌝ }
 {
     let most = slots_for(i);
-    let all = links_for(i);
+    let each = links_for(i);
     try_input(
         form,
         i,
@@ -148,7 +148,7 @@ fn judge_lent(form: &[u8], claim: &[u8], i: usize, table: &mut [Slot], index: &m
     ensures { λ r. ⌜ (now (table .exit) ≡ cleared (slotsOf (versionOf i)) emptySlot (now (table .entry))) × (now (index .exit) ≡ cleared (linksOf (versionOf i)) 0 (now (index .entry))) ⌝ }
 {
     let most = slots(i);
-    let all = links(i);
+    let each = links(i);
     match judge_claim(form, claim, i, &mut table[..most], &mut index[..all]) {
         Verdict::Yes => {
             clear(table, index, i);
@@ -186,7 +186,7 @@ pub fn check_with(
     ends: &mut [u32],
 ) -> Verdict
     ensures { λ r. ⌜ meaning r ≡ ruled (checkWith (now (form .entry)) (now (claim .entry)) (length (now (table .entry))) (length (now (index .entry))) (lentOf (now (entered .entry)) (now (names .entry)) (now (known .entry)) (now (chains .entry)) (now (ends .entry)))) ⌝ }
-    ensures { λ r. ⌜ (now (table .exit) ≡ tableAfter served (now (form .entry)) (now (table .entry))) × (now (index .exit) ≡ indexAfter served (now (form .entry)) (now (index .entry))) ⌝ }
+    ensures { λ r. ⌜ (now (table .exit) ≡ tableAfter all (now (form .entry)) (now (table .entry))) × (now (index .exit) ≡ indexAfter all (now (form .entry)) (now (index .entry))) ⌝ }
     ensures { λ r. ⌜ Cleared (asked (now (form .entry)) .version) (now (entered .entry)) (now (entered .exit)) (now (names .entry)) (now (names .exit)) (now (known .entry)) (now (known .exit)) (now (chains .entry)) (now (chains .exit)) (now (ends .entry)) (now (ends .exit)) ⌝ }
 {
     let i = asked_for(form);

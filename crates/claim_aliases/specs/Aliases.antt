@@ -11,7 +11,7 @@ use Rattle.names.specs.Table.{Slot, pushed}
 use Rattle.claim_rows.specs.Added.{isAddedT}
 use Rattle.claim_rows.specs.declared.Tried.{Tried}
 use Rattle.claim_rows.specs.declared.Tried.the-variants.{Passes, Breaks}
-use Rattle.claim_scopes.specs.Open.{behindT, openIn, hereT, openT}
+use Rattle.claim_scopes.specs.Open.{openBehindT, openIn, hereT, openOneT}
 use Rattle.claim_scopes.specs.Entries.{slotT, lookT, enterT, laidT}
 use Rattle.claim_scopes.specs.declared.entries.Entry.{Entry}
 use Rattle.claim_scopes.specs.declared.entries.Entry.the-variants.{Value, Nothing}
@@ -27,8 +27,8 @@ unfoldable pub isAlias : (code : ℕ) → Bool
 isAlias code = eqb code 9 || (eqb code 10 || eqb code 11)
 
 -- a name from 2147483648 up, counted from 1; 0 for any other
-abbrev pub newT : ℕ → ℕ
-newT name = name - 2147483647
+abbrev pub aliasNewT : ℕ → ℕ
+aliasNewT name = name - 2147483647
 
 unfoldable pub isValue : Entry → Bool
 isValue (Value v) = true
@@ -36,35 +36,35 @@ isValue Nothing = false
 
 -- was the name of a DECL entered for its scope and space?
 unfoldable pub isKnown : List Slot → (scope : ℕ) → Parts → Bool
-isKnown ss scope p = isValue (lookT ss scope (p .b) (newT (p .x)))
+isKnown ss scope p = isValue (lookT ss scope (p .b) (aliasNewT (p .x)))
 
 -- does the row break the condition?
-unfoldable pub breaksT : (added : Bool) → List Slot → (scope : ℕ) → Parts → Bool
-breaksT added ss scope p =
+unfoldable pub aliasBreaksT : (added : Bool) → List Slot → (scope : ℕ) → Parts → Bool
+aliasBreaksT added ss scope p =
     pick added (pick (eqb (p .code) 1) (not (isAlias (p .b))) (pick (eqb (p .code) 2) (isKnown ss scope p) ((eqb (p .code) 3 || eqb (p .code) 5) && ltb 0 (p .e)))) false
 
 -- the slot of a DECL
 unfoldable pub nameSlot : (scope : ℕ) → Parts → Slot
-nameSlot scope p = slotT scope (p .b) (newT (p .x)) 0
+nameSlot scope p = slotT scope (p .b) (aliasNewT (p .x)) 0
 
 -- a table behind the row
-unfoldable pub enteredT : (added : Bool) → List Slot → (used scope : ℕ) → Parts → Out ℕ (List Slot)
-enteredT added table used scope p = pick added (pick (eqb (p .code) 2) (pushed table used (nameSlot scope p)) (used & table)) (used & table)
+unfoldable pub aliasEnteredT : (added : Bool) → List Slot → (used scope : ℕ) → Parts → Out ℕ (List Slot)
+aliasEnteredT added table used scope p = pick added (pick (eqb (p .code) 2) (pushed table used (nameSlot scope p)) (used & table)) (used & table)
 
 -- at a row, with these behind it: whether its field is added
-unfoldable pub atT : Parts → List Parts → Cursor → Cursor
-atT p ps c = record { depth = c .depth; used = c .used; added = isAddedT (c .added) (p .code) ps }
+unfoldable pub aliasAtT : Parts → List Parts → Cursor → Cursor
+aliasAtT p ps c = record { depth = c .depth; used = c .used; added = isAddedT (c .added) (p .code) ps }
 
 -- the cursor, the table and the scopes behind a row
 abbrev pub Went : Type 0
 Went = Out Cursor (Out (List Slot) (List (List ℕ)))
 
-unfoldable pub wentT : (added : Bool) → Out ℕ (List Slot) → Out ℕ (List (List ℕ)) → Went
-wentT added (used & table) (depth & scopes) = record { depth = depth; used = used; added = added } & table & scopes
+unfoldable pub aliasWentT : (added : Bool) → Out ℕ (List Slot) → Out ℕ (List (List ℕ)) → Went
+aliasWentT added (used & table) (depth & scopes) = record { depth = depth; used = used; added = added } & table & scopes
 
 -- behind a row that does not break the condition, which is row i
-unfoldable pub onT : Parts → (i : ℕ) (table : List Slot) (scopes : List (List ℕ)) → Cursor → Went
-onT p i table scopes c = wentT (c .added) (enteredT (c .added) table (c .used) (hereT (openIn scopes (c .depth))) p) (behindT scopes (c .depth) p i)
+unfoldable pub aliasOnT : Parts → (i : ℕ) (table : List Slot) (scopes : List (List ℕ)) → Cursor → Went
+aliasOnT p i table scopes c = aliasWentT (c .added) (aliasEnteredT (c .added) table (c .used) (hereT (openIn scopes (c .depth))) p) (openBehindT scopes (c .depth) p i)
 
 abbrev pub Turned : Type 0
 Turned = Out Turn (Out (List Slot) (List (List ℕ)))
@@ -75,12 +75,12 @@ turnedT (c & rest) = On c & rest
 -- what a row leads to, where it is known whether its field is added
 unfoldable pub overT : Parts → (i : ℕ) (table : List Slot) (scopes : List (List ℕ)) → Cursor → Turned
 overT p i table scopes c =
-    pick (breaksT (c .added) (take (c .used) table) (hereT (openIn scopes (c .depth))) p) (TurnBreaks & table & scopes) (turnedT (onT p i table scopes c))
+    pick (aliasBreaksT (c .added) (take (c .used) table) (hereT (openIn scopes (c .depth))) p) (TurnBreaks & table & scopes) (turnedT (aliasOnT p i table scopes c))
 
 -- what the first of these rows leads to, which is row i
-unfoldable pub turnT : List Parts → (i : ℕ) (table : List Slot) (scopes : List (List ℕ)) → Cursor → Turned
-turnT [] i table scopes c = TurnBreaks & table & scopes
-turnT (p ∷ ps) i table scopes c = overT p i table scopes (atT p ps c)
+unfoldable pub aliasTurnT : List Parts → (i : ℕ) (table : List Slot) (scopes : List (List ℕ)) → Cursor → Turned
+aliasTurnT [] i table scopes c = TurnBreaks & table & scopes
+aliasTurnT (p ∷ ps) i table scopes c = overT p i table scopes (aliasAtT p ps c)
 
 -- the index serves the table then
 abbrev pub HeldBy : Turn → (table : List Slot) (index : List ℕ) → Type 0
@@ -88,8 +88,8 @@ HeldBy (On c) table index = Holds table index (c .used)
 HeldBy TurnBreaks table index = Unit {0}
 
 -- its slots that are used
-unfoldable pub namesT : (room : ℕ) (added : Bool) → List Slot → (scope : ℕ) → Parts → List Slot
-namesT room added ss scope p = pick added (pick (eqb (p .code) 2) (enterT room ss (nameSlot scope p)) ss) ss
+unfoldable pub aliasNamesT : (room : ℕ) (added : Bool) → List Slot → (scope : ℕ) → Parts → List Slot
+aliasNamesT room added ss scope p = pick added (pick (eqb (p .code) 2) (enterT room ss (nameSlot scope p)) ss) ss
 
 -- ---- all rows, from row i on
 
@@ -98,11 +98,11 @@ abbrev pub Names : Type 0
 Names = Out Tried (List Slot)
 
 -- `added`: whether the field of the row before is; `st`: the scopes that are open; `ss`: the slots that are used, of `room`
-unfoldable pub aliasesT : (room i : ℕ) (added : Bool) (st : List (List ℕ)) (ss : List Slot) → List Parts → Names
-aliasesT room i added st ss [] = Passes & ss
-aliasesT room i added st ss (p ∷ ps) =
+unfoldable pub tryAliasesT : (room i : ℕ) (added : Bool) (st : List (List ℕ)) (ss : List Slot) → List Parts → Names
+tryAliasesT room i added st ss [] = Passes & ss
+tryAliasesT room i added st ss (p ∷ ps) =
     let a = isAddedT added (p .code) ps in
-    pick (breaksT a ss (hereT st) p) (Breaks i & ss) (aliasesT room (i + 1) a (openT 64 st p i) (namesT room a ss (hereT st) p) ps)
+    pick (aliasBreaksT a ss (hereT st) p) (Breaks i & ss) (tryAliasesT room (i + 1) a (openOneT 64 st p i) (aliasNamesT room a ss (hereT st) p) ps)
 
 -- what is answered, and the whole table
 unfoldable pub laidBy : Names → List Slot → Names

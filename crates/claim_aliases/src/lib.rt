@@ -24,7 +24,7 @@ ghost use lib.ListN.{length, take};
 ghost use Rattle.kit.specs.Out.{_&_};
 ghost use Rattle.index.specs.Indexed.{Holds};
 ghost use Rattle.claim_rows.specs.Left.{rowsAt};
-ghost use Rattle.claim_aliases.specs.Aliases.{isAlias, newT, isKnown, breaksT, enteredT, onT, overT, atT, turnT, HeldBy, laidBy, aliasesT};
+ghost use Rattle.claim_aliases.specs.Aliases.{isAlias, aliasNewT, isKnown, aliasBreaksT, aliasEnteredT, aliasOnT, overT, aliasAtT, aliasTurnT, HeldBy, laidBy, tryAliasesT};
 
 // The most scopes that are open one in another, in any version.
 pub const SCOPES: usize = 64;
@@ -52,7 +52,7 @@ fn is_alias(code: u8) -> bool
 
 // A name that no input has, counted from 1, so that it is found as an input's name is; 0 for any other.
 fn counted(name: u32) -> u32
-    ensures { λ r. ⌜ r ≡ newT name ⌝ }
+    ensures { λ r. ⌜ r ≡ aliasNewT name ⌝ }
 {
     if FRESH <= name { name - FRESH + 1 } else { 0 }
 }
@@ -71,7 +71,7 @@ fn is_known(table: &[Slot], index: &[u16], used: usize, scope: usize, p: Parts) 
 // Whether a row breaks the condition: only one of an added field does.
 fn breaks(added: bool, table: &[Slot], index: &[u16], used: usize, scope: usize, p: Parts) -> bool
     requires { ⌜ Holds (now table) (now index) used ⌝ }
-    ensures { λ r. ⌜ r ≡ breaksT added (take used (now (table .entry))) scope p ⌝ }
+    ensures { λ r. ⌜ r ≡ aliasBreaksT added (take used (now (table .entry))) scope p ⌝ }
 {
     if !added {
         return false;
@@ -95,7 +95,7 @@ fn enter_name(
     p: Parts,
 ) -> usize
     requires { ⌜ Holds (now table) (now index) used ⌝ }
-    ensures { λ r. ⌜ ((r & now (table .exit)) ≡ enteredT added (now (table .entry)) used scope p) × Holds (now (table .exit)) (now (index .exit)) r ⌝ }
+    ensures { λ r. ⌜ ((r & now (table .exit)) ≡ aliasEnteredT added (now (table .entry)) used scope p) × Holds (now (table .exit)) (now (index .exit)) r ⌝ }
 {
     if !added {
         return used;
@@ -116,7 +116,7 @@ fn go_on(
     c: Cursor,
 ) -> Cursor
     requires { ⌜ Holds (now table) (now index) (c .used) ⌝ }
-    ensures { λ r. ⌜ ((r & now (table .exit) & now (scopes .exit)) ≡ onT p i (now (table .entry)) (now (scopes .entry)) c) × Holds (now (table .exit)) (now (index .exit)) (r .used) ⌝ }
+    ensures { λ r. ⌜ ((r & now (table .exit) & now (scopes .exit)) ≡ aliasOnT p i (now (table .entry)) (now (scopes .entry)) c) × Holds (now (table .exit)) (now (index .exit)) (r .used) ⌝ }
 {
     let scope = here(scopes, c.depth);
     let used = enter_name(c.added, table, index, c.used, scope, p);
@@ -148,7 +148,7 @@ fn go_past(
 
 // The cursor at row i: whether its field is added.
 fn at_row(p: Parts, claim: &[u8], next: usize, c: Cursor) -> Cursor
-    ensures { λ r. ⌜ r ≡ atT p (rowsAt (now (claim .entry)) next) c ⌝ }
+    ensures { λ r. ⌜ r ≡ aliasAtT p (rowsAt (now (claim .entry)) next) c ⌝ }
 {
     Cursor {
         depth: c.depth,
@@ -167,7 +167,7 @@ fn go_over(
     c: Cursor,
 ) -> Turn
     requires { ⌜ Holds (now table) (now index) (c .used) × (i < length (now claim) / 16) ⌝ }
-    ensures { λ r. ⌜ ((r & now (table .exit) & now (scopes .exit)) ≡ turnT (rowsAt (now (claim .entry)) i) i (now (table .entry)) (now (scopes .entry)) c) × HeldBy r (now (table .exit)) (now (index .exit)) ⌝ }
+    ensures { λ r. ⌜ ((r & now (table .exit) & now (scopes .exit)) ≡ aliasTurnT (rowsAt (now (claim .entry)) i) i (now (table .entry)) (now (scopes .entry)) c) × HeldBy r (now (table .exit)) (now (index .exit)) ⌝ }
 {
     let p = parts_at(claim, i);
     go_past(p, i, table, index, scopes, at_row(p, claim, i + 1, c))
@@ -176,7 +176,7 @@ fn go_over(
 // Tries condition 3 on the rows of a claim. The names of added fields are entered in the table as they come.
 pub fn try_aliases(claim: &[u8], table: &mut [Slot], index: &mut [u16]) -> Tried
     requires { ⌜ Holds (now table) (now index) 0 ⌝ }
-    ensures { λ r. ⌜ (r & now (table .exit)) ≡ laidBy (aliasesT (length (now (table .entry))) 0 false [] [] (rowsAt (now (claim .entry)) 0)) (now (table .entry)) ⌝ }
+    ensures { λ r. ⌜ (r & now (table .exit)) ≡ laidBy (tryAliasesT (length (now (table .entry))) 0 false [] [] (rowsAt (now (claim .entry)) 0)) (now (table .entry)) ⌝ }
 {
     let n = claim.len() / 16;
     let mut scopes: [Scope; SCOPES] = [[0usize; 4]; SCOPES];

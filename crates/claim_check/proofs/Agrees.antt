@@ -20,7 +20,7 @@ use Rattle.rules.specs.Rules.{Result, ok, resolve}
 use Rattle.rules.specs.Answer.{AnswerOf, refused, accepted, hasHeader, settingOf, rowCount}
 use Rattle.rules.specs.Laws.ToolLaws.{and-right}
 use Rattle.rules.specs.Laws.RowLaws.{Bytes, bytes-drop}
-use Rattle.rules.specs.Laws.Demand3.{Usual, all-usual}
+use Rattle.rules.specs.Laws.InputLaws.{Usual, all-usual}
 use Rattle.read_form.specs.ReadForm.{readForm}
 use Rattle.read_form.specs.Laws.ReadFormLaws.{ReadAs, read-exactly}
 use Rattle.checking.specs.Check
@@ -39,12 +39,12 @@ use Rattle.names.specs.Table.{Slot, emptySlot}
 use Rattle.claim_rows.specs.Left.{rowsAt}
 use Rattle.claim_rows.specs.declared.Tried.{Tried}
 use Rattle.claim_rows.specs.declared.Tried.the-variants.{Passes, Breaks}
-use Rattle.claim_aliases.specs.Aliases.{Names, aliasesT}
+use Rattle.claim_aliases.specs.Aliases.{Names, tryAliasesT}
 use Rattle.claim_numbers.specs.Enter.{entriesT}
 use Rattle.claim_laws.specs.SameRows.{tried}
 use Rattle.claim_laws.specs.NewNames.{answerIn}
 use Rattle.claim_laws.specs.OnBytes.{rows-count}
-use Rattle.claim_laws.specs.Together.{second-is, second-row, third-is, third-row, fourth-is, fourth-row}
+use Rattle.claim_laws.specs.Conditions.{second-is, second-row, third-is, third-row, fourth-is, fourth-row}
 use Rattle.claim_check.specs.Meaning.{Said, meaning, ruled}
 use Rattle.claim_check.specs.Run.{Kept, versionOf, bodyOf, unlessT, triedIn, fourthT, thirdT, conditionsT, claimBy, stepsBy, inputBy, judgeT, inputOf, smallBy, smallT, decideT}
 use Rattle.claim_check.specs.declared.Verdict.{Verdict}

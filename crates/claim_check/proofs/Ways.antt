@@ -17,11 +17,11 @@ use Rattle.claim_rows.specs.Same.{differsT}
 use Rattle.claim_rows.specs.declared.Tried.{Tried}
 use Rattle.claim_rows.specs.declared.Tried.the-variants.{Passes, Breaks}
 use Rattle.claim_scopes.specs.Entries.{laidT}
-use Rattle.claim_aliases.specs.Aliases.{Names, aliasesT}
+use Rattle.claim_aliases.specs.Aliases.{Names, tryAliasesT}
 use Rattle.claim_aliases.specs.Aliases as aliases
 use Rattle.claim_numbers.specs.Enter.{entriesT}
 use Rattle.claim_numbers.specs.Enter as numbers
-use Rattle.claim_operands.specs.Operands.{operandsT}
+use Rattle.claim_operands.specs.Operands.{tryOperandsT}
 use Rattle.claim_check.specs.Run.{Fit, noT, unlessT, triedIn, fourthT, thirdT, conditionsT}
 use Rattle.claim_check.specs.declared.Verdict.{Verdict}
 use Rattle.claim_check.specs.declared.Verdict.the-variants.{Yes}
@@ -72,9 +72,9 @@ tried-laid t table table′ (a & ss) e = ap first e
     first : Out Tried (List Slot) → Tried
     first (a & b) = a
 
-module _ (input claim : List ℕ) (table table′ : List Slot) (t : Tried) (e : (t & table′) ≡ aliases.laidBy (aliasesT (length table) 0 false [] [] (rowsAt claim 0)) table) where
-  tried-is : t ≡ triedIn (aliasesT (length table) 0 false [] [] (rowsAt claim 0))
-  tried-is = tried-laid t table table′ (aliasesT (length table) 0 false [] [] (rowsAt claim 0)) e
+module _ (input claim : List ℕ) (table table′ : List Slot) (t : Tried) (e : (t & table′) ≡ aliases.laidBy (tryAliasesT (length table) 0 false [] [] (rowsAt claim 0)) table) where
+  tried-is : t ≡ triedIn (tryAliasesT (length table) 0 false [] [] (rowsAt claim 0))
+  tried-is = tried-laid t table table′ (tryAliasesT (length table) 0 false [] [] (rowsAt claim 0)) e
 
   pub third-breaks : (row : ℕ) (v : Verdict) → t ≡ Breaks row → v ≡ noT 3 row → v ≡ thirdT input claim (length table)
   unfolding thirdT unlessT
@@ -102,12 +102,12 @@ module _ (ss table table′ : List Slot) (used : ℕ) (e : (used & table′) ≡
       second : Out ℕ (List Slot) → List Slot
       second (a & b) = b
 
-module _ (input claim : List ℕ) (table table′ : List Slot) (used : ℕ) (e : (used & table′) ≡ numbers.laidBy (entriesT (length table) 0 false [] [] [] (rowsAt claim 0)) table) (t : Tried) (w : t ≡ operandsT (take used table′) claim used 0 false [] (rowsAt claim 0) (rowsAt input 0)) where
+module _ (input claim : List ℕ) (table table′ : List Slot) (used : ℕ) (e : (used & table′) ≡ numbers.laidBy (entriesT (length table) 0 false [] [] [] (rowsAt claim 0)) table) (t : Tried) (w : t ≡ tryOperandsT (take used table′) claim used 0 false [] (rowsAt claim 0) (rowsAt input 0)) where
   abbrev ss : List Slot
   ss = entriesT (length table) 0 false [] [] [] (rowsAt claim 0)
 
-  fourth-is : t ≡ operandsT ss claim (length ss) 0 false [] (rowsAt claim 0) (rowsAt input 0)
-  fourth-is = w ∙ ap (λ (l : List Slot). operandsT l claim used 0 false [] (rowsAt claim 0) (rowsAt input 0)) (slots-are ss table table′ used e) ∙ ap (λ (n : ℕ). operandsT ss claim n 0 false [] (rowsAt claim 0) (rowsAt input 0)) (used-is ss table table′ used e)
+  fourth-is : t ≡ tryOperandsT ss claim (length ss) 0 false [] (rowsAt claim 0) (rowsAt input 0)
+  fourth-is = w ∙ ap (λ (l : List Slot). tryOperandsT l claim used 0 false [] (rowsAt claim 0) (rowsAt input 0)) (slots-are ss table table′ used e) ∙ ap (λ (n : ℕ). tryOperandsT ss claim n 0 false [] (rowsAt claim 0) (rowsAt input 0)) (used-is ss table table′ used e)
 
   pub fourth-breaks : (row : ℕ) (v : Verdict) → t ≡ Breaks row → v ≡ noT 4 row → v ≡ fourthT input claim (length table)
   unfolding fourthT unlessT

@@ -28,9 +28,9 @@ use Rattle.claim_rows.specs.Left.{rowsAt}
 use Rattle.claim_rows.specs.Same.{differsT}
 use Rattle.claim_rows.specs.declared.Tried.{Tried}
 use Rattle.claim_rows.specs.declared.Tried.the-variants.{Passes, Breaks}
-use Rattle.claim_aliases.specs.Aliases.{Names, aliasesT}
+use Rattle.claim_aliases.specs.Aliases.{Names, tryAliasesT}
 use Rattle.claim_numbers.specs.Enter.{entriesT}
-use Rattle.claim_operands.specs.Operands.{operandsT}
+use Rattle.claim_operands.specs.Operands.{tryOperandsT}
 use Rattle.claim_check.specs.declared.Verdict.{Verdict}
 use Rattle.claim_check.specs.declared.Verdict.the-variants.{Yes, No, Refused}
 
@@ -60,11 +60,11 @@ triedIn (a & ss) = a
 unfoldable pub fourthT : (input claim : List ℕ) (room : ℕ) → Verdict
 fourthT input claim room =
     let ss = entriesT room 0 false [] [] [] (rowsAt claim 0) in
-    unlessT 4 (operandsT ss claim (length ss) 0 false [] (rowsAt claim 0) (rowsAt input 0)) Yes
+    unlessT 4 (tryOperandsT ss claim (length ss) 0 false [] (rowsAt claim 0) (rowsAt input 0)) Yes
 
 -- condition 3 and then 4, where condition 2 holds
 unfoldable pub thirdT : (input claim : List ℕ) (room : ℕ) → Verdict
-thirdT input claim room = unlessT 3 (triedIn (aliasesT room 0 false [] [] (rowsAt claim 0))) (fourthT input claim room)
+thirdT input claim room = unlessT 3 (triedIn (tryAliasesT room 0 false [] [] (rowsAt claim 0))) (fourthT input claim room)
 
 -- the conditions on the rows of both forms
 unfoldable pub conditionsT : (input claim : List ℕ) (room : ℕ) → Verdict

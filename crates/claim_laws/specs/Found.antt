@@ -21,8 +21,8 @@ use Rattle.rules.specs.Rules.{find}
 use Rattle.rules.specs.Readings.{isFresh, isInserted}
 use Rattle.rules.specs.Laws.ToolLaws.{All, done, _&_, leb-le, false-not}
 use Rattle.rules.specs.Laws.Results.{if-both}
-use Rattle.claim_scopes.specs.Entries.{keyT, slotT}
-use Rattle.claim_numbers.specs.Count.{moreT}
+use Rattle.claim_scopes.specs.Entries.{entryKeyT, slotT}
+use Rattle.claim_numbers.specs.Count.{moreCountT}
 use Rattle.claim_numbers.specs.Enter.{declSlot}
 use Rattle.claim_laws.specs.RowParts.{asParts}
 use Rattle.claim_laws.specs.Keys.{key-is}
@@ -35,25 +35,25 @@ pub record Counts (c : List ℕ) (m : ℕ) : Type 0 where
   pub long : length c ≡ 13
   pub few : (s : ℕ) → getD c s 0 ≤ m
 
-more-same : (c : List ℕ) (m s : ℕ) → Counts c m → m < 65536 → s < 13 → getD (moreT c s) s 0 ≡ suc (getD c s 0)
-unfolding moreT
+more-same : (c : List ℕ) (m s : ℕ) → Counts c m → m < 65536 → s < 13 → getD (moreCountT c s) s 0 ≡ suc (getD c s 0)
+unfolding moreCountT
 more-same c m s C l h =
     let f = C .few s in
     let long = C .long in
     let e : getD c s 0 % 65536 + 1 ≡ suc (getD c s 0) = omega arith in
     getD-set-same c s _ 0 (omega arith) ∙ e
 
-more-other : (c : List ℕ) (s t : ℕ) → (s ≡ t → ⊥) → getD (moreT c s) t 0 ≡ getD c t 0
-unfolding moreT
+more-other : (c : List ℕ) (s t : ℕ) → (s ≡ t → ⊥) → getD (moreCountT c s) t 0 ≡ getD c t 0
+unfolding moreCountT
 more-other c s t n = getD-set-other c s t _ 0 (λ e. n (sym e))
 
-more-counts : (c : List ℕ) (m s : ℕ) → Counts c m → m < 65536 → s < 13 → Counts (moreT c s) (suc m)
-more-counts c m s C l h = record { long = unfold moreT in (length-set c s _ ∙ C .long); few = few }
+more-counts : (c : List ℕ) (m s : ℕ) → Counts c m → m < 65536 → s < 13 → Counts (moreCountT c s) (suc m)
+more-counts c m s C l h = record { long = unfold moreCountT in (length-set c s _ ∙ C .long); few = few }
   where
-    few : (t : ℕ) → getD (moreT c s) t 0 ≤ suc m
+    few : (t : ℕ) → getD (moreCountT c s) t 0 ≤ suc m
     few t = go (eqb s t) refl
       where
-        go : (b : Bool) → eqb s t ≡ b → getD (moreT c s) t 0 ≤ suc m
+        go : (b : Bool) → eqb s t ≡ b → getD (moreCountT c s) t 0 ≤ suc m
         go true e = let q : s ≡ t = eqb-true s t e in let f = C .few s in rw (← q, more-same c m s C l h) (omega arith)
         go false e = let f = C .few t in rw (more-other c s t (λ q. false-not (sym e ∙ eq-eqb s t q))) (omega arith)
 
@@ -99,20 +99,20 @@ module _ (k : ℕ) (low : suc k < 65536) (space : ℕ) (narrow : space < 256) wh
   alias-slot c x e = rw e
 
   -- an alias is entered under another key than a name of any space
-  alias-apart : (s number row : ℕ) → s < 256 → spaceOf (slotT (k % 65536 + 1) s number row) ≡ keyT k space → ⊥
+  alias-apart : (s number row : ℕ) → s < 256 → spaceOf (slotT (k % 65536 + 1) s number row) ≡ entryKeyT k space → ⊥
   unfolding slotT
   alias-apart s number row h e =
       let m : k % 65536 ≡ k = omega arith in
       let a = key-is k space (omega arith) in
-      let b : keyT (k % 65536 + 1) s ≡ 257 * (k + 1) + s = rw m (key-is (k + 1) s (omega arith)) in
+      let b : entryKeyT (k % 65536 + 1) s ≡ 257 * (k + 1) + s = rw m (key-is (k + 1) s (omega arith)) in
       omega arith
 
-  own-key : (s name number : ℕ) → (s ≡ space → ⊥) → spaceOf (slotT k s name number) ≡ keyT k space → ⊥
+  own-key : (s name number : ℕ) → (s ≡ space → ⊥) → spaceOf (slotT k s name number) ≡ entryKeyT k space → ⊥
   unfolding slotT
   own-key s name number n e = let a = key-is k space (omega arith) in let b = key-is k s (omega arith) in n (omega arith)
 
   -- one declaration further
-  skip : (c : List ℕ) (m s : ℕ) (o : Option ℕ) (b : Bool) → Counts c m → m < 65536 → s < 13 → eqb s space ≡ b → numberFrom (getD (moreT c s) space 0) o ≡ numberFrom (getD c space 0) (if b then Option·map suc o else o)
+  skip : (c : List ℕ) (m s : ℕ) (o : Option ℕ) (b : Bool) → Counts c m → m < 65536 → s < 13 → eqb s space ≡ b → numberFrom (getD (moreCountT c s) space 0) o ≡ numberFrom (getD c space 0) (if b then Option·map suc o else o)
   unfolding if_then_else_
   skip c m s o true C l h e = let q : s ≡ space = eqb-true s space e in rw (← q, more-same c m s C l h) (from-next (getD c s 0) o)
   skip c m s o false C l h e = rw (more-other c s space (λ q. false-not (sym e ∙ eq-eqb s space q)))
@@ -135,22 +135,22 @@ module _ (k : ℕ) (low : suc k < 65536) (space : ℕ) (narrow : space < 256) wh
   low-fresh a name f l e = let h = leb-le 2147483648 a f in omega arith
 
   meet-own : (c : List ℕ) (x : Declared) (rest : List Slot) (name : ℕ) (b : Bool) → isInserted (x .head) ≡ false → x .decl .space ≡ space → eqb (x .decl .name) name ≡ b
-      → findIn (slotOf k c x ∷ rest) (keyT k space) name ≡ pick b (At (getD c space 0)) (findIn rest (keyT k space) name)
+      → findIn (slotOf k c x ∷ rest) (entryKeyT k space) name ≡ pick b (At (getD c space 0)) (findIn rest (entryKeyT k space) name)
   unfolding slotT
   meet-own c x rest name b p e u =
-      rw (own-slot c x p) (meet-slot (slotT k (x .decl .space) (x .decl .name) (getD c (x .decl .space) 0)) rest (keyT k space) name b (rw e) u ∙ rw e)
+      rw (own-slot c x p) (meet-slot (slotT k (x .decl .space) (x .decl .name) (getD c (x .decl .space) 0)) rest (entryKeyT k space) name b (rw e) u ∙ rw e)
 
   abbrev NamesFound : (c : List ℕ) (name : ℕ) → List Declared → Type 0
-  NamesFound c name xs = findIn (slotsOf k c xs) (keyT k space) name ≡ numberFrom (getD c space 0) (find (declsOf xs) space name)
+  NamesFound c name xs = findIn (slotsOf k c xs) (entryKeyT k space) name ≡ numberFrom (getD c space 0) (find (declsOf xs) space name)
 
   -- a declaration that is passed over
-  names-past : (c : List ℕ) (m name : ℕ) (x : Declared) (xs : List Declared) → Counts c m → m < 65536 → Apt x → NamesFound (moreT c (x .decl .space)) name xs
-      → findIn (slotsOf k c (x ∷ xs)) (keyT k space) name ≡ findIn (slotsOf k (moreT c (x .decl .space)) xs) (keyT k space) name
+  names-past : (c : List ℕ) (m name : ℕ) (x : Declared) (xs : List Declared) → Counts c m → m < 65536 → Apt x → NamesFound (moreCountT c (x .decl .space)) name xs
+      → findIn (slotsOf k c (x ∷ xs)) (entryKeyT k space) name ≡ findIn (slotsOf k (moreCountT c (x .decl .space)) xs) (entryKeyT k space) name
       → find (declsOf (x ∷ xs)) space name ≡ (if eqb (x .decl .space) space then Option·map suc (find (declsOf xs) space name) else find (declsOf xs) space name) → NamesFound c name (x ∷ xs)
   names-past c m name x xs C l A f e g = e ∙ (f ∙ (skip c m (x .decl .space) (find (declsOf xs) space name) (eqb (x .decl .space) space) C l (A .space) refl ∙ rw g))
 
   names-next : (c : List ℕ) (m name : ℕ) (x : Declared) (xs : List Declared) (a b t : Bool) → isInserted (x .head) ≡ a → eqb (x .decl .space) space ≡ b → eqb (x .decl .name) name ≡ t → name ≤ topName → Counts c m → m < 65536 → Apt x
-      → NamesFound (moreT c (x .decl .space)) name xs → NamesFound c name (x ∷ xs)
+      → NamesFound (moreCountT c (x .decl .space)) name xs → NamesFound c name (x ∷ xs)
   unfolding slotsOf pick numberFrom
   names-next c m name x xs true b t p q u n C l A f =
       let h = A .space in
@@ -171,7 +171,7 @@ module _ (k : ℕ) (low : suc k < 65536) (space : ℕ) (narrow : space < 256) wh
   names-found [] c m name n C l done = refl
   names-found (x ∷ xs) c m name n C l (A & As) =
       names-next c m name x xs (isInserted (x .head)) (eqb (x .decl .space) space) (eqb (x .decl .name) name) refl refl refl n C (omega arith) A
-      (names-found xs (moreT c (x .decl .space)) (suc m) name n (more-counts c m (x .decl .space) C (omega arith) (A .space)) (omega arith) As)
+      (names-found xs (moreCountT c (x .decl .space)) (suc m) name n (more-counts c m (x .decl .space) C (omega arith) (A .space)) (omega arith) As)
 
 -- ---- by number
 
@@ -188,7 +188,7 @@ aliasFrom (some x) = if isInserted (x .head) then At (x .row % 65536) else Nothi
 
 module _ (k : ℕ) (low : suc k < 65536) (space : ℕ) (narrow : space < 256) where
   abbrev key : ℕ
-  key = keyT (k + 1) space
+  key = entryKeyT (k + 1) space
 
   own-apart : (s name number : ℕ) → s < 256 → spaceOf (slotT k s name number) ≡ key → ⊥
   unfolding slotT
@@ -199,7 +199,7 @@ module _ (k : ℕ) (low : suc k < 65536) (space : ℕ) (narrow : space < 256) wh
   other-alias s number row n e =
       let m : k % 65536 ≡ k = omega arith in
       let a = key-is (k + 1) space (omega arith) in
-      let b : keyT (k % 65536 + 1) s ≡ 257 * (k + 1) + s = rw m (key-is (k + 1) s (omega arith)) in
+      let b : entryKeyT (k % 65536 + 1) s ≡ 257 * (k + 1) + s = rw m (key-is (k + 1) s (omega arith)) in
       n (omega arith)
 
   -- a slot that is passed over
@@ -216,13 +216,13 @@ module _ (k : ℕ) (low : suc k < 65536) (space : ℕ) (narrow : space < 256) wh
       go true p = record { passed = rw (alias-slot k low space narrow c x p) (other-alias (x .decl .space) (getD c (x .decl .space) 0 % 65536 + 1) (x .row % 65536) (λ e. false-not (sym q ∙ eq-eqb (x .decl .space) space e))) }
       go false p = own-passed c x A p
 
-  past-slot : (c : List ℕ) (x : Declared) (xs : List Declared) (name : ℕ) → Passed c x → findIn (slotsOf k c (x ∷ xs)) key name ≡ findIn (slotsOf k (moreT c (x .decl .space)) xs) key name
+  past-slot : (c : List ℕ) (x : Declared) (xs : List Declared) (name : ℕ) → Passed c x → findIn (slotsOf k c (x ∷ xs)) key name ≡ findIn (slotsOf k (moreCountT c (x .decl .space)) xs) key name
   unfolding slotsOf
   past-slot c x xs name P = pass-slot k low space narrow (slotOf k c x) _ key name (P .passed)
 
   -- an added alias of the space
   meet-alias : (c : List ℕ) (m : ℕ) (x : Declared) (xs : List Declared) (n : ℕ) (b : Bool) → Counts c m → m < 65536 → isInserted (x .head) ≡ true → x .decl .space ≡ space → eqb (suc (getD c space 0)) n ≡ b
-      → findIn (slotsOf k c (x ∷ xs)) key n ≡ pick b (At (x .row % 65536)) (findIn (slotsOf k (moreT c (x .decl .space)) xs) key n)
+      → findIn (slotsOf k c (x ∷ xs)) key n ≡ pick b (At (x .row % 65536)) (findIn (slotsOf k (moreCountT c (x .decl .space)) xs) key n)
   unfolding slotsOf slotT
   meet-alias c m x xs n b C l p e u =
       let f = C .few space in
@@ -233,7 +233,7 @@ module _ (k : ℕ) (low : suc k < 65536) (space : ℕ) (narrow : space < 256) wh
   -- one of the space, and those behind it
   record Onward (c : List ℕ) (x : Declared) : Type 0 where
     same : x .decl .space ≡ space
-    more : getD (moreT c (x .decl .space)) space 0 ≡ suc (getD c space 0)
+    more : getD (moreCountT c (x .decl .space)) space 0 ≡ suc (getD c space 0)
 
   onward : (c : List ℕ) (m : ℕ) (x : Declared) → Counts c m → m < 65536 → Apt x → eqb (x .decl .space) space ≡ true → Onward c x
   onward c m x C l A q =
@@ -245,7 +245,7 @@ module _ (k : ℕ) (low : suc k < 65536) (space : ℕ) (narrow : space < 256) wh
   abbrev Below : (c : List ℕ) → List Declared → Type 0
   Below c xs = (n : ℕ) → n < getD c space 0 → findIn (slotsOf k c xs) key (suc n) ≡ Nothing
 
-  below-next : (c : List ℕ) (m : ℕ) (x : Declared) (xs : List Declared) (a b : Bool) → isInserted (x .head) ≡ a → eqb (x .decl .space) space ≡ b → Counts c m → m < 65536 → Apt x → Below (moreT c (x .decl .space)) xs → Below c (x ∷ xs)
+  below-next : (c : List ℕ) (m : ℕ) (x : Declared) (xs : List Declared) (a b : Bool) → isInserted (x .head) ≡ a → eqb (x .decl .space) space ≡ b → Counts c m → m < 65536 → Apt x → Below (moreCountT c (x .decl .space)) xs → Below c (x ∷ xs)
   unfolding pick
   below-next c m x xs a false p q C l A f n h = past-slot c x xs (suc n) (other-passed c x A q) ∙ f n (rw (more-other c (x .decl .space) space (λ e. false-not (sym q ∙ eq-eqb (x .decl .space) space e))) h)
   below-next c m x xs false true p q C l A f n h =
@@ -261,7 +261,7 @@ module _ (k : ℕ) (low : suc k < 65536) (space : ℕ) (narrow : space < 256) wh
   below [] c m C l done n h = refl
   below (x ∷ xs) c m C l (A & As) n h =
       below-next c m x xs (isInserted (x .head)) (eqb (x .decl .space) space) refl refl C (omega arith) A
-      (below xs (moreT c (x .decl .space)) (suc m) (more-counts c m (x .decl .space) C (omega arith) (A .space)) (omega arith) As) n h
+      (below xs (moreCountT c (x .decl .space)) (suc m) (more-counts c m (x .decl .space) C (omega arith) (A .space)) (omega arith) As) n h
 
   abbrev AliasesFound : (c : List ℕ) → List Declared → Type 0
   AliasesFound c xs = (e : ℕ) → findIn (slotsOf k c xs) key (suc (getD c space 0 + e)) ≡ aliasFrom (nthOf xs space e)
@@ -279,11 +279,11 @@ module _ (k : ℕ) (low : suc k < 65536) (space : ℕ) (narrow : space < 256) wh
   unfolding nthOf if_then_else_
   nth-later x xs e q = rw q
 
-  later : (c : List ℕ) (x : Declared) (xs : List Declared) (e : ℕ) → Onward c x → AliasesFound (moreT c (x .decl .space)) xs → findIn (slotsOf k (moreT c (x .decl .space)) xs) key (suc (getD c space 0 + suc e)) ≡ aliasFrom (nthOf xs space e)
+  later : (c : List ℕ) (x : Declared) (xs : List Declared) (e : ℕ) → Onward c x → AliasesFound (moreCountT c (x .decl .space)) xs → findIn (slotsOf k (moreCountT c (x .decl .space)) xs) key (suc (getD c space 0 + suc e)) ≡ aliasFrom (nthOf xs space e)
   later c x xs e O f = let n : suc (getD c space 0) + e ≡ getD c space 0 + suc e = omega arith in rw (← n) (rw (O .more) at (f e))
 
-  aliases-next : (c : List ℕ) (m : ℕ) (x : Declared) (xs : List Declared) (a b : Bool) → isInserted (x .head) ≡ a → eqb (x .decl .space) space ≡ b → Counts c m → m < 65536 → Apt x → Below (moreT c (x .decl .space)) xs
-      → AliasesFound (moreT c (x .decl .space)) xs → AliasesFound c (x ∷ xs)
+  aliases-next : (c : List ℕ) (m : ℕ) (x : Declared) (xs : List Declared) (a b : Bool) → isInserted (x .head) ≡ a → eqb (x .decl .space) space ≡ b → Counts c m → m < 65536 → Apt x → Below (moreCountT c (x .decl .space)) xs
+      → AliasesFound (moreCountT c (x .decl .space)) xs → AliasesFound c (x ∷ xs)
   unfolding pick aliasFrom if_then_else_
   aliases-next c m x xs a false p q C l A low₁ f e =
       let t = more-other c (x .decl .space) space (λ g. false-not (sym q ∙ eq-eqb (x .decl .space) space g)) in
@@ -306,12 +306,12 @@ module _ (k : ℕ) (low : suc k < 65536) (space : ℕ) (narrow : space < 256) wh
   aliases-found [] c m C l done e = refl
   aliases-found (x ∷ xs) c m C l (A & As) e =
       let D = more-counts c m (x .decl .space) C (omega arith) (A .space) in
-      aliases-next c m x xs (isInserted (x .head)) (eqb (x .decl .space) space) refl refl C (omega arith) A (below xs (moreT c (x .decl .space)) (suc m) D (omega arith) As)
-      (aliases-found xs (moreT c (x .decl .space)) (suc m) D (omega arith) As) e
+      aliases-next c m x xs (isInserted (x .head)) (eqb (x .decl .space) space) refl refl C (omega arith) A (below xs (moreCountT c (x .decl .space)) (suc m) D (omega arith) As)
+      (aliases-found xs (moreCountT c (x .decl .space)) (suc m) D (omega arith) As) e
 
   -- no alias has the number 0, counted from 1
   zero-next : (c : List ℕ) (m : ℕ) (x : Declared) (xs : List Declared) (a b : Bool) → isInserted (x .head) ≡ a → eqb (x .decl .space) space ≡ b → Counts c m → m < 65536 → Apt x
-      → findIn (slotsOf k c (x ∷ xs)) key 0 ≡ findIn (slotsOf k (moreT c (x .decl .space)) xs) key 0
+      → findIn (slotsOf k c (x ∷ xs)) key 0 ≡ findIn (slotsOf k (moreCountT c (x .decl .space)) xs) key 0
   unfolding pick
   zero-next c m x xs a false p q C l A = past-slot c x xs 0 (other-passed c x A q)
   zero-next c m x xs false true p q C l A = past-slot c x xs 0 (own-passed c x A p)
@@ -322,7 +322,7 @@ module _ (k : ℕ) (low : suc k < 65536) (space : ℕ) (narrow : space < 256) wh
   zero-nothing [] c m C l done = refl
   zero-nothing (x ∷ xs) c m C l (A & As) =
       zero-next c m x xs (isInserted (x .head)) (eqb (x .decl .space) space) refl refl C (omega arith) A
-      ∙ zero-nothing xs (moreT c (x .decl .space)) (suc m) (more-counts c m (x .decl .space) C (omega arith) (A .space)) (omega arith) As
+      ∙ zero-nothing xs (moreCountT c (x .decl .space)) (suc m) (more-counts c m (x .decl .space) C (omega arith) (A .space)) (omega arith) As
 
 -- there are no more of a space than declarations
 pub nth-past : (xs : List Declared) (space e : ℕ) → length xs ≤ e → nthOf xs space e ≡ none

@@ -11,7 +11,7 @@ use Rattle.names.specs.Table.{Slot, spaceOf, nameOf, numberOf, findIn}
 use Rattle.names.specs.declared.Found.{Found}
 use Rattle.names.specs.declared.Found.the-variants.{At, Nothing}
 use Rattle.rules.specs.Laws.ToolLaws.{All, done, _&_, all-map}
-use Rattle.claim_scopes.specs.Entries.{keyT}
+use Rattle.claim_scopes.specs.Entries.{entryKeyT}
 
 -- ---- slots one behind another
 
@@ -65,15 +65,15 @@ pub wider : (lo hi lo′ hi′ : ℕ) (ss : List Slot) → lo′ ≤ lo → hi �
 wider lo hi lo′ hi′ ss l h p =
     all-map ss (λ s o. let a = o .low in let b = o .high in record { low = omega arith; high = omega arith }) p
 
-pub key-is : (k space : ℕ) → k < 65536 → keyT k space ≡ 257 * k + space
-unfolding keyT
+pub key-is : (k space : ℕ) → k < 65536 → entryKeyT k space ≡ 257 * k + space
+unfolding entryKeyT
 key-is k space l = let e : k % 65536 ≡ k = omega arith in rw e (omega arith)
 
-pub key-within : (k space : ℕ) → k < 65536 → space < 256 → (257 * k ≤ keyT k space) × (keyT k space < 257 * (k + 1))
+pub key-within : (k space : ℕ) → k < 65536 → space < 256 → (257 * k ≤ entryKeyT k space) × (entryKeyT k space < 257 * (k + 1))
 key-within k space l h = let e = key-is k space l in (omega arith, omega arith)
 
 -- none of them is of a scope outside of these rows
-pub outside : (lo hi k space : ℕ) (ss : List Slot) → k < 65536 → space < 256 → Within lo hi ss → (k < lo → All (Other (keyT k space)) ss) × (hi ≤ k → All (Other (keyT k space)) ss)
+pub outside : (lo hi k space : ℕ) (ss : List Slot) → k < 65536 → space < 256 → Within lo hi ss → (k < lo → All (Other (entryKeyT k space)) ss) × (hi ≤ k → All (Other (entryKeyT k space)) ss)
 outside lo hi k space ss l h p =
     let w = key-within k space l h in
     let a = w .0 in

@@ -23,14 +23,14 @@ use Rattle.rules.specs.Good.{GoodHead, GoodScope, GoodFields, GoodItem}
 use Rattle.rules.specs.Rules.{find, declarations}
 use Rattle.rules.specs.Readings.{isFresh, isInserted, level, Spot, original, inserted, Standing, inOriginal, inInserted, standings, ofSpace, counted}
 use Rattle.rules.specs.Laws.ToolLaws.{All, done, _&_, all-append, all-map, Ok, if-ok, false-not}
-use Rattle.agree.specs.Spaces.{SpacesDecls}
-use Rattle.agree.specs.GoodSpaces.{head-decls}
+use Rattle.agree.specs.Fit.Spaces.{SpacesDecls}
+use Rattle.agree.specs.Fit.GoodSpaces.{head-decls}
 use Rattle.checking.specs.Check.{ifAdded, reached, notNumber}
 use Rattle.checking.specs.Laws.AddedFields.{Added, IsAdded, added-head, AddedScope, AddedFields, AddedItem}
-use Rattle.claim_scopes.specs.Entries.{keyT, slotT}
-use Rattle.claim_numbers.specs.Count.{noCounts, moreT}
+use Rattle.claim_scopes.specs.Entries.{entryKeyT, slotT}
+use Rattle.claim_numbers.specs.Count.{noCounts, moreCountT}
 use Rattle.claim_numbers.specs.Enter.{declSlot}
-use Rattle.claim_reach.specs.Alias.{countedT}
+use Rattle.claim_reach.specs.Alias.{reachCountedT}
 use Rattle.claim_laws.specs.RowParts.{asParts, scope-size, fields-size, holds-size, head-size, head-decls-size, item-size, Stands, stands-first, stands-second}
 use Rattle.claim_laws.specs.Keys.{find-append, find-other, other-first, other-last, orFound, Other, Of, Within, wider, key-is, key-within}
 use Rattle.claim_laws.specs.AliasShape.{good-head, AliasOf, alias-of}
@@ -154,8 +154,8 @@ alias-at at (some x) p = go (isInserted (x .head)) refl
 
 -- of the scope whose OPEN is row k, among these slots
 pub record Known (at : ℕ → Parts) (ss : List Slot) (k : ℕ) (fs : Fields) : Type 0 where
-  pub names : (space name : ℕ) → space < 256 → name ≤ topName → findIn ss (keyT k space) name ≡ numberFrom 0 (find (declarations fs) space name)
-  pub aliases : (space m : ℕ) → space < 256 → AliasAt at (findIn ss (keyT (k + 1) space) (countedT m)) (reached fs space m)
+  pub names : (space name : ℕ) → space < 256 → name ≤ topName → findIn ss (entryKeyT k space) name ≡ numberFrom 0 (find (declarations fs) space name)
+  pub aliases : (space m : ℕ) → space < 256 → AliasAt at (findIn ss (entryKeyT (k + 1) space) (reachCountedT m)) (reached fs space m)
 
 no-counts : (s : ℕ) → getD noCounts s 0 ≡ 0
 no-counts s = copies-at 13 s 0
@@ -163,12 +163,12 @@ no-counts s = copies-at 13 s 0
 start-counts : Counts noCounts 0
 start-counts = record { long = refl; few = λ s. let e = no-counts s in omega arith }
 
-counted-low : (m : ℕ) → m < 65536 → countedT m ≡ suc m
-unfolding countedT pick
+counted-low : (m : ℕ) → m < 65536 → reachCountedT m ≡ suc m
+unfolding reachCountedT pick
 counted-low m l = rw (lt-ltb _ _ l) (omega arith)
 
-counted-high : (m : ℕ) → 65536 ≤ m → countedT m ≡ 0
-unfolding countedT pick
+counted-high : (m : ℕ) → 65536 ≤ m → reachCountedT m ≡ 0
+unfolding reachCountedT pick
 counted-high m l = rw (le-ltb _ _ l)
 
 pub own-known : (at : ℕ → Parts) (k : ℕ) (fs : Fields) → suc k < 65536 → length (declaredIn (suc k) fs) ≤ 65536 → All Apt (declaredIn (suc k) fs) → All (PlacedIf at) (declaredIn (suc k) fs) → Known at (slotsOf k noCounts (declaredIn (suc k) fs)) k fs
@@ -177,19 +177,19 @@ own-known at k fs low few A P = record { names = names; aliases = λ space m nar
     xs : List Declared
     xs = declaredIn (suc k) fs
 
-    names : (space name : ℕ) → space < 256 → name ≤ topName → findIn (slotsOf k noCounts xs) (keyT k space) name ≡ numberFrom 0 (find (declarations fs) space name)
+    names : (space name : ℕ) → space < 256 → name ≤ topName → findIn (slotsOf k noCounts xs) (entryKeyT k space) name ≡ numberFrom 0 (find (declarations fs) space name)
     names space name narrow l =
         let e = no-counts space in
         names-found k low space narrow xs noCounts 0 name l start-counts (omega arith) A ∙ rw (e, decls-declared (suc k) fs)
 
-    low-number : (space m : ℕ) → space < 256 → m < 65536 → AliasAt at (findIn (slotsOf k noCounts xs) (keyT (k + 1) space) (countedT m)) (reached fs space m)
+    low-number : (space m : ℕ) → space < 256 → m < 65536 → AliasAt at (findIn (slotsOf k noCounts xs) (entryKeyT (k + 1) space) (reachCountedT m)) (reached fs space m)
     low-number space m narrow l =
         let e = no-counts space in
-        let f : findIn (slotsOf k noCounts xs) (keyT (k + 1) space) (suc m) ≡ aliasFrom (nthOf xs space m) =
+        let f : findIn (slotsOf k noCounts xs) (entryKeyT (k + 1) space) (suc m) ≡ aliasFrom (nthOf xs space m) =
         let q : suc (getD noCounts space 0 + m) ≡ suc m = omega arith in rw q at (aliases-found k low space narrow xs noCounts 0 start-counts (omega arith) A m) in
         rw (counted-low m l, f, reached-nth (suc k) fs space m) (alias-at at (nthOf xs space m) (nth-all (PlacedIf at) xs space m P))
 
-    high-number : (space m : ℕ) → space < 256 → 65536 ≤ m → AliasAt at (findIn (slotsOf k noCounts xs) (keyT (k + 1) space) (countedT m)) (reached fs space m)
+    high-number : (space m : ℕ) → space < 256 → 65536 ≤ m → AliasAt at (findIn (slotsOf k noCounts xs) (entryKeyT (k + 1) space) (reachCountedT m)) (reached fs space m)
     high-number space m narrow l =
         rw (counted-high m l, zero-nothing k low space narrow xs noCounts 0 start-counts (omega arith) A, reached-nth (suc k) fs space m, nth-past xs space m (omega arith)) (unfold _then_ in nowhere)
 

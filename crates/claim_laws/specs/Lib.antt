@@ -21,4 +21,4 @@ pub mod OneOperand
 pub mod Operands
 -- The conditions on the bytes of an input and a claim.
 pub mod OnBytes
-pub mod Together
+pub mod Conditions

@@ -18,7 +18,7 @@ use Rattle.rules.specs.Readings.{isInserted}
 use Rattle.rules.specs.Laws.ToolLaws.{All, done, _&_}
 use Rattle.checking.specs.Laws.AddedFields.{IsAdded, AddedScope, AddedFields, AddedItem}
 use Rattle.claim_rows.specs.Added.{isAddedT}
-use Rattle.claim_scopes.specs.Open.{scopeT, closeT, openT}
+use Rattle.claim_scopes.specs.Open.{openScopeT, openClosedT, openOneT}
 use Rattle.claim_laws.specs.RowParts.{asParts, allParts, codeIn, NoDecl, behindField, operands-no-decl, any-fresh, fields-no-decl, scope-no-decl, Inner, inner-behind}
 
 pub record Mark : Type 0 where
@@ -35,7 +35,7 @@ unfoldable pub marksT : (i : ℕ) (added : Bool) (st : List (List ℕ)) → List
 marksT i added st [] = []
 marksT i added st (p ∷ ps) =
     let a = isAddedT added (p .code) ps in
-    mark a st i p ∷ marksT (i + 1) a (openT 64 st p i) ps
+    mark a st i p ∷ marksT (i + 1) a (openOneT 64 st p i) ps
 
 -- rows of one field, the first of them row n
 unfoldable pub rowMarks : (added : Bool) (st : List (List ℕ)) (n : ℕ) → List Row → List Mark
@@ -47,7 +47,7 @@ unfoldable mutual
   pub scopeMarks : (n : ℕ) (st : List (List ℕ)) → Scope → List Mark
   scopeMarks n st (scope kind name fs) =
       mark false st n (asParts (Open kind name))
-      ∷ (fieldsMarks (suc n) (scopeT name n ∷ st) fs ++ (mark false (scopeT name n ∷ st) (suc n + length (fieldsRows fs)) (asParts Close) ∷ []))
+      ∷ (fieldsMarks (suc n) (openScopeT name n ∷ st) fs ++ (mark false (openScopeT name n ∷ st) (suc n + length (fieldsRows fs)) (asParts Close) ∷ []))
 
   pub fieldsMarks : (n : ℕ) (st : List (List ℕ)) → Fields → List Mark
   fieldsMarks n st end = []
@@ -65,7 +65,7 @@ abbrev marks : (n : ℕ) (a : Bool) (st : List (List ℕ)) → List Row → List
 marks n a st rs = marksT n a st (allParts rs)
 
 -- one row; a: whether its field is added
-mark-row : (n : ℕ) (b a : Bool) (st st′ : List (List ℕ)) (r : Row) (rs : List Row) → isAddedT b (codeIn r) (allParts rs) ≡ a → openT 64 st (asParts r) n ≡ st′ → marks n b st (r ∷ rs) ≡ mark a st n (asParts r) ∷ marks (suc n) a st′ rs
+mark-row : (n : ℕ) (b a : Bool) (st st′ : List (List ℕ)) (r : Row) (rs : List Row) → isAddedT b (codeIn r) (allParts rs) ≡ a → openOneT 64 st (asParts r) n ≡ st′ → marks n b st (r ∷ rs) ≡ mark a st n (asParts r) ∷ marks (suc n) a st′ rs
 unfolding marksT allParts
 mark-row n b a st st′ r rs e o = rw (e, o, add-one n)
 
@@ -74,8 +74,8 @@ pub inner-added : (b : Bool) (r : Row) (ps : List Parts) → Inner r → isAdded
 unfolding isAddedT pick
 inner-added b r ps i = rw (ne-eqb (codeIn r) 1 (i .no-field), ne-eqb (codeIn r) 8 (i .no-close))
 
-pub inner-open : (st : List (List ℕ)) (r : Row) (n : ℕ) → Inner r → openT 64 st (asParts r) n ≡ st
-unfolding openT pick
+pub inner-open : (st : List (List ℕ)) (r : Row) (n : ℕ) → Inner r → openOneT 64 st (asParts r) n ≡ st
+unfolding openOneT pick
 inner-open st r n i = rw (ne-eqb (codeIn r) 7 (i .no-open), ne-eqb (codeIn r) 8 (i .no-close))
 
 inner-marks : (xs ys : List Row) (n : ℕ) (b : Bool) (st : List (List ℕ)) → All Inner xs → marks n b st (xs ++ ys) ≡ rowMarks b st n xs ++ marks (n + length xs) b st ys
@@ -95,8 +95,8 @@ field-added b h ys d =
       any-fresh (h .decls) _ (operands-no-decl (h .operands) (h .export) ys d),
     )
 
-pub field-open : (st : List (List ℕ)) (code builtin z n : ℕ) → openT 64 st (asParts (Field code builtin z)) n ≡ st
-unfolding openT asParts encode pick
+pub field-open : (st : List (List ℕ)) (code builtin z n : ℕ) → openOneT 64 st (asParts (Field code builtin z)) n ≡ st
+unfolding openOneT asParts encode pick
 field-open st code builtin z n = refl
 
 head-marks : (n : ℕ) (b : Bool) (st : List (List ℕ)) (h : Head) (ys : List Row) → NoDecl ys → marks n b st (headRows h ++ ys) ≡ rowMarks (isInserted h) st n (headRows h) ++ marks (n + length (headRows h)) (isInserted h) st ys
@@ -108,11 +108,11 @@ head-marks n b st h ys d =
     ∙ ap (λ (l : List Mark). mark (isInserted h) st n (asParts f) ∷ l) (inner-marks (behindField h) ys (suc n) (isInserted h) st (inner-behind h) ∙ rw e)
 
 close-marks : (n : ℕ) (b : Bool) (s : List ℕ) (st : List (List ℕ)) (ys : List Row) → marks n b (s ∷ st) (Close ∷ ys) ≡ mark false (s ∷ st) n (asParts Close) ∷ marks (suc n) false st ys
-close-marks n b s st ys = mark-row n b false (s ∷ st) st Close ys (unfold isAddedT asParts encode pick in refl) (unfold openT closeT asParts encode pick in refl)
+close-marks n b s st ys = mark-row n b false (s ∷ st) st Close ys (unfold isAddedT asParts encode pick in refl) (unfold openOneT openClosedT asParts encode pick in refl)
 
-open-marks : (n kind name : ℕ) (st : List (List ℕ)) (ys : List Row) → length st < 64 → marks n false st (Open kind name ∷ ys) ≡ mark false st n (asParts (Open kind name)) ∷ marks (suc n) false (scopeT name n ∷ st) ys
+open-marks : (n kind name : ℕ) (st : List (List ℕ)) (ys : List Row) → length st < 64 → marks n false st (Open kind name ∷ ys) ≡ mark false st n (asParts (Open kind name)) ∷ marks (suc n) false (openScopeT name n ∷ st) ys
 open-marks n kind name st ys l =
-    mark-row n false false st (scopeT name n ∷ st) (Open kind name) ys (unfold isAddedT asParts encode pick in refl) (unfold openT asParts encode pick in rw (lt-ltb _ _ l))
+    mark-row n false false st (openScopeT name n ∷ st) (Open kind name) ys (unfold isAddedT asParts encode pick in refl) (unfold openOneT asParts encode pick in rw (lt-ltb _ _ l))
 
 -- ---- fields and scopes
 
@@ -161,7 +161,7 @@ next-marks n s st i fs zs f g b =
     let q : n + length (itemRows i ++ fieldsRows fs) ≡ n + length (itemRows i) + length (fieldsRows fs) = omega (arith, length-append (itemRows i) (fieldsRows fs)) in
     rw (append-assoc (itemRows i) (fieldsRows fs) (Close ∷ zs)) (f _ g b ∙ simp (append-assoc, q))
 
-scope-marks-is : (kind name n : ℕ) (fs : Fields) (st : List (List ℕ)) (ys : List Row) → length st < 64 → FieldsMarks (suc n) (scopeT name n) st fs ys → ScopeMarks n st (scope kind name fs) ys
+scope-marks-is : (kind name n : ℕ) (fs : Fields) (st : List (List ℕ)) (ys : List Row) → length st < 64 → FieldsMarks (suc n) (openScopeT name n) st fs ys → ScopeMarks n st (scope kind name fs) ys
 unfolding flatten scopeMarks
 scope-marks-is kind name n fs st ys l f =
     let q : suc (suc n + length (fieldsRows fs)) ≡ n + suc (length (fieldsRows fs ++ (Close ∷ []))) = omega (arith, length-append (fieldsRows fs) (Close ∷ [])) in
@@ -185,7 +185,7 @@ mutual
   scope-marked : (s : Scope) (n : ℕ) (st : List (List ℕ)) (ys : List Row) → AddedScope s → length st + height s ≤ 64 → ScopeMarks n st s ys
   scope-marked (scope kind name fs) n st ys a d =
       let D = scope-depth kind name fs st d in
-      scope-marks-is kind name n fs st ys (D .0) (fields-marked fs (suc n) (scopeT name n) st ys a (D .1))
+      scope-marks-is kind name n fs st ys (D .0) (fields-marked fs (suc n) (openScopeT name n) st ys a (D .1))
 
   fields-marked : (fs : Fields) (n : ℕ) (s : List ℕ) (st : List (List ℕ)) (zs : List Row) → AddedFields fs → suc (length st) + heights fs ≤ 64 → FieldsMarks n s st fs zs
   fields-marked end n s st zs a d = end-marks n s st zs

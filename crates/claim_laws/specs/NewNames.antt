@@ -34,10 +34,10 @@ use Rattle.checking.specs.Laws.AddedFields.{closed}
 use Rattle.claim_rows.specs.Added.{anyFresh, isAddedT}
 use Rattle.claim_rows.specs.declared.Tried.{Tried}
 use Rattle.claim_rows.specs.declared.Tried.the-variants.{Passes, Breaks}
-use Rattle.claim_scopes.specs.Open.{scopeT, rowIn, hereT, closeT, openT}
-use Rattle.claim_scopes.specs.Entries.{keyT, slotT, entryOf, lookT, enterT}
+use Rattle.claim_scopes.specs.Open.{openScopeT, rowIn, hereT, openClosedT, openOneT}
+use Rattle.claim_scopes.specs.Entries.{entryKeyT, slotT, entryOf, lookT, enterT}
 use Rattle.claim_scopes.specs.declared.entries.Entry.{Entry}
-use Rattle.claim_aliases.specs.Aliases.{isAlias, newT, isValue, isKnown, breaksT, nameSlot, namesT, Names, aliasesT}
+use Rattle.claim_aliases.specs.Aliases.{isAlias, aliasNewT, isValue, isKnown, aliasBreaksT, nameSlot, aliasNamesT, Names, tryAliasesT}
 use Rattle.claim_laws.specs.RowParts.{asParts, allParts, codeIn, NoDecl, behindField, operands-no-decl, any-fresh, fields-no-decl, scope-no-decl, Inner, inner, inner-behind, scope-size, fields-size, holds-size, head-size, item-size}
 use Rattle.claim_laws.specs.Keys.{orFound, find-append, find-other, other-last, Other, Of, Within, wider, key-is, key-within, outside}
 use Rattle.claim_laws.specs.AliasShape.{good-head, alias-size, OneDecl, AliasOf, of-export, of-outer, one-declared, alias-of}
@@ -47,7 +47,7 @@ use Rattle.claim_laws.specs.SameRows.{tried}
 -- ---- the names that are entered
 
 unfoldable declSlot : (k : ℕ) → Declaration → Slot
-declSlot k d = slotT k (d .space) (newT (d .name)) 0
+declSlot k d = slotT k (d .space) (aliasNewT (d .name)) 0
 
 -- those of an added alias in the scope whose OPEN is row k
 unfoldable headNames : (k : ℕ) → Head → List Slot
@@ -87,15 +87,15 @@ found-or found.Nothing g = refl
 
 -- of the scope whose OPEN is row k: its DECLs so far are `past`, and the slots that are used are `ss`
 record Known (k : ℕ) (past : List Declaration) (ss : List Slot) : Type 0 where
-  known : (space name : ℕ) → space < 256 → isFresh name ≡ true → isFound (findIn ss (keyT k space) (newT name)) ≡ has past space name
+  known : (space name : ℕ) → space < 256 → isFresh name ≡ true → isFound (findIn ss (entryKeyT k space) (aliasNewT name)) ≡ has past space name
 
 known-none : (k : ℕ) (ss : List Slot) → k < 65536 → Within 0 k ss → Known k [] ss
 unfolding has isFound
-known-none k ss l w = record { known = λ space name h f. rw (find-other ss (keyT k space) (newT name) (outside 0 k k space ss l h w .1 (omega arith))) }
+known-none k ss l w = record { known = λ space name h f. rw (find-other ss (entryKeyT k space) (aliasNewT name) (outside 0 k k space ss l h w .1 (omega arith))) }
 
 known-inner : (k lo hi : ℕ) (past : List Declaration) (ss new : List Slot) → k < 65536 → k < lo → Within lo hi new → Known k past ss → Known k past (ss ++ new)
 known-inner k lo hi past ss new l b w g =
-    record { known = λ space name h f. rw (other-last ss new (keyT k space) (newT name) (outside lo hi k space new l h w .0 b)) (g .known space name h f) }
+    record { known = λ space name h f. rw (other-last ss new (entryKeyT k space) (aliasNewT name) (outside lo hi k space new l h w .0 b)) (g .known space name h f) }
 
 or-split : (a b : Bool) → a || b ≡ false → (a ≡ false) × (b ≡ false)
 or-split true b e = false-not (sym e)
@@ -138,15 +138,15 @@ known-new : (k : ℕ) (past : List Declaration) (d : Declaration) (ss : List Slo
 unfolding has isFresh declSlot slotT findIn
 known-new k past d ss l s e g = record { known = go }
   where
-    go : (space name : ℕ) → space < 256 → leb 2147483648 name ≡ true → isFound (findIn (ss ++ (declSlot k d ∷ [])) (keyT k space) (newT name)) ≡ has (past ++ (d ∷ [])) space name
+    go : (space name : ℕ) → space < 256 → leb 2147483648 name ≡ true → isFound (findIn (ss ++ (declSlot k d ∷ [])) (entryKeyT k space) (aliasNewT name)) ≡ has (past ++ (d ∷ [])) space name
     go space name h f =
         let a = leb-le 2147483648 (d .name) e in
         let b = leb-le 2147483648 name f in
         let u = key-is k space l in
         let v = key-is k (d .space) l in
-        let spaces : eqb (keyT k (d .space)) (keyT k space) ≡ eqb (d .space) space = same-eqb (keyT k (d .space)) (keyT k space) (d .space) space (λ q. omega arith) (λ q. omega arith) in
-        let names : eqb (newT (d .name)) (newT name) ≡ eqb (d .name) name = same-eqb (newT (d .name)) (newT name) (d .name) name (λ q. omega arith) (λ q. omega arith) in
-        rw (find-append ss (declSlot k d ∷ []) (keyT k space) (newT name), found-or (findIn ss (keyT k space) (newT name)) (findIn (declSlot k d ∷ []) (keyT k space) (newT name)), found-one, has-append past (d ∷ []) space name, spaces, names, g .known space name h f, or-no)
+        let spaces : eqb (entryKeyT k (d .space)) (entryKeyT k space) ≡ eqb (d .space) space = same-eqb (entryKeyT k (d .space)) (entryKeyT k space) (d .space) space (λ q. omega arith) (λ q. omega arith) in
+        let names : eqb (aliasNewT (d .name)) (aliasNewT name) ≡ eqb (d .name) name = same-eqb (aliasNewT (d .name)) (aliasNewT name) (d .name) name (λ q. omega arith) (λ q. omega arith) in
+        rw (find-append ss (declSlot k d ∷ []) (entryKeyT k space) (aliasNewT name), found-or (findIn ss (entryKeyT k space) (aliasNewT name)) (findIn (declSlot k d ∷ []) (entryKeyT k space) (aliasNewT name)), found-one, has-append past (d ∷ []) space name, spaces, names, g .known space name h f, or-no)
 
 -- ---- what the code answers
 
@@ -165,7 +165,7 @@ or-tried (some row) b t = refl
 
 module _ (room : ℕ) where
   run : (n : ℕ) (a : Bool) (st : List (List ℕ)) (ss : List Slot) → List Row → Tried
-  run n a st ss rs = answerIn (aliasesT room n a st ss (allParts rs))
+  run n a st ss rs = answerIn (tryAliasesT room n a st ss (allParts rs))
 
   pick-answer : (t : Bool) (x : Tried) (ss : List Slot) (y : Names) → answerIn (pick t (x & ss) y) ≡ pick t x (answerIn y)
   unfolding pick
@@ -174,13 +174,13 @@ module _ (room : ℕ) where
 
   -- one row; a: whether its field is added
   run-row : (n : ℕ) (b a : Bool) (st : List (List ℕ)) (ss : List Slot) (r : Row) (rs : List Row) → isAddedT b (codeIn r) (allParts rs) ≡ a
-      → run n b st ss (r ∷ rs) ≡ pick (breaksT a ss (hereT st) (asParts r)) (Breaks n) (run (suc n) a (openT 64 st (asParts r) n) (namesT room a ss (hereT st) (asParts r)) rs)
-  unfolding run aliasesT allParts
-  run-row n b a st ss r rs e = rw (e, add-one n) (pick-answer (breaksT a ss (hereT st) (asParts r)) (Breaks n) ss _)
+      → run n b st ss (r ∷ rs) ≡ pick (aliasBreaksT a ss (hereT st) (asParts r)) (Breaks n) (run (suc n) a (openOneT 64 st (asParts r) n) (aliasNamesT room a ss (hereT st) (asParts r)) rs)
+  unfolding run tryAliasesT allParts
+  run-row n b a st ss r rs e = rw (e, add-one n) (pick-answer (aliasBreaksT a ss (hereT st) (asParts r)) (Breaks n) ss _)
 
   -- rows of a field behind its FIELD, which is not added
   own-inner : (xs ys : List Row) (n : ℕ) (st : List (List ℕ)) (ss : List Slot) → All Inner xs → run n false st ss (xs ++ ys) ≡ run (n + length xs) false st ss ys
-  unfolding breaksT namesT pick
+  unfolding aliasBreaksT aliasNamesT pick
   own-inner [] ys n st ss done = let e : n + 0 ≡ n = omega arith in rw e
   own-inner (r ∷ xs) ys n st ss (i also p) =
       let e : suc n + length xs ≡ n + suc (length xs) = omega arith in
@@ -189,7 +189,7 @@ module _ (room : ℕ) where
   -- ---- a field of the input
 
   own-head : (n : ℕ) (b : Bool) (st : List (List ℕ)) (ss : List Slot) (h : Head) (ys : List Row) → isInserted h ≡ false → NoDecl ys → run n b st ss (headRows h ++ ys) ≡ run (n + length (headRows h)) false st ss ys
-  unfolding headRows behindField breaksT namesT pick
+  unfolding headRows behindField aliasBreaksT aliasNamesT pick
   own-head n b st ss h ys e d =
       let q : suc n + length (behindField h) ≡ n + suc (length (behindField h)) = omega arith in
       run-row n b false st ss (Field (h .code) (h .builtin) (h .z)) (behindField h ++ ys) (field-added b h ys d ∙ e)
@@ -201,12 +201,12 @@ module _ (room : ℕ) where
   unfolding isAlias
   alias-codes code = rw or-no
 
-  field-breaks : (k : ℕ) (ss : List Slot) (code builtin z : ℕ) → breaksT true ss k (asParts (Field code builtin z)) ≡ not (isIn code (9 ∷ 10 ∷ 11 ∷ []))
-  unfolding breaksT asParts encode pick
+  field-breaks : (k : ℕ) (ss : List Slot) (code builtin z : ℕ) → aliasBreaksT true ss k (asParts (Field code builtin z)) ≡ not (isIn code (9 ∷ 10 ∷ 11 ∷ []))
+  unfolding aliasBreaksT asParts encode pick
   field-breaks k ss code builtin z = ap not (alias-codes code)
 
-  field-names : (k : ℕ) (ss : List Slot) (code builtin z : ℕ) → namesT room true ss k (asParts (Field code builtin z)) ≡ ss
-  unfolding namesT asParts encode pick
+  field-names : (k : ℕ) (ss : List Slot) (code builtin z : ℕ) → aliasNamesT room true ss k (asParts (Field code builtin z)) ≡ ss
+  unfolding aliasNamesT asParts encode pick
   field-names k ss code builtin z = refl
 
   -- one that is no alias
@@ -217,34 +217,34 @@ module _ (room : ℕ) where
       ∙ rw (field-breaks (hereT st) ss (h .code) (h .builtin) (h .z), c) (unfold pick in refl)
 
   -- its DECL
-  decl-breaks : (k : ℕ) (past : List Declaration) (ss : List Slot) (d : Declaration) → d .space < 256 → isFresh (d .name) ≡ true → Known k past ss → breaksT true ss k (asParts (Decl (d .space) (d .name) (d .z))) ≡ isJust (find past (d .space) (d .name))
-  unfolding breaksT asParts encode pick isKnown lookT
-  decl-breaks k past ss d l f g = value-found (findIn ss (keyT k (d .space)) (newT (d .name))) ∙ (g .known (d .space) (d .name) l f ∙ sym (find-has past (d .space) (d .name)))
+  decl-breaks : (k : ℕ) (past : List Declaration) (ss : List Slot) (d : Declaration) → d .space < 256 → isFresh (d .name) ≡ true → Known k past ss → aliasBreaksT true ss k (asParts (Decl (d .space) (d .name) (d .z))) ≡ isJust (find past (d .space) (d .name))
+  unfolding aliasBreaksT asParts encode pick isKnown lookT
+  decl-breaks k past ss d l f g = value-found (findIn ss (entryKeyT k (d .space)) (aliasNewT (d .name))) ∙ (g .known (d .space) (d .name) l f ∙ sym (find-has past (d .space) (d .name)))
 
-  decl-names : (k : ℕ) (ss : List Slot) (d : Declaration) → length ss < room → namesT room true ss k (asParts (Decl (d .space) (d .name) (d .z))) ≡ ss ++ (declSlot k d ∷ [])
-  unfolding namesT asParts encode pick nameSlot declSlot enterT
+  decl-names : (k : ℕ) (ss : List Slot) (d : Declaration) → length ss < room → aliasNamesT room true ss k (asParts (Decl (d .space) (d .name) (d .z))) ≡ ss ++ (declSlot k d ∷ [])
+  unfolding aliasNamesT asParts encode pick nameSlot declSlot enterT
   decl-names k ss d l = rw (lt-ltb _ _ l)
 
   -- its operand
-  ref-breaks : (k : ℕ) (ss : List Slot) (from : ℕ) (at : Index) (paths z : ℕ) → breaksT true ss k (asParts (Ref from at paths z)) ≡ not (isNumber at)
-  unfolding breaksT asParts encode pick flag isNumber
+  ref-breaks : (k : ℕ) (ss : List Slot) (from : ℕ) (at : Index) (paths z : ℕ) → aliasBreaksT true ss k (asParts (Ref from at paths z)) ≡ not (isNumber at)
+  unfolding aliasBreaksT asParts encode pick flag isNumber
   ref-breaks k ss from (Num m) paths z = refl
   ref-breaks k ss from (Id name) paths z = refl
 
-  outer-breaks : (k : ℕ) (ss : List Slot) (space : ℕ) (up at : Index) (z : ℕ) → breaksT true ss k (asParts (Outer space up at z)) ≡ not (isNumber up && isNumber at)
-  unfolding breaksT asParts encode pick flag isNumber
+  outer-breaks : (k : ℕ) (ss : List Slot) (space : ℕ) (up at : Index) (z : ℕ) → aliasBreaksT true ss k (asParts (Outer space up at z)) ≡ not (isNumber up && isNumber at)
+  unfolding aliasBreaksT asParts encode pick flag isNumber
   outer-breaks k ss space (Num d) (Num m) z = refl
   outer-breaks k ss space (Num d) (Id name) z = refl
   outer-breaks k ss space (Id up) (Num m) z = refl
   outer-breaks k ss space (Id up) (Id name) z = refl
 
   -- a row of it that is neither FIELD nor DECL enters nothing
-  row-names : (k : ℕ) (ss : List Slot) (r : Row) → (codeIn r ≡ 2 → ⊥) → namesT room true ss k (asParts r) ≡ ss
-  unfolding namesT pick
+  row-names : (k : ℕ) (ss : List Slot) (r : Row) → (codeIn r ≡ 2 → ⊥) → aliasNamesT room true ss k (asParts r) ≡ ss
+  unfolding aliasNamesT pick
   row-names k ss r h = rw (ne-eqb (codeIn r) 2 h)
 
   -- a row of it that breaks nothing or something
-  added-row : (n : ℕ) (st : List (List ℕ)) (ss : List Slot) (r : Row) (rs : List Row) (t : Bool) → Inner r → (codeIn r ≡ 2 → ⊥) → breaksT true ss (hereT st) (asParts r) ≡ t → run n true st ss (r ∷ rs) ≡ pick t (Breaks n) (run (suc n) true st ss rs)
+  added-row : (n : ℕ) (st : List (List ℕ)) (ss : List Slot) (r : Row) (rs : List Row) (t : Bool) → Inner r → (codeIn r ≡ 2 → ⊥) → aliasBreaksT true ss (hereT st) (asParts r) ≡ t → run n true st ss (r ∷ rs) ≡ pick t (Breaks n) (run (suc n) true st ss rs)
   added-row n st ss r rs t i h e =
       run-row n true true st ss r rs (inner-added true r (allParts rs) i) ∙ rw (e, inner-open st r n i, row-names (hereT st) ss r h)
 
@@ -252,8 +252,8 @@ module _ (room : ℕ) where
   unfolding asParts encode
   export-inner name = (inner (Export name) (omega arith) (omega arith) (omega arith), omega arith)
 
-  export-breaks : (k : ℕ) (ss : List Slot) (name : ℕ) → breaksT true ss k (asParts (Export name)) ≡ false
-  unfolding breaksT asParts encode pick
+  export-breaks : (k : ℕ) (ss : List Slot) (name : ℕ) → aliasBreaksT true ss k (asParts (Export name)) ≡ false
+  unfolding aliasBreaksT asParts encode pick
   export-breaks k ss name = refl
 
   export-run : (n : ℕ) (st : List (List ℕ)) (ss : List Slot) (x : Option ℕ) (ys : List Row) → run n true st ss (exportRows x ++ ys) ≡ run (n + length (exportRows x)) true st ss ys
@@ -270,7 +270,7 @@ module _ (room : ℕ) where
   number-turn false m t = refl
 
   -- the operand, and the EXPORT that may follow
-  operand-run : (n : ℕ) (st : List (List ℕ)) (ss : List Slot) (o : Operand) (r : Row) (x : Option ℕ) (ys : List Row) → Inner r → (codeIn r ≡ 2 → ⊥) → breaksT true ss (hereT st) (asParts r) ≡ not (hasNumbers o)
+  operand-run : (n : ℕ) (st : List (List ℕ)) (ss : List Slot) (o : Operand) (r : Row) (x : Option ℕ) (ys : List Row) → Inner r → (codeIn r ≡ 2 → ⊥) → aliasBreaksT true ss (hereT st) (asParts r) ≡ not (hasNumbers o)
       → run n true st ss (r ∷ (exportRows x ++ ys)) ≡ orTried (notNumber n (o ∷ [])) (run (suc n + length (exportRows x)) true st ss ys)
   unfolding notNumber
   operand-run n st ss o r x ys i h e =
@@ -406,12 +406,12 @@ module _ (room : ℕ) where
 
   -- ---- fields and scopes
 
-  close-run : (n : ℕ) (b : Bool) (st : List (List ℕ)) (ss : List Slot) (zs : List Row) → run n b st ss (Close ∷ zs) ≡ run (suc n) false (closeT st) ss zs
-  unfolding isAddedT openT breaksT namesT asParts encode pick
+  close-run : (n : ℕ) (b : Bool) (st : List (List ℕ)) (ss : List Slot) (zs : List Row) → run n b st ss (Close ∷ zs) ≡ run (suc n) false (openClosedT st) ss zs
+  unfolding isAddedT openOneT aliasBreaksT aliasNamesT asParts encode pick
   close-run n b st ss zs = run-row n b false st ss Close zs refl
 
-  open-run : (n kind name : ℕ) (st : List (List ℕ)) (ss : List Slot) (rs : List Row) → length st < 64 → run n false st ss (Open kind name ∷ rs) ≡ run (suc n) false (scopeT name n ∷ st) ss rs
-  unfolding isAddedT openT breaksT namesT asParts encode pick
+  open-run : (n kind name : ℕ) (st : List (List ℕ)) (ss : List Slot) (rs : List Row) → length st < 64 → run n false st ss (Open kind name ∷ rs) ≡ run (suc n) false (openScopeT name n ∷ st) ss rs
+  unfolding isAddedT openOneT aliasBreaksT aliasNamesT asParts encode pick
   open-run n kind name st ss rs l = run-row n false false st ss (Open kind name) rs refl ∙ rw (lt-ltb _ _ l)
 
   -- where the rows are: the scope's OPEN stands before, its DECLs so far are `past`; the slots `new` find room
@@ -484,7 +484,7 @@ module _ (room : ℕ) where
   -- the fields from here on, and what follows their scope
   abbrev FieldsRun : (n : ℕ) (st : List (List ℕ)) (past : List Declaration) (ss : List Slot) → Fields → List Row → Type 0
   FieldsRun n st past ss fs zs =
-      Follows n st ss (fieldsRows fs ++ (Close ∷ zs)) (orTried (fieldsAdded n past fs) (run (suc (n + length (fieldsRows fs))) false (closeT st) (ss ++ fieldsNames (hereT st) n fs) zs))
+      Follows n st ss (fieldsRows fs ++ (Close ∷ zs)) (orTried (fieldsAdded n past fs) (run (suc (n + length (fieldsRows fs))) false (openClosedT st) (ss ++ fieldsNames (hereT st) n fs) zs))
 
   end-run : (n : ℕ) (st : List (List ℕ)) (past : List Declaration) (ss : List Slot) (zs : List Row) → FieldsRun n st past ss end zs
   unfolding flatten scopeAdded scopeNames orTried
@@ -559,14 +559,14 @@ module _ (room : ℕ) where
 
   -- where a scope begins
   scope-stands : (rules : RuleSet) (kind name n : ℕ) (fs : Fields) (st : List (List ℕ)) (ss : List Slot) → Within 0 n ss → n + length (flatten (scope kind name fs)) ≤ 65536 → length st + height (scope kind name fs) ≤ 64 → length ss + length (scopeNames n (scope kind name fs)) ≤ room
-      → Stands (suc n) (scopeT name n ∷ st) [] ss (fieldsNames (hereT (scopeT name n ∷ st)) (suc n) fs) (length (fieldsRows fs)) (heights fs)
+      → Stands (suc n) (openScopeT name n ∷ st) [] ss (fieldsNames (hereT (openScopeT name n ∷ st)) (suc n) fs) (length (fieldsRows fs)) (heights fs)
   unfolding hereT scopeNames height
   scope-stands rules kind name n fs st ss w l d r =
       let e = scope-size kind name fs in
       record { here = omega arith; known = known-none n ss (omega arith) w; within = wider 0 n 0 (suc n) ss (omega arith) (omega arith) w; rows = omega arith; depth = omega arith; roomy = r }
 
-  scope-run-is : (kind name n : ℕ) (fs : Fields) (st : List (List ℕ)) (ss : List Slot) (ys : List Row) → length st < 64 → FieldsRun (suc n) (scopeT name n ∷ st) [] ss fs ys → ScopeRun n st ss (scope kind name fs) ys
-  unfolding flatten scopeAdded scopeNames closeT hereT
+  scope-run-is : (kind name n : ℕ) (fs : Fields) (st : List (List ℕ)) (ss : List Slot) (ys : List Row) → length st < 64 → FieldsRun (suc n) (openScopeT name n ∷ st) [] ss fs ys → ScopeRun n st ss (scope kind name fs) ys
+  unfolding flatten scopeAdded scopeNames openClosedT hereT
   scope-run-is kind name n fs st ss ys l f =
       let q : suc (suc n + length (fieldsRows fs)) ≡ n + suc (length (fieldsRows fs ++ (Close ∷ []))) = omega (arith, length-append (fieldsRows fs) (Close ∷ [])) in
       rw (append-assoc (fieldsRows fs) (Close ∷ []) ys) (open-run n kind name st ss _ l ∙ (f false ∙ rw q))
@@ -602,7 +602,7 @@ module _ (room : ℕ) where
 
     scope-run : (rules : RuleSet) (s : Scope) (n : ℕ) (st : List (List ℕ)) (ss : List Slot) (ys : List Row) → GoodScope rules s → Within 0 n ss → n + length (flatten s) ≤ 65536 → length st + height s ≤ 64 → length ss + length (scopeNames n s) ≤ room → ScopeRun n st ss s ys
     scope-run rules (scope kind name fs) n st ss ys g w l d r =
-        scope-run-is kind name n fs st ss ys (scope-depth kind name fs st d) (fields-run rules fs kind (suc n) (scopeT name n ∷ st) [] ss ys g (scope-stands rules kind name n fs st ss w l d r))
+        scope-run-is kind name n fs st ss ys (scope-depth kind name fs st d) (fields-run rules fs kind (suc n) (openScopeT name n ∷ st) [] ss ys g (scope-stands rules kind name n fs st ss w l d r))
 
     fields-run : (rules : RuleSet) (fs : Fields) (kind n : ℕ) (st : List (List ℕ)) (past : List Declaration) (ss : List Slot) (zs : List Row) → GoodFields rules fs kind → Stands n st past ss (fieldsNames (hereT st) n fs) (length (fieldsRows fs)) (heights fs) → FieldsRun n st past ss fs zs
     fields-run rules end kind n st past ss zs g S = end-run n st past ss zs
@@ -668,11 +668,11 @@ last-tried none = refl
 last-tried (some n) = refl
 
 no-rows : (room n : ℕ) (b : Bool) (ss : List Slot) → run room n b [] ss [] ≡ Passes
-unfolding run aliasesT allParts
+unfolding run tryAliasesT allParts
 no-rows room n b ss = refl
 
 -- Condition 3.
-pub new-names : (rules : RuleSet) (room : ℕ) (c : Scope) → GoodScope rules c → length (flatten c) ≤ 65536 → length (flatten c) ≤ 3 * room → height c ≤ 64 → answerIn (aliasesT room 0 false [] [] (allParts (flatten c))) ≡ tried (condition3 c)
+pub new-names : (rules : RuleSet) (room : ℕ) (c : Scope) → GoodScope rules c → length (flatten c) ≤ 65536 → length (flatten c) ≤ 3 * room → height c ≤ 64 → answerIn (tryAliasesT room 0 false [] [] (allParts (flatten c))) ≡ tried (condition3 c)
 unfolding condition3 run
 new-names rules room c g l r d =
     let few = scope-few room rules c 0 g in

@@ -11,7 +11,7 @@ use lib.ListN.{length, getD, drop, length-drop, length-map}
 use borrow.Author.Tests.{eqb-true, leb-true}
 use Rattle.kit.specs.Pick.{pick}
 use Rattle.kit.proofs.Laws.{pick-has}
-use Rattle.parts.specs.Apart.{partsIn, partsAt}
+use Rattle.parts.specs.PartsAt.{partsIn, partsAt}
 use Rattle.parts.specs.declared.Parts.{Parts}
 use Rattle.rules.specs.Tools.{between}
 use Rattle.rules.specs.Versions.{Setting}
@@ -20,7 +20,7 @@ use Rattle.rules.specs.Tree.{Operand, ref, outer, case, Head, Scope, scope, Fie
 use Rattle.rules.specs.Answer.{accepted, rowCount}
 use Rattle.rules.specs.Laws.ToolLaws.{and-right, getD-all}
 use Rattle.rules.specs.Laws.RowLaws.{Bytes}
-use Rattle.rules.specs.Laws.Reading.BeginsWritten.{rows-length}
+use Rattle.rules.specs.Laws.Read.BeginsWritten.{rows-length}
 use Rattle.read_form.specs.ReadForm.{readForm}
 use Rattle.read_form.specs.Laws.ReadFormLaws.{ReadAs, read-exactly}
 use Rattle.matched.proofs.Ends.{At}

@@ -9,7 +9,7 @@ use lib.Dec.{eqb, leb, ltb}
 use lib.ListN.{length, getD}
 use borrow.Author.Tests.{lt-ltb, le-ltb, le-leb, lt-leb, eq-eqb, ne-eqb, eqb-true}
 use Rattle.kit.specs.Pick.{pick}
-use Rattle.parts.specs.Apart.{partsAt}
+use Rattle.parts.specs.PartsAt.{partsAt}
 use Rattle.parts.specs.declared.Parts.{Parts}
 use Rattle.names.specs.Table.{Slot, noScope}
 use Rattle.names.specs.declared.Named.{Named}
@@ -30,14 +30,14 @@ use Rattle.read_form.specs.Laws.Parting.{cons-head}
 use Rattle.checking.specs.Check
 use Rattle.checking.specs.Check.{refNumber, found, same, samePair, throughOuter, throughPaths, plainly, table, nameRight, refRight, refNowRight, operandRight}
 use Rattle.checking.specs.Laws.Plainly.{plain-table, never-late}
-use Rattle.claim_scopes.specs.Open.{scopeT, rowIn, hereT, closeT}
+use Rattle.claim_scopes.specs.Open.{openScopeT, rowIn, hereT, openClosedT}
 use Rattle.claim_scopes.specs.Entries.{lookT}
 use Rattle.claim_scopes.specs.declared.entries.Entry.{Entry}
 use Rattle.claim_scopes.specs.declared.entries.Entry.the-variants.{Value, Nothing}
 use Rattle.claim_operands.specs.Paths.{instanceSpace, isNumber, instanceT}
-use Rattle.claim_operands.specs.Reference.{ownOr, furtherT, nameRightT, fromT, pathRightT, refRightT}
+use Rattle.claim_operands.specs.Reference.{ownOr, furtherT, nameRightT, refFromT, pathRightT, refRightT}
 use Rattle.claim_operands.specs.Outer.{upT, atRightT, upRightT, outerRightT}
-use Rattle.claim_operands.specs.Operands.{rightT}
+use Rattle.claim_operands.specs.Operands.{isRightT}
 use Rattle.claim_laws.specs.RowParts.{asParts, allParts}
 use Rattle.claim_laws.specs.Known.{Known}
 use Rattle.claim_laws.specs.Reaching.{entered, metAt, met-same, known-name, known-outer, known-paths, OpenedAs, Opened, opened-name, known-outward, namedAs, known-named, OutAs, far, near, known-nth}
@@ -86,7 +86,7 @@ module _ (claim : List ℕ) (ss : List Slot) (used kind name k : ℕ) (cs : Fiel
   here = scope kind name cs
 
   abbrev st₀ : List (List ℕ)
-  st₀ = scopeT name k ∷ st
+  st₀ = openScopeT name k ∷ st
 
   -- ---- names
 
@@ -96,7 +96,7 @@ module _ (claim : List ℕ) (ss : List Slot) (used kind name k : ℕ) (cs : Fiel
   own-or (some m) space nm n b e = refl
 
   further-right : (space nm y z n : ℕ) → space < 256 → nm ≤ topName → furtherT ss claim used st₀ (asParts (Ref space (Id nm) y z)) n ≡ samePair (throughOuter cs space n) (walk outside 1 space nm)
-  unfolding furtherT hereT closeT asParts encode number
+  unfolding furtherT hereT openClosedT asParts encode number
   further-right space nm y z n w low =
       rw (known-outer claim ss used k cs space n K l w, known-outward claim ss used st outside 1 space nm O w low) (met-same (throughOuter cs space n) (walk outside 1 space nm))
 
@@ -123,8 +123,8 @@ module _ (claim : List ℕ) (ss : List Slot) (used kind name k : ℕ) (cs : Fiel
   instance-is (Id nm) space y z low m =
       rw (known-name claim ss used k cs (instanceSpace space) nm K (narrow-instance space) (low .1), number-same (find (declarations cs) (instanceSpace space) nm) m, space-of-instance space, number-here (Check.instanceSpace space) nm z)
 
-  from-same : (o p : Option ℕ) (q : Parts) → ((m : ℕ) → instanceT ss k q m ≡ same (some m) p) → fromT ss claim used (entered o) k q ≡ same o p
-  unfolding fromT entered same
+  from-same : (o p : Option ℕ) (q : Parts) → ((m : ℕ) → instanceT ss k q m ≡ same (some m) p) → refFromT ss claim used (entered o) k q ≡ same o p
+  unfolding refFromT entered same
   from-same none p q f = refl
   from-same (some m) p q f = f m
 
@@ -250,17 +250,17 @@ module _ (claim : List ℕ) (ss : List Slot) (used kind name k : ℕ) (cs : Fiel
   other-kind a b e n = absurd (n (ap kindOf e))
 
   ref-rule : (s : ℕ) (now at : Index) (paths : List ℕ) (z : ℕ) (rest : List Row) → s < 256 → LegalIndex topName at
-      → rightT ss claim used false st₀ (asParts (Ref s now 0 z)) (allParts (operandRow (ref s at paths z) ++ rest)) ≡ operandRight here outside (ref s at paths z) (ref s now [] z)
-  unfolding rightT operandRight allParts operandRow pick
+      → isRightT ss claim used false st₀ (asParts (Ref s now 0 z)) (allParts (operandRow (ref s at paths z) ++ rest)) ≡ operandRight here outside (ref s at paths z) (ref s now [] z)
+  unfolding isRightT operandRight allParts operandRow pick
   ref-rule s now at paths z rest w low = unfold asParts encode in ref-right s now at paths z rest w low
 
   outer-rule : (s : ℕ) (up′ at′ up at : Index) (z : ℕ) (rest : List Row) → s < 256 → LegalIndex topName at
-      → rightT ss claim used false st₀ (asParts (Outer s up′ at′ z)) (allParts (operandRow (outer s up at z) ++ rest)) ≡ operandRight here outside (outer s up at z) (outer s up′ at′ z)
-  unfolding rightT operandRight allParts operandRow pick
+      → isRightT ss claim used false st₀ (asParts (Outer s up′ at′ z)) (allParts (operandRow (outer s up at z) ++ rest)) ≡ operandRight here outside (outer s up at z) (outer s up′ at′ z)
+  unfolding isRightT operandRight allParts operandRow pick
   outer-rule s up′ at′ up at z rest w low = unfold asParts encode in outer-right s up′ at′ up at z w low
 
-  case-rule : (nm z nm′ z′ : ℕ) (rest : List Row) → rightT ss claim used false st₀ (asParts (Case nm z)) (allParts (operandRow (case nm′ z′) ++ rest)) ≡ operandRight here outside (case nm′ z′) (case nm z)
-  unfolding rightT operandRight allParts operandRow asParts encode pick
+  case-rule : (nm z nm′ z′ : ℕ) (rest : List Row) → isRightT ss claim used false st₀ (asParts (Case nm z)) (allParts (operandRow (case nm′ z′) ++ rest)) ≡ operandRight here outside (case nm′ z′) (case nm z)
+  unfolding isRightT operandRight allParts operandRow asParts encode pick
   case-rule nm z nm′ z′ rest = refl
 
   -- its row
@@ -278,7 +278,7 @@ module _ (claim : List ℕ) (ss : List Slot) (used kind name k : ℕ) (cs : Fiel
 
   -- a claimed operand without PATHs, beside the input's
   pub operand-right : (o w : Operand) (r : Row) (rest : List Row) → Bare o → operandRow o ≡ r ∷ [] → blankOperand o ≡ blankOperand w → Narrow w → LowOperand w
-      → rightT ss claim used false st₀ (asParts r) (allParts (operandRow w ++ rest)) ≡ operandRight here outside w o
+      → isRightT ss claim used false st₀ (asParts r) (allParts (operandRow w ++ rest)) ≡ operandRight here outside w o
   unfolding blankOperand
   operand-right (ref space now [] z) (ref s at paths z′) r rest b p e w low =
       let q = same-ref space z s z′ e in

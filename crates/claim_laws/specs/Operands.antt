@@ -9,7 +9,7 @@ use lib.Dec.{eqb}
 use lib.ListN.{length, length-append}
 use borrow.Author.Tests.{ne-eqb}
 use Rattle.kit.specs.Pick.{pick}
-use Rattle.parts.specs.Apart.{partsAt}
+use Rattle.parts.specs.PartsAt.{partsAt}
 use Rattle.parts.specs.declared.Parts.{Parts}
 use Rattle.names.specs.Table.{Slot}
 use Rattle.rules.specs.Tools.{if_then_else_, _orElse_}
@@ -29,11 +29,11 @@ use Rattle.checking.specs.Laws.SameFields.{BareScope, BareFields, BareItem}
 use Rattle.checking.specs.Laws.AddedFields.{IsAdded, AddedScope, AddedFields, AddedItem}
 use Rattle.checking.specs.Laws.Beside.{Beside, stop, skip, both, same-head, same-operands, same-decls, same-export}
 use Rattle.claim_rows.specs.Added.{isAddedT}
-use Rattle.claim_rows.specs.Same.{pastPaths, nextT}
+use Rattle.claim_rows.specs.Same.{pastPaths, sameNextT}
 use Rattle.claim_rows.specs.declared.Tried.{Tried}
 use Rattle.claim_rows.specs.declared.Tried.the-variants.{Passes, Breaks}
-use Rattle.claim_scopes.specs.Open.{scopeT, openT}
-use Rattle.claim_operands.specs.Operands.{nextIn, rightT, operandsT}
+use Rattle.claim_scopes.specs.Open.{openScopeT, openOneT}
+use Rattle.claim_operands.specs.Operands.{nextIn, isRightT, tryOperandsT}
 use Rattle.claim_laws.specs.RowParts.{asParts, allParts, codeIn, Stands, decls-size, scope-size, fields-size, holds-size, head-size}
 use Rattle.claim_laws.specs.Pairs.{other-kinds, kinds-other, same-inner, beside-scope}
 use Rattle.claim_laws.specs.Marks.{Mark, mark, marksT, rowMarks, scopeMarks, fieldsMarks, itemMarks, scope-marks}
@@ -125,8 +125,8 @@ past-paths [] ws s = settled-parts ws s
 past-paths (p ∷ ps) ws s = past-paths ps ws s
 
 -- behind an operand
-next-operand : (o : Operand) (ws : List Row) → Settled ws → nextT (allParts (operandRow o ++ ws)) ≡ allParts ws
-unfolding nextT operandRow
+next-operand : (o : Operand) (ws : List Row) → Settled ws → sameNextT (allParts (operandRow o ++ ws)) ≡ allParts ws
+unfolding sameNextT operandRow
 next-operand (ref space at paths z) ws s = unfold allParts in past-paths paths ws s
 next-operand (outer space up at z) ws s = unfold allParts in settled-parts ws s
 next-operand (case name z) ws s = unfold allParts in settled-parts ws s
@@ -136,20 +136,20 @@ next-operand (case name z) ws s = unfold allParts in settled-parts ws s
 module _ (claim : List ℕ) (ss : List Slot) (used : ℕ) where
   unfoldable tries : List Mark → List Parts → Tried
   tries [] qs = Passes
-  tries (m ∷ ms) qs = pick (rightT ss claim used (m .added) (m .st) (m .parts) qs) (tries ms (nextIn (m .added) qs)) (Breaks (m .row))
+  tries (m ∷ ms) qs = pick (isRightT ss claim used (m .added) (m .st) (m .parts) qs) (tries ms (nextIn (m .added) qs)) (Breaks (m .row))
 
-  tries-marks : (i : ℕ) (a : Bool) (st : List (List ℕ)) (ps qs : List Parts) → operandsT ss claim used i a st ps qs ≡ tries (marksT i a st ps) qs
-  unfolding operandsT tries marksT
+  tries-marks : (i : ℕ) (a : Bool) (st : List (List ℕ)) (ps qs : List Parts) → tryOperandsT ss claim used i a st ps qs ≡ tries (marksT i a st ps) qs
+  unfolding tryOperandsT tries marksT
   tries-marks i a st [] qs = refl
   tries-marks i a st (p ∷ ps) qs =
       let b = isAddedT a (p .code) ps in
-      ap (λ (t : Tried). pick (rightT ss claim used b st p qs) t (Breaks i)) (tries-marks (i + 1) b (openT 64 st p i) ps (nextIn b qs))
+      ap (λ (t : Tried). pick (isRightT ss claim used b st p qs) t (Breaks i)) (tries-marks (i + 1) b (openOneT 64 st p i) ps (nextIn b qs))
 
   abbrev run : List Mark → List Row → Tried
   run ms ws = tries ms (allParts ws)
 
-  added-right : (st : List (List ℕ)) (p : Parts) (qs : List Parts) → rightT ss claim used true st p qs ≡ true
-  unfolding rightT pick
+  added-right : (st : List (List ℕ)) (p : Parts) (qs : List Parts) → isRightT ss claim used true st p qs ≡ true
+  unfolding isRightT pick
   added-right st p [] = refl
   added-right st p (q ∷ qs) = refl
 
@@ -159,7 +159,7 @@ module _ (claim : List ℕ) (ss : List Slot) (used : ℕ) where
   added-rows (x ∷ xs) st n ms ws = rw (added-right st (asParts x) (allParts ws)) (added-rows xs st (suc n) ms ws)
 
   calm-row : (st : List (List ℕ)) (n : ℕ) (r w : Row) (ms : List Mark) (ws : List Row) → Calm r → Settled ws → run (mark false st n (asParts r) ∷ ms) (w ∷ ws) ≡ run ms ws
-  unfolding tries rightT nextIn nextT allParts pick
+  unfolding tries isRightT nextIn sameNextT allParts pick
   calm-row st n r w ms ws c s = rw (ne-eqb (codeIn r) 3 (c .no-ref), ne-eqb (codeIn r) 5 (c .no-outer), settled-parts ws s)
 
   calm-rows : (xs : List Row) (st : List (List ℕ)) (n : ℕ) (ms : List Mark) (ws : List Row) → All Calm xs → Settled ws → run (rowMarks false st n xs ++ ms) (xs ++ ws) ≡ run ms ws
@@ -186,7 +186,7 @@ module _ (claim : List ℕ) (ss : List Slot) (used : ℕ) where
     here = scope kind name cs
 
     abbrev st₀ : List (List ℕ)
-    st₀ = scopeT name k ∷ st
+    st₀ = openScopeT name k ∷ st
 
     operand-row : (n : ℕ) (o w : Operand) (r : Row) (ms : List Mark) (ws : List Row) → Bare o → operandRow o ≡ r ∷ [] → blankOperand o ≡ blankOperand w → Narrow w → LowOperand w → Settled ws
         → run (mark false st₀ n (asParts r) ∷ ms) (operandRow w ++ ws) ≡ pick (operandRight here outside w o) (run ms ws) (Breaks n)
@@ -276,12 +276,12 @@ module _ (claim : List ℕ) (ss : List Slot) (used : ℕ) where
 
   -- the OPEN and the CLOSE
   scope-is : (n : ℕ) (st : List (List ℕ)) (outside : List Env) (kind name : ℕ) (cs : Fields) (kind′ name′ : ℕ) (fs : Fields) (ms : List Mark) (ws : List Row) → Settled ws
-      → ((ks : List Mark) → FieldsRun (suc n) (scope kind name cs) (scopeT name n ∷ st) outside cs fs ks (Close ∷ ws)) → ScopeRun n st outside (scope kind name cs) (scope kind′ name′ fs) ms ws
+      → ((ks : List Mark) → FieldsRun (suc n) (scope kind name cs) (openScopeT name n ∷ st) outside cs fs ks (Close ∷ ws)) → ScopeRun n st outside (scope kind name cs) (scope kind′ name′ fs) ms ws
   unfolding scopeMarks flatten scopeOperands
   scope-is n st outside kind name cs kind′ name′ fs ms ws s f =
-      rw (append-assoc (fieldsRows fs) (Close ∷ []) ws, append-assoc (fieldsMarks (suc n) (scopeT name n ∷ st) cs) (mark false (scopeT name n ∷ st) (suc n + length (fieldsRows cs)) (asParts Close) ∷ []) ms)
+      rw (append-assoc (fieldsRows fs) (Close ∷ []) ws, append-assoc (fieldsMarks (suc n) (openScopeT name n ∷ st) cs) (mark false (openScopeT name n ∷ st) (suc n + length (fieldsRows cs)) (asParts Close) ∷ []) ms)
       (calm-row st n (Open kind name) (Open kind′ name′) _ (fieldsRows fs ++ (Close ∷ ws)) (calm-open kind name) (settled-fields fs (Close ∷ ws) (calm-close .no-path))
-      ∙ (f _ ∙ ap (orTried (fieldsOperands (suc n) cs (scope kind name cs) outside fs)) (calm-row (scopeT name n ∷ st) (suc n + length (fieldsRows cs)) Close Close ms ws calm-close s)))
+      ∙ (f _ ∙ ap (orTried (fieldsOperands (suc n) cs (scope kind name cs) outside fs)) (calm-row (openScopeT name n ∷ st) (suc n + length (fieldsRows cs)) Close Close ms ws calm-close s)))
 
   -- an item of both
   plain-run : (n : ℕ) (here : Scope) (st : List (List ℕ)) (outside : List Env) (h w : Head) (ms : List Mark) (ws : List Row) → run (rowMarks false st n (headRows h) ++ ms) (headRows w ++ ws) ≡ orTried (headOperands here outside n h w) (run ms ws) → ItemRun n here st outside (plain h) (plain w) ms ws
@@ -309,12 +309,12 @@ module _ (claim : List ℕ) (ss : List Slot) (used : ℕ) where
       low : suc k < 65536
       around : Opened claim ss used st outside
 
-    site-opened : (kind name k : ℕ) (cs₀ : Fields) (st : List (List ℕ)) (outside : List Env) → Site kind name k cs₀ st outside → Opened claim ss used (scopeT name k ∷ st) (table (scope kind name cs₀) ∷ outside)
+    site-opened : (kind name k : ℕ) (cs₀ : Fields) (st : List (List ℕ)) (outside : List Env) → Site kind name k cs₀ st outside → Opened claim ss used (openScopeT name k ∷ st) (table (scope kind name cs₀) ∷ outside)
     unfolding table
     site-opened kind name k cs₀ st outside S = (record { k = k; name = name; fs = cs₀; is-scope = refl; is-env = refl; known = S .known }, S .around)
 
     site-head : (kind name k : ℕ) (cs₀ : Fields) (st : List (List ℕ)) (outside : List Env) (h w : Head) (n : ℕ) (ms : List Mark) (ws : List Row) → Site kind name k cs₀ st outside → blankHead h ≡ blankHead w → AllBare (h .operands) → NarrowOperands (w .operands) → LowHead w → Settled ws
-        → run (rowMarks false (scopeT name k ∷ st) n (headRows h) ++ ms) (headRows w ++ ws) ≡ orTried (headOperands (scope kind name cs₀) outside n h w) (run ms ws)
+        → run (rowMarks false (openScopeT name k ∷ st) n (headRows h) ++ ms) (headRows w ++ ws) ≡ orTried (headOperands (scope kind name cs₀) outside n h w) (run ms ws)
     site-head kind name k cs₀ st outside h w n ms ws S e b t low s = head-run kind name k cs₀ (S .known) (S .low) st outside (S .around) h w n ms ws e b t low s
 
     mutual
@@ -328,26 +328,26 @@ module _ (claim : List ℕ) (ss : List Slot) (used : ℕ) where
           (λ ks. fields-run cs kind name n cs (suc n) st outside fs ks (Close ∷ ws) (record { known = K .0; low = omega arith; around = O }) (K .1) a b (beside-scope kind name cs kind′ name′ fs e) (low .1) t (omega arith) (calm-close .no-path))
 
       fields-run : (cs : Fields) (kind name k : ℕ) (cs₀ : Fields) (n : ℕ) (st : List (List ℕ)) (outside : List Env) (fs : Fields) (ms : List Mark) (ws : List Row) → Site kind name k cs₀ st outside → KnownFields (partsAt claim) rules ss n cs → AddedFields cs → BareFields cs → Beside cs fs → LowFields fs → NarrowFields fs
-          → n + length (fieldsRows cs) ≤ 65536 → Settled ws → FieldsRun n (scope kind name cs₀) (scopeT name k ∷ st) outside cs fs ms ws
-      fields-run end kind name k cs₀ n st outside end ms ws S K a b stop low t l s = end-run n (scope kind name cs₀) (scopeT name k ∷ st) outside ms ws
+          → n + length (fieldsRows cs) ≤ 65536 → Settled ws → FieldsRun n (scope kind name cs₀) (openScopeT name k ∷ st) outside cs fs ms ws
+      fields-run end kind name k cs₀ n st outside end ms ws S K a b stop low t l s = end-run n (scope kind name cs₀) (openScopeT name k ∷ st) outside ms ws
       fields-run (i ▸ cs) kind name k cs₀ n st outside fs ms ws S K a b (skip e p) low t l s =
           let z = fields-size i cs in
-          skip-run n (scope kind name cs₀) (scopeT name k ∷ st) outside i cs fs ms ws e (a .0 e) (fields-run cs kind name k cs₀ (n + length (itemRows i)) st outside fs ms ws S (K .1) (a .2) (b .1) p low t (omega arith) s)
+          skip-run n (scope kind name cs₀) (openScopeT name k ∷ st) outside i cs fs ms ws e (a .0 e) (fields-run cs kind name k cs₀ (n + length (itemRows i)) st outside fs ms ws S (K .1) (a .2) (b .1) p low t (omega arith) s)
       fields-run (i ▸ cs) kind name k cs₀ n st outside (w ▸ fs) ms ws S K a b (both e q p) low t l s =
           let z = fields-size i cs in
-          both-run n (scope kind name cs₀) (scopeT name k ∷ st) outside i w cs fs ms ws e
+          both-run n (scope kind name cs₀) (openScopeT name k ∷ st) outside i w cs fs ms ws e
           (λ ks. item-run i kind name k cs₀ n st outside w ks (fieldsRows fs ++ ws) S (K .0) (a .1) (b .0) q (low .0) (low .1) (t .0) (t .1) (omega arith) (settled-fields fs ws s))
           (fields-run cs kind name k cs₀ (n + length (itemRows i)) st outside fs ms ws S (K .1) (a .2) (b .1) p (low .2) (t .2) (omega arith) s)
 
       item-run : (i : Item) (kind name k : ℕ) (cs₀ : Fields) (n : ℕ) (st : List (List ℕ)) (outside : List Env) (w : Item) (ms : List Mark) (ws : List Row) → Site kind name k cs₀ st outside → KnownItem (partsAt claim) rules ss (n + length (headRows (headOf i))) i → AddedItem i → BareItem i
-          → blankItem (withoutItem i) ≡ blankItem w → LowHead (headOf w) → LowItem w → NarrowOperands (headOf w .operands) → NarrowItem w → n + length (itemRows i) ≤ 65536 → Settled ws → ItemRun n (scope kind name cs₀) (scopeT name k ∷ st) outside i w ms ws
-      item-run (plain h) kind name k cs₀ n st outside (plain w) ms ws S K a b e low li t ti l s = plain-run n (scope kind name cs₀) (scopeT name k ∷ st) outside h w ms ws (site-head kind name k cs₀ st outside h w n ms ws S (plain-heads h w e) b t low s)
+          → blankItem (withoutItem i) ≡ blankItem w → LowHead (headOf w) → LowItem w → NarrowOperands (headOf w .operands) → NarrowItem w → n + length (itemRows i) ≤ 65536 → Settled ws → ItemRun n (scope kind name cs₀) (openScopeT name k ∷ st) outside i w ms ws
+      item-run (plain h) kind name k cs₀ n st outside (plain w) ms ws S K a b e low li t ti l s = plain-run n (scope kind name cs₀) (openScopeT name k ∷ st) outside h w ms ws (site-head kind name k cs₀ st outside h w n ms ws S (plain-heads h w e) b t low s)
       item-run (plain h) kind name k cs₀ n st outside (holds w s₀) ms ws S K a b e low li t ti l s = kinds-other h w s₀ e
       item-run (holds h c) kind name k cs₀ n st outside (plain w) ms ws S K a b e low li t ti l s = other-kinds h w c e
       item-run (holds h c) kind name k cs₀ n st outside (holds w s₀) ms ws S K a b e low li t ti l s =
           let z = holds-size h c in
-          holds-run n (scope kind name cs₀) (scopeT name k ∷ st) outside h w c s₀ ms ws (λ ks. site-head kind name k cs₀ st outside h w n ks (flatten s₀ ++ ws) S (holds-heads h w c s₀ e) (b .0) t low (settled-scope s₀ ws))
-          (scope-run c (n + length (headRows h)) (scopeT name k ∷ st) (table (scope kind name cs₀) ∷ outside) s₀ ms ws K (site-opened kind name k cs₀ st outside S) a (b .1) (same-inner h w c s₀ e) li ti (omega arith) s)
+          holds-run n (scope kind name cs₀) (openScopeT name k ∷ st) outside h w c s₀ ms ws (λ ks. site-head kind name k cs₀ st outside h w n ks (flatten s₀ ++ ws) S (holds-heads h w c s₀ e) (b .0) t low (settled-scope s₀ ws))
+          (scope-run c (n + length (headRows h)) (openScopeT name k ∷ st) (table (scope kind name cs₀) ∷ outside) s₀ ms ws K (site-opened kind name k cs₀ st outside S) a (b .1) (same-inner h w c s₀ e) li ti (omega arith) s)
 
   no-rows : run [] [] ≡ Passes
   unfolding tries
@@ -355,7 +355,7 @@ module _ (claim : List ℕ) (ss : List Slot) (used : ℕ) where
 
 -- Condition 4, of a claim that passed conditions 2 and 3, whose slots are all entered.
 pub right-operands : (rules : RuleSet) (claim : List ℕ) (used : ℕ) (s c : Scope) → GoodScope rules c → AddedScope c → BareScope c → blank (without c) ≡ blank s → LowScope s → NarrowScope s → Stands (partsAt claim) 0 (flatten c) → length (flatten c) ≤ 65536 → height c ≤ 64
-    → operandsT (scopeSlots 0 c) claim used 0 false [] (allParts (flatten c)) (allParts (flatten s)) ≡ tried (condition4 s c)
+    → tryOperandsT (scopeSlots 0 c) claim used 0 false [] (allParts (flatten c)) (allParts (flatten s)) ≡ tried (condition4 s c)
 unfolding condition4
 right-operands rules claim used s c g a b e low t stands l d =
     let ss = scopeSlots 0 c in

@@ -10,7 +10,7 @@ use lib.Dec.{eqb, leb, ltb}
 use lib.ListN.{length, getD}
 use borrow.Author.Tests.{eq-eqb, ne-eqb, eqb-true}
 use Rattle.kit.specs.Pick.{pick}
-use Rattle.parts.specs.Apart.{partsAt, parts}
+use Rattle.parts.specs.PartsAt.{partsAt, parts}
 use Rattle.parts.specs.declared.Parts.{Parts}
 use Rattle.names.specs.Table.{Slot, findIn, noScope}
 use Rattle.names.specs.declared.Found.{Found}
@@ -30,14 +30,14 @@ use Rattle.rules.specs.Laws.Results.{no-option}
 use Rattle.checking.specs.Check
 use Rattle.checking.specs.Check.{isNumber, hasNumbers, notNumber, refNumber, first, same, samePair, reached, throughOuter, throughExport, throughPaths, plainly}
 use Rattle.checking.specs.Laws.Plainly.{plain-table}
-use Rattle.claim_scopes.specs.Open.{scopeT, nameIn, rowIn}
-use Rattle.claim_scopes.specs.Entries.{keyT, entryOf, lookT}
+use Rattle.claim_scopes.specs.Open.{openScopeT, nameIn, rowIn}
+use Rattle.claim_scopes.specs.Entries.{entryKeyT, entryOf, lookT}
 use Rattle.claim_scopes.specs.declared.entries.Entry.{Entry}
 use Rattle.claim_scopes.specs.declared.entries.Entry.the-variants.{Value, Nothing}
-use Rattle.claim_reach.specs.Alias.{countedT, reachedT, codeT, exportCode, outerAt, exportAt, outerIn, exportIn, throughOuterT, throughExportT}
-use Rattle.claim_reach.specs.Outward.{orFurther, outT}
+use Rattle.claim_reach.specs.Alias.{reachCountedT, reachedT, reachCodeT, exportCode, outerAt, exportAt, outerIn, exportIn, throughOuterT, throughExportT}
+use Rattle.claim_reach.specs.Outward.{orFurther, reachOutT}
 use Rattle.claim_reach.specs.declared.alias.Sought.{Sought}
-use Rattle.claim_operands.specs.Paths.{noParts, onward, orStop, pathsT}
+use Rattle.claim_operands.specs.Paths.{noParts, onward, orStop, throughPathsT}
 use Rattle.claim_operands.specs.Reference.{isMetT, seeking}
 use Rattle.claim_operands.specs.Outer.{namedIn}
 use Rattle.claim_laws.specs.RowParts.{asParts, allParts, Stands}
@@ -75,8 +75,8 @@ module _ (claim : List ℕ) where
   unfolding headRows declRows operandRows
   alias-rows r h d o x row a p q e s = (s .0, rw (a, q, p, e) at (s .1) .1)
 
-  code-at : (r : ℕ) (h : Head) → partsAt claim r ≡ asParts (Field (h .code) (h .builtin) (h .z)) → codeT claim (suc r) ≡ h .code
-  unfolding codeT asParts encode pick
+  code-at : (r : ℕ) (h : Head) → partsAt claim r ≡ asParts (Field (h .code) (h .builtin) (h .z)) → reachCodeT claim (suc r) ≡ h .code
+  unfolding reachCodeT asParts encode pick
   code-at r h e = let q : suc r - 1 ≡ r = omega arith in rw (ne-eqb (suc r) 0 (omega arith), q, e)
 
   -- operands of two numbers and of one
@@ -241,25 +241,25 @@ module _ (claim : List ℕ) (ss : List Slot) (used : ℕ) where
 
   pub known-outer : (k : ℕ) (fs : Fields) (space n : ℕ) → Knows k fs → suc k < 65536 → space < 256 → throughOuterT ss claim (seeking used k space n) ≡ metAt (throughOuter fs space n)
   unfolding throughOuterT reachedT lookT throughOuter
-  known-outer k fs space n K l w = rw (row-behind k l) (outer-reached claim (findIn ss (keyT (k + 1) space) (countedT n)) (reached fs space n) (K .aliases space n w))
+  known-outer k fs space n K l w = rw (row-behind k l) (outer-reached claim (findIn ss (entryKeyT (k + 1) space) (reachCountedT n)) (reached fs space n) (K .aliases space n w))
 
   known-export : (k : ℕ) (fs : Fields) (space n name : ℕ) → Knows k fs → suc k < 65536 → space < 256 → throughExportT ss claim (seeking used k space n) name ≡ entered (throughExport fs space name n)
   unfolding throughExportT reachedT lookT throughExport
-  known-export k fs space n name K l w = rw (row-behind k l) (export-reached claim (findIn ss (keyT (k + 1) space) (countedT n)) (reached fs space n) space name (K .aliases space n w))
+  known-export k fs space n name K l w = rw (row-behind k l) (export-reached claim (findIn ss (entryKeyT (k + 1) space) (reachCountedT n)) (reached fs space n) space name (K .aliases space n w))
 
   stop-then : (o : Option ℕ) (f : ℕ → Entry) (g : ℕ → Option ℕ) → ((m : ℕ) → f m ≡ entered (g m)) → orStop (entered o) f ≡ entered (o then g)
   unfolding orStop entered _then_
   stop-then none f g e = refl
   stop-then (some m) f g e = e m
 
-  paths-through : (k : ℕ) (fs : Fields) (ps : List ℕ) (rest : List Row) (j space n : ℕ) → Knows k fs → suc k < 65536 → space < 256 → j ≤ length ps → pathsT ss claim (allParts (pathRows ps ++ rest)) j (seeking used k space n) ≡ entered (through fs ps j space n)
-  unfolding pathsT through
+  paths-through : (k : ℕ) (fs : Fields) (ps : List ℕ) (rest : List Row) (j space n : ℕ) → Knows k fs → suc k < 65536 → space < 256 → j ≤ length ps → throughPathsT ss claim (allParts (pathRows ps ++ rest)) j (seeking used k space n) ≡ entered (through fs ps j space n)
+  unfolding throughPathsT through
   paths-through k fs ps rest zero space n K l w h = unfold entered in refl
   paths-through k fs ps rest (suc j) space n K l w h =
       rw (path-row ps rest j (omega arith), known-export k fs space n (getD ps j 0) K l w)
       (stop-then (throughExport fs space (getD ps j 0) n) _ (λ m. through fs ps j 10 m) (λ m. paths-through k fs ps rest j 10 m K l (omega arith) (omega arith)))
 
-  pub known-paths : (k : ℕ) (fs : Fields) (p : ℕ) (ps : List ℕ) (rest : List Row) (space n : ℕ) → Knows k fs → suc k < 65536 → space < 256 → pathsT ss claim (allParts (pathRows (p ∷ ps) ++ rest)) (suc (length ps)) (seeking used k space n) ≡ entered (throughPaths fs space p ps n)
+  pub known-paths : (k : ℕ) (fs : Fields) (p : ℕ) (ps : List ℕ) (rest : List Row) (space n : ℕ) → Knows k fs → suc k < 65536 → space < 256 → throughPathsT ss claim (allParts (pathRows (p ∷ ps) ++ rest)) (suc (length ps)) (seeking used k space n) ≡ entered (throughPaths fs space p ps n)
   known-paths k fs p ps rest space n K l w = paths-through k fs (p ∷ ps) rest (suc (length ps)) space n K l w (omega arith) ∙ ap entered (through-paths fs p ps space n)
 
   -- ---- the scopes that are open
@@ -269,7 +269,7 @@ module _ (claim : List ℕ) (ss : List Slot) (used : ℕ) where
     pub k : ℕ
     pub name : ℕ
     pub fs : Fields
-    pub is-scope : s ≡ scopeT name k
+    pub is-scope : s ≡ openScopeT name k
     pub is-env : e ≡ plainly name (declarations fs)
     pub known : Knows k fs
 
@@ -287,14 +287,14 @@ module _ (claim : List ℕ) (ss : List Slot) (used : ℕ) where
   further none d m w e = e
   further (some n) d m w e = refl
 
-  pub known-outward : (st : List (List ℕ)) (es : List Env) (d space name : ℕ) → Opened st es → space < 256 → name ≤ topName → outT ss st d space name ≡ metAt (walk es d space name)
-  unfolding outT walk
+  pub known-outward : (st : List (List ℕ)) (es : List Env) (d space name : ℕ) → Opened st es → space < 256 → name ≤ topName → reachOutT ss st d space name ≡ metAt (walk es d space name)
+  unfolding reachOutT walk
   known-outward [] [] d space name O w l = unfold metAt in refl
   known-outward [] (e ∷ es) d space name O w l = absurd O
   known-outward (s ∷ st) [] d space name O w l = absurd O
   known-outward (s ∷ st) (e ∷ es) d space name O w l =
-      let i : outT ss st (d + 1) space name ≡ metAt (walk es (suc d) space name) = rw (add-one d) (known-outward st es (suc d) space name (O .1) w l) in
-      rw (opened-name s e space name (O .0) w l) (further (find (tableOf e) space name) d (outT ss st (d + 1) space name) (walk es (suc d) space name) i)
+      let i : reachOutT ss st (d + 1) space name ≡ metAt (walk es (suc d) space name) = rw (add-one d) (known-outward st es (suc d) space name (O .1) w l) in
+      rw (opened-name s e space name (O .0) w l) (further (find (tableOf e) space name) d (reachOutT ss st (d + 1) space name) (walk es (suc d) space name) i)
 
   -- by their names
   unfoldable pub namedAs : (out : ℕ) → Option ℕ → Named

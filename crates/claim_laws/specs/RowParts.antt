@@ -13,7 +13,7 @@ use Rattle.rules.specs.Readings
 use Rattle.rules.specs.Laws.ToolLaws.{All, done, _&_, all-append}
 use Rattle.claim_rows.specs.Added.{anyFresh}
 use Rattle.kit.specs.Pick.{pick}
-use Rattle.parts.specs.Apart.{parts}
+use Rattle.parts.specs.PartsAt.{parts}
 use Rattle.parts.specs.declared.Parts.{Parts}
 
 abbrev pub ofRaw : Raw → Parts

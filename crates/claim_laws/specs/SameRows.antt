@@ -19,7 +19,7 @@ use Rattle.rules.specs.Readings
 use Rattle.rules.specs.Readings.{isInserted}
 use Rattle.checking.specs.Check.{isPath, kept, sameParts, withoutPaths, Claimed, own, added, scopeClaimed, fieldsClaimed, itemClaimed, differs, condition2}
 use Rattle.claim_rows.specs.Added.{isAddedT}
-use Rattle.claim_rows.specs.Same.{depthT, sameT, otherT, breaksT, pastPaths, nextT, behindT, restT, differsT}
+use Rattle.claim_rows.specs.Same.{depthBehindT, isSameT, otherT, sameBreaksT, pastPaths, sameNextT, rowsBehindT, restT, differsT}
 use Rattle.claim_rows.specs.declared.Tried.{Tried}
 use Rattle.claim_rows.specs.declared.Tried.the-variants.{Passes, Breaks}
 use Rattle.claim_laws.specs.RowParts.{ofRaw, asParts, allParts, codeIn, NoDecl, behindField, operands-no-decl, any-fresh, fields-no-decl, scope-no-decl, Inner, inner-behind}
@@ -36,7 +36,7 @@ mark zero r = own r
 mark (suc d) r = added r
 
 unfoldable deep : (depth : ℕ) → Row → List Row → ℕ
-deep depth r rs = depthT depth (codeIn r) (isAddedT false (codeIn r) (allParts rs))
+deep depth r rs = depthBehindT depth (codeIn r) (isAddedT false (codeIn r) (allParts rs))
 
 unfoldable marks : (depth : ℕ) → List Row → List Claimed
 marks depth [] = []
@@ -76,8 +76,8 @@ other-code true false c c′ b e x y z b′ e′ x′ y′ z′ h = rw h
 other-code false true c c′ b e x y z b′ e′ x′ y′ z′ h = rw h
 other-code false false c c′ b e x y z b′ e′ x′ y′ z′ h = rw h
 
-same-raw : (r r′ : Raw) → sameT (ofRaw r) (ofRaw r′) ≡ sameParts (kept r) (kept r′)
-unfolding sameT kept
+same-raw : (r r′ : Raw) → isSameT (ofRaw r) (ofRaw r′) ≡ sameParts (kept r) (kept r′)
+unfolding isSameT kept
 same-raw (raw c b e x y z) (raw c′ b′ e′ x′ y′ z′) = go (eqb c c′) refl
   where
     go : (t : Bool) → eqb c c′ ≡ t
@@ -85,7 +85,7 @@ same-raw (raw c b e x y z) (raw c′ b′ e′ x′ y′ z′) = go (eqb c c′)
     go true h = rw (← eqb-true c c′ h) (ap (λ (k : Bool). eqb b b′ && k) (same-rest (eqb c 3) (eqb c 5) (eqb e e′) (eqb x x′) (eqb y y′) (eqb z z′)) ∙ sym (same-code (isIn c (3 ∷ 5 ∷ [])) c b e x y z b′ e′ x′ y′ z′))
     go false h = sym (other-code (isIn c (3 ∷ 5 ∷ [])) (isIn c′ (3 ∷ 5 ∷ [])) c c′ b e x y z b′ e′ x′ y′ z′ h)
 
-same-row : (r r′ : Row) → sameT (asParts r) (asParts r′) ≡ sameParts (kept (encode r)) (kept (encode r′))
+same-row : (r r′ : Row) → isSameT (asParts r) (asParts r′) ≡ sameParts (kept (encode r)) (kept (encode r′))
 unfolding asParts
 same-row r r′ = same-raw (encode r) (encode r′)
 
@@ -143,19 +143,19 @@ positive : (k : ℕ) → ltb 0 (suc k) ≡ true
 positive k = lt-ltb 0 (suc k) (omega arith)
 
 added-turn : (t : Bool) (r : Row) (rs : List Row) (n k : ℕ) (qs : List Row) → Settled qs → isPath (encode r) ≡ t → Found (suc n) (suc k) rs
-    → pick (breaksT (asParts r) (suc k) (allParts qs)) (Breaks n) (differsT (suc n) (suc k) (allParts rs) (behindT (suc k) (allParts qs))) ≡ tried (if t then some n else differs (suc n) (marks (suc k) rs) (withoutPaths qs))
-unfolding breaksT behindT pick if_then_else_
+    → pick (sameBreaksT (asParts r) (suc k) (allParts qs)) (Breaks n) (differsT (suc n) (suc k) (allParts rs) (rowsBehindT (suc k) (allParts qs))) ≡ tried (if t then some n else differs (suc n) (marks (suc k) rs) (withoutPaths qs))
+unfolding sameBreaksT rowsBehindT pick if_then_else_
 added-turn true r rs n k qs s h f = rw (is-path r, h)
 added-turn false r rs n k qs s h f = rw (is-path r, h, positive k) (f qs s)
 
-missing-turn : (t : Bool) (r : Row) (n : ℕ) (X : Tried) → isPath (encode r) ≡ t → pick (breaksT (asParts r) 0 []) (Breaks n) X ≡ Breaks n
-unfolding breaksT otherT pick
+missing-turn : (t : Bool) (r : Row) (n : ℕ) (X : Tried) → isPath (encode r) ≡ t → pick (sameBreaksT (asParts r) 0 []) (Breaks n) X ≡ Breaks n
+unfolding sameBreaksT otherT pick
 missing-turn true r n X h = rw (is-path r, h)
 missing-turn false r n X h = rw (is-path r, h)
 
 own-turn : (t u : Bool) (r q : Row) (rs qs : List Row) (n : ℕ) → isPath (encode r) ≡ t → sameParts (kept (encode r)) (kept (encode q)) ≡ u → Found (suc n) 0 rs
-    → pick (breaksT (asParts r) 0 (allParts (q ∷ qs))) (Breaks n) (differsT (suc n) 0 (allParts rs) (behindT 0 (allParts (q ∷ qs)))) ≡ tried (if t then some n else if u then differs (suc n) (marks 0 rs) (withoutPaths qs) else some n)
-unfolding breaksT behindT otherT nextT allParts pick if_then_else_
+    → pick (sameBreaksT (asParts r) 0 (allParts (q ∷ qs))) (Breaks n) (differsT (suc n) 0 (allParts rs) (rowsBehindT 0 (allParts (q ∷ qs)))) ≡ tried (if t then some n else if u then differs (suc n) (marks 0 rs) (withoutPaths qs) else some n)
+unfolding sameBreaksT rowsBehindT otherT sameNextT allParts pick if_then_else_
 own-turn true u r q rs qs n h g f = rw (is-path r, h)
 own-turn false true r q rs qs n h g f = rw (is-path r, h, same-row r q, g) (rw (onward-parts qs) (f (onward qs) (onward-settled qs) ∙ rw (onward-without qs)))
 own-turn false false r q rs qs n h g f = rw (is-path r, h, same-row r q, g)
@@ -166,7 +166,7 @@ rest-turn n [] s = refl
 rest-turn n (q ∷ qs) s = rw s
 
 turn : (r : Row) (rs : List Row) (n d : ℕ) (qs : List Row) → Settled qs → Found (suc n) d rs
-    → pick (breaksT (asParts r) d (allParts qs)) (Breaks n) (differsT (suc n) d (allParts rs) (behindT d (allParts qs))) ≡ tried (differs n (mark d r ∷ marks d rs) (withoutPaths qs))
+    → pick (sameBreaksT (asParts r) d (allParts qs)) (Breaks n) (differsT (suc n) d (allParts rs) (rowsBehindT d (allParts qs))) ≡ tried (differs n (mark d r ∷ marks d rs) (withoutPaths qs))
 unfolding mark differs withoutPaths if_then_else_
 turn r rs n (suc k) qs s f = added-turn (isPath (encode r)) r rs n k qs s refl f
 turn r rs n zero [] s f = unfold allParts in missing-turn (isPath (encode r)) r n _ refl
@@ -180,7 +180,7 @@ differs-marks (r ∷ rs) n d qs s = rw (add-one n) (turn r rs n (deep d r rs) qs
 -- ---- the rows of a tree are marked as the rules say
 
 stays : (d : ℕ) (r : Row) (rs : List Row) → Inner r → deep d r rs ≡ d
-unfolding deep depthT pick
+unfolding deep depthBehindT pick
 stays d r rs i = rw (ne-eqb (codeIn r) 1 (i .no-field), ne-eqb (codeIn r) 8 (i .no-close), ne-eqb (codeIn r) 7 (i .no-open))
 
 -- rows of a field behind its FIELD
@@ -206,15 +206,15 @@ goes-both d e f xs ys cs ds p q zs = rw (append-assoc xs ys zs) (p (ys ++ zs) �
 
 -- in a scope inside an added field a FIELD changes nothing
 deep-field : (d code builtin z : ℕ) (rs : List Row) → deep (suc (suc d)) (Field code builtin z) rs ≡ suc (suc d)
-unfolding deep depthT asParts encode pick
+unfolding deep depthBehindT asParts encode pick
 deep-field d code builtin z rs = rw (lt-ltb 1 (suc (suc d)) (omega arith))
 
 deep-open : (d kind name : ℕ) (rs : List Row) → deep (suc d) (Open kind name) rs ≡ suc (suc d)
-unfolding deep depthT asParts encode pick
+unfolding deep depthBehindT asParts encode pick
 deep-open d kind name rs = rw (ne-eqb (suc d) 0 (omega arith)) (omega arith)
 
 deep-close : (d : ℕ) (rs : List Row) → deep d Close rs ≡ d - 1
-unfolding deep depthT asParts encode pick
+unfolding deep depthBehindT asParts encode pick
 deep-close d rs = refl
 
 -- all of these are added
@@ -272,7 +272,7 @@ pick-level false = refl
 
 -- behind the FIELD of a field, where d is 0 or 1: whether the field is added is told by the rows behind it
 field-deep : (d : ℕ) (h : Head) (ys : List Row) → d ≤ 1 → NoDecl ys → deep d (Field (h .code) (h .builtin) (h .z)) (behindField h ++ ys) ≡ level (isInserted h)
-unfolding deep depthT isAddedT asParts encode pick behindField isInserted
+unfolding deep depthBehindT isAddedT asParts encode pick behindField isInserted
 field-deep d h ys l n =
     rw (
       le-ltb _ _ l,
@@ -321,7 +321,7 @@ unfolding flatten scopeClaimed marks mark
 last-goes d zs l = let e : deep d Close zs ≡ 0 = deep-close d zs ∙ omega arith in rw e
 
 open-goes : (kind name : ℕ) (fs : Fields) (ys : List Row) → marks 0 (fieldsRows fs ++ (Close ∷ ys)) ≡ fieldsClaimed fs ++ (own Close ∷ marks 0 ys) → marks 0 (flatten (scope kind name fs) ++ ys) ≡ scopeClaimed (scope kind name fs) ++ marks 0 ys
-unfolding flatten scopeClaimed marks mark deep depthT asParts encode pick
+unfolding flatten scopeClaimed marks mark deep depthBehindT asParts encode pick
 open-goes kind name fs ys p = rw (append-assoc (fieldsRows fs) (Close ∷ []) ys, append-assoc (fieldsClaimed fs) (own Close ∷ []) (marks 0 ys)) (ap (λ (cs : List Claimed). own (Open kind name) ∷ cs) p)
 
 -- either way

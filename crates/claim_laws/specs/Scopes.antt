@@ -17,10 +17,10 @@ use Rattle.rules.specs.Readings.{isInserted}
 use Rattle.rules.specs.Laws.ToolLaws.{All, done, _&_, all-append, all-map}
 use Rattle.checking.specs.Check.{reached}
 use Rattle.checking.specs.Laws.AddedFields.{IsAdded, AddedScope, AddedFields, AddedItem}
-use Rattle.claim_scopes.specs.Entries.{keyT, slotT}
-use Rattle.claim_numbers.specs.Count.{noCounts, moreT}
+use Rattle.claim_scopes.specs.Entries.{entryKeyT, slotT}
+use Rattle.claim_numbers.specs.Count.{noCounts, moreCountT}
 use Rattle.claim_numbers.specs.Enter.{declSlot}
-use Rattle.claim_reach.specs.Alias.{countedT}
+use Rattle.claim_reach.specs.Alias.{reachCountedT}
 use Rattle.claim_laws.specs.RowParts.{asParts, scope-size, fields-size, holds-size, head-size, item-size, Stands, stands-first, stands-second}
 use Rattle.claim_laws.specs.Keys.{orFound, find-append, other-first, other-last, Other, Of, Within, wider, key-is}
 use Rattle.claim_laws.specs.AliasShape.{good-head}
@@ -38,7 +38,7 @@ slot-within k c x l A = go (isInserted (x .head)) refl
     go true e =
         let s = A .space in
         let m : k % 65536 ≡ k = omega arith in
-        let q : keyT (k % 65536 + 1) (x .decl .space) ≡ 257 * (k + 1) + x .decl .space = rw m (key-is (k + 1) (x .decl .space) (omega arith)) in
+        let q : entryKeyT (k % 65536 + 1) (x .decl .space) ≡ 257 * (k + 1) + x .decl .space = rw m (key-is (k + 1) (x .decl .space) (omega arith)) in
         rw e (record { low = omega arith; high = omega arith })
     go false e =
         let s = A .space in
@@ -48,7 +48,7 @@ slot-within k c x l A = go (isInserted (x .head)) refl
 slots-within : (k : ℕ) (c : List ℕ) (xs : List Declared) → suc k < 65536 → All Apt xs → Within k (k + 2) (slotsOf k c xs)
 unfolding slotsOf
 slots-within k c [] l done = done
-slots-within k c (x ∷ xs) l (A & As) = slot-within k c x l A & slots-within k (moreT c (x .decl .space)) xs l As
+slots-within k c (x ∷ xs) l (A & As) = slot-within k c x l A & slots-within k (moreCountT c (x .decl .space)) xs l As
 
 module _ (at : ℕ → Parts) (rules : RuleSet) where
   fields-within-next : (i : Item) (fs : Fields) (kind k n : ℕ) (c : List ℕ) → GoodItem rules i kind → All Apt (headDeclared n (headOf i)) → suc k ≤ n → n + length (fieldsRows (i ▸ fs)) < 65536
@@ -111,12 +111,12 @@ module _ (at : ℕ → Parts) (rules : RuleSet) where
   nearer : (lo hi lo′ hi′ : ℕ) (ss : List Slot) → lo ≤ lo′ → hi′ ≤ hi → All (Away lo hi) ss → All (Away lo′ hi′) ss
   nearer lo hi lo′ hi′ ss l h p = all-map ss (λ s o. ⊎-elim (λ (u : spaceOf s < 257 * lo). inl (omega arith)) (λ (u : 257 * hi ≤ spaceOf s). inr (omega arith)) o) p
 
-  away-other : (lo hi k space : ℕ) (ss : List Slot) → lo ≤ k → k < hi → k < 65536 → space < 256 → All (Away lo hi) ss → All (Other (keyT k space)) ss
+  away-other : (lo hi k space : ℕ) (ss : List Slot) → lo ≤ k → k < hi → k < 65536 → space < 256 → All (Away lo hi) ss → All (Other (entryKeyT k space)) ss
   away-other lo hi k space ss l h low narrow p =
       let q = key-is k space low in
       all-map ss (λ s o e. ⊎-elim (λ (u : spaceOf s < 257 * lo). omega arith) (λ (u : 257 * hi ≤ spaceOf s). omega arith) o) p
 
-  within-other : (lo hi k space : ℕ) (ss : List Slot) → suc k ≤ lo → k < 65536 → space < 256 → Within lo hi ss → All (Other (keyT k space)) ss
+  within-other : (lo hi k space : ℕ) (ss : List Slot) → suc k ≤ lo → k < 65536 → space < 256 → Within lo hi ss → All (Other (entryKeyT k space)) ss
   within-other lo hi k space ss l low narrow p = let q = key-is k space low in all-map ss (λ s o e. let h = o .low in omega arith) p
 
   -- ---- the slots of one scope, among those of the scopes inside it
@@ -137,13 +137,13 @@ module _ (at : ℕ → Parts) (rules : RuleSet) where
   end-own k n c key name = refl
 
   fields-own : (fs : Fields) (kind k n : ℕ) (c : List ℕ) (j space name : ℕ) → j ≤ n → space < 256 → GoodFields rules fs kind → AddedFields fs → n + length (fieldsRows fs) < 65536
-      → findIn (fieldsSlots k n c fs) (keyT j space) name ≡ findIn (slotsOf k c (declaredIn n fs)) (keyT j space) name
-  fields-own end kind k n c j space name l narrow g a h = end-own k n c (keyT j space) name
+      → findIn (fieldsSlots k n c fs) (entryKeyT j space) name ≡ findIn (slotsOf k c (declaredIn n fs)) (entryKeyT j space) name
+  fields-own end kind k n c j space name l narrow g a h = end-own k n c (entryKeyT j space) name
   fields-own (i ▸ fs) kind k n c j space name l narrow g a h =
       let e = fields-size i fs in
       let s = head-size (headOf i) in
       let t = item-size i in
-      own-next k n c i fs (keyT j space) name (within-other _ _ j space _ (omega arith) (omega arith) narrow (item-within i kind n (g .0) (a .1) (omega arith)))
+      own-next k n c i fs (entryKeyT j space) name (within-other _ _ j space _ (omega arith) (omega arith) narrow (item-within i kind n (g .0) (a .1) (omega arith)))
       (fields-own fs kind k (n + length (itemRows i)) (countsBy c (headDeclared n (headOf i))) j space name (omega arith) narrow (g .1) (a .2) (omega arith))
 
   -- ---- what is known of each scope
@@ -169,12 +169,12 @@ module _ (at : ℕ → Parts) (rules : RuleSet) where
   known-here kind n fs ss pre post e g a s l p q =
       let few = declared-few (suc n) fs in
       let K = own-known at n fs (omega arith) (omega arith) (fields-apt at rules fs kind (suc n) g a) (fields-placed at rules fs kind (suc n) g a s l) in
-      let find-is : (j space name : ℕ) → n ≤ j → j < suc (suc n) → space < 256 → findIn ss (keyT j space) name ≡ findIn (slotsOf n noCounts (declaredIn (suc n) fs)) (keyT j space) name =
-      λ j space name u v w. among ss pre (fieldsSlots n (suc n) noCounts fs) post (keyT j space) name e (away-other n (suc (suc n)) j space pre u v (omega arith) w p) (away-other n (suc (suc n)) j space post u v (omega arith) w q)
+      let find-is : (j space name : ℕ) → n ≤ j → j < suc (suc n) → space < 256 → findIn ss (entryKeyT j space) name ≡ findIn (slotsOf n noCounts (declaredIn (suc n) fs)) (entryKeyT j space) name =
+      λ j space name u v w. among ss pre (fieldsSlots n (suc n) noCounts fs) post (entryKeyT j space) name e (away-other n (suc (suc n)) j space pre u v (omega arith) w p) (away-other n (suc (suc n)) j space post u v (omega arith) w q)
       ∙ fields-own fs kind n (suc n) noCounts j space name (omega arith) w g a l in
       record {
         names = λ space name w low. find-is n space name (omega arith) (omega arith) w ∙ K .names space name w low;
-        aliases = λ space m w. rw (find-is (n + 1) space (countedT m) (omega arith) (omega arith) w) (K .aliases space m w);
+        aliases = λ space m w. rw (find-is (n + 1) space (reachCountedT m) (omega arith) (omega arith) w) (K .aliases space m w);
       }
 
   -- the slots around those of an item

@@ -19,13 +19,13 @@ use Rattle.rules.specs.Tree.{Declaration, Operand, ref, outer, case, Head, Scop
 use Rattle.rules.specs.Good.{GoodHead, GoodScope, GoodFields, GoodItem, height, heights, heightItem}
 use Rattle.rules.specs.Readings.{isInserted}
 use Rattle.rules.specs.Laws.ToolLaws.{All, done, _&_, all-append}
-use Rattle.agree.specs.Spaces.{SpacesDecls}
-use Rattle.agree.specs.GoodSpaces.{head-decls}
+use Rattle.agree.specs.Fit.Spaces.{SpacesDecls}
+use Rattle.agree.specs.Fit.GoodSpaces.{head-decls}
 use Rattle.checking.specs.Laws.AddedFields.{AddedScope}
-use Rattle.claim_scopes.specs.Open.{scopeT, hereT}
+use Rattle.claim_scopes.specs.Open.{openScopeT, hereT}
 use Rattle.claim_scopes.specs.Entries.{enterT}
-use Rattle.claim_numbers.specs.Count.{noCounts, moreT, numberIn, moreIn, lessIn, numberT, countsT}
-use Rattle.claim_numbers.specs.Enter.{declSlot, entryT, entriesT}
+use Rattle.claim_numbers.specs.Count.{noCounts, moreCountT, numberIn, moreIn, lessIn, numberBeforeT, countsT}
+use Rattle.claim_numbers.specs.Enter.{declSlot, declEntryT, entriesT}
 use Rattle.claim_laws.specs.RowParts.{asParts, allParts, codeIn}
 use Rattle.claim_laws.specs.Marks.{Mark, mark, marksT, rowMarks, scopeMarks, fieldsMarks, itemMarks, scope-marks}
 
@@ -52,7 +52,7 @@ declaredIn n (i ▸ fs) = headDeclared n (headOf i) ++ declaredIn (n + length (i
 
 unfoldable pub countsBy : (c : List ℕ) → List Declared → List ℕ
 countsBy c [] = c
-countsBy c (x ∷ xs) = countsBy (moreT c (x .decl .space)) xs
+countsBy c (x ∷ xs) = countsBy (moreCountT c (x .decl .space)) xs
 
 abbrev pub declParts : Declaration → Parts
 declParts d = asParts (Decl (d .space) (d .name) (d .z))
@@ -62,17 +62,17 @@ slotOf k c x = declSlot (isInserted (x .head)) k (declParts (x .decl)) (getD c (
 
 unfoldable pub slotsOf : (k : ℕ) (c : List ℕ) → List Declared → List Slot
 slotsOf k c [] = []
-slotsOf k c (x ∷ xs) = slotOf k c x ∷ slotsOf k (moreT c (x .decl .space)) xs
+slotsOf k c (x ∷ xs) = slotOf k c x ∷ slotsOf k (moreCountT c (x .decl .space)) xs
 
 pub counts-append : (c : List ℕ) (xs ys : List Declared) → countsBy c (xs ++ ys) ≡ countsBy (countsBy c xs) ys
 unfolding countsBy
 counts-append c [] ys = refl
-counts-append c (x ∷ xs) ys = counts-append (moreT c (x .decl .space)) xs ys
+counts-append c (x ∷ xs) ys = counts-append (moreCountT c (x .decl .space)) xs ys
 
 pub slots-append : (k : ℕ) (c : List ℕ) (xs ys : List Declared) → slotsOf k c (xs ++ ys) ≡ slotsOf k c xs ++ slotsOf k (countsBy c xs) ys
 unfolding slotsOf countsBy
 slots-append k c [] ys = refl
-slots-append k c (x ∷ xs) ys = ap (λ (l : List Slot). slotOf k c x ∷ l) (slots-append k (moreT c (x .decl .space)) xs ys)
+slots-append k c (x ∷ xs) ys = ap (λ (l : List Slot). slotOf k c x ∷ l) (slots-append k (moreCountT c (x .decl .space)) xs ys)
 
 -- of all scopes, in the order of the rows; row n is the scope's OPEN, the first field, or what follows the item's head
 unfoldable mutual
@@ -94,7 +94,7 @@ unfoldable mutual
 slots-length : (k : ℕ) (c : List ℕ) (h : Head) (n : ℕ) (ds : List Declaration) → length (slotsOf k c (fromHead h n ds)) ≡ length ds
 unfolding slotsOf
 slots-length k c h n [] = refl
-slots-length k c h n (d ∷ ds) = ap suc (slots-length k (moreT c (d .space)) h (suc n) ds)
+slots-length k c h n (d ∷ ds) = ap suc (slots-length k (moreCountT c (d .space)) h (suc n) ds)
 
 pub fields-length : (k n : ℕ) (c : List ℕ) (i : Item) (fs : Fields) → length (fieldsSlots k n c (i ▸ fs)) ≡ length (headOf i .decls) + length (itemSlots (n + length (headRows (headOf i))) i) + length (fieldsSlots k (n + length (itemRows i)) (countsBy c (headDeclared n (headOf i))) fs)
 unfolding scopeSlots
@@ -148,7 +148,7 @@ marks-append a st n (x ∷ xs) ys = let e : suc n + length xs ≡ n + suc (lengt
 module _ (room : ℕ) where
   unfoldable entries : (cs : List (List ℕ)) (ss : List Slot) → List Mark → List Slot
   entries cs ss [] = ss
-  entries cs ss (m ∷ ms) = entries (countsT 64 cs (m .parts)) (entryT room (m .added) ss (hereT (m .st)) (m .parts) (numberT cs (m .parts)) (m .row)) ms
+  entries cs ss (m ∷ ms) = entries (countsT 64 cs (m .parts)) (declEntryT room (m .added) ss (hereT (m .st)) (m .parts) (numberBeforeT cs (m .parts)) (m .row)) ms
 
   entries-marks : (i : ℕ) (a : Bool) (st cs : List (List ℕ)) (ss : List Slot) (ps : List Parts) → entriesT room i a st cs ss ps ≡ entries cs ss (marksT i a st ps)
   unfolding entriesT entries marksT
@@ -156,7 +156,7 @@ module _ (room : ℕ) where
   entries-marks i a st cs ss (p ∷ ps) = entries-marks _ _ _ _ _ ps
 
   still-row : (cs : List (List ℕ)) (ss : List Slot) (a : Bool) (st : List (List ℕ)) (n : ℕ) (r : Row) (ms : List Mark) → Still r → entries cs ss (mark a st n (asParts r) ∷ ms) ≡ entries cs ss ms
-  unfolding entries countsT entryT pick
+  unfolding entries countsT declEntryT pick
   still-row cs ss a st n r ms i = rw (ne-eqb (codeIn r) 7 (i .no-open), ne-eqb (codeIn r) 8 (i .no-close), ne-eqb (codeIn r) 2 (i .no-decl))
 
   still-rows : (xs : List Row) (cs : List (List ℕ)) (ss : List Slot) (a : Bool) (st : List (List ℕ)) (n : ℕ) (ms : List Mark) → All Still xs → entries cs ss (rowMarks a st n xs ++ ms) ≡ entries cs ss ms
@@ -166,8 +166,8 @@ module _ (room : ℕ) where
 
   -- a DECL
   decl-row : (c : List ℕ) (cs : List (List ℕ)) (ss : List Slot) (st : List (List ℕ)) (x : Declared) (ms : List Mark) → x .decl .space < 13 → length ss < room
-      → entries (c ∷ cs) ss (mark (isInserted (x .head)) st (x .row) (declParts (x .decl)) ∷ ms) ≡ entries (moreT c (x .decl .space) ∷ cs) (ss ++ (slotOf (hereT st) c x ∷ [])) ms
-  unfolding entries countsT entryT numberT numberIn moreIn enterT slotOf asParts encode pick
+      → entries (c ∷ cs) ss (mark (isInserted (x .head)) st (x .row) (declParts (x .decl)) ∷ ms) ≡ entries (moreCountT c (x .decl .space) ∷ cs) (ss ++ (slotOf (hereT st) c x ∷ [])) ms
+  unfolding entries countsT declEntryT numberBeforeT numberIn moreIn enterT slotOf asParts encode pick
   decl-row c cs ss st x ms l r = rw (lt-leb _ _ l, lt-ltb _ _ r)
 
   decl-rows : (h : Head) (c : List ℕ) (cs : List (List ℕ)) (ss : List Slot) (st : List (List ℕ)) (n : ℕ) (ds : List Declaration) (ms : List Mark) → SpacesDecls ds → length ss + length ds ≤ room
@@ -178,7 +178,7 @@ module _ (room : ℕ) where
       let x : Declared = record { head = h; row = n; decl = d } in
       let t = slotOf (hereT st) c x in
       decl-row c cs ss st x _ (s .0) (omega arith)
-      ∙ (decl-rows h (moreT c (d .space)) cs (ss ++ (t ∷ [])) st (suc n) ds ms (s .1) (omega (arith, length-append ss (t ∷ []))) ∙ rw (append-assoc ss (t ∷ []) (slotsOf (hereT st) (moreT c (d .space)) (fromHead h (suc n) ds))))
+      ∙ (decl-rows h (moreCountT c (d .space)) cs (ss ++ (t ∷ [])) st (suc n) ds ms (s .1) (omega (arith, length-append ss (t ∷ []))) ∙ rw (append-assoc ss (t ∷ []) (slotsOf (hereT st) (moreCountT c (d .space)) (fromHead h (suc n) ds))))
 
   -- a field without the scope that it may hold
   head-rows : (h : Head) (c : List ℕ) (cs : List (List ℕ)) (ss : List Slot) (st : List (List ℕ)) (n : ℕ) (ms : List Mark) → SpacesDecls (h .decls) → length ss + length (h .decls) ≤ room
@@ -194,11 +194,11 @@ module _ (room : ℕ) where
   -- ---- fields and scopes
 
   open-row : (cs : List (List ℕ)) (ss : List Slot) (st : List (List ℕ)) (n kind name : ℕ) (ms : List Mark) → length cs < 64 → entries cs ss (mark false st n (asParts (Open kind name)) ∷ ms) ≡ entries (noCounts ∷ cs) ss ms
-  unfolding entries countsT entryT asParts encode pick
+  unfolding entries countsT declEntryT asParts encode pick
   open-row cs ss st n kind name ms l = rw (lt-ltb _ _ l)
 
   close-row : (c : List ℕ) (cs : List (List ℕ)) (ss : List Slot) (st : List (List ℕ)) (n : ℕ) (ms : List Mark) → entries (c ∷ cs) ss (mark false st n (asParts Close) ∷ ms) ≡ entries cs ss ms
-  unfolding entries countsT entryT lessIn asParts encode pick
+  unfolding entries countsT declEntryT lessIn asParts encode pick
   close-row c cs ss st n ms = refl
 
   abbrev ScopeEntered : (cs : List (List ℕ)) (ss : List Slot) (st : List (List ℕ)) (n : ℕ) → Scope → List Mark → Type 0
@@ -212,10 +212,10 @@ module _ (room : ℕ) where
   end-entered c cs ss st n ms = rw (append-nil ss)
 
   scope-entered-is : (cs : List (List ℕ)) (ss : List Slot) (st : List (List ℕ)) (n kind name : ℕ) (fs : Fields) (ms : List Mark) → length cs < 64
-      → ((ks : List Mark) → FieldsEntered noCounts cs ss (scopeT name n ∷ st) (suc n) fs ks) → ScopeEntered cs ss st n (scope kind name fs) ms
+      → ((ks : List Mark) → FieldsEntered noCounts cs ss (openScopeT name n ∷ st) (suc n) fs ks) → ScopeEntered cs ss st n (scope kind name fs) ms
   unfolding scopeMarks scopeSlots hereT
   scope-entered-is cs ss st n kind name fs ms l f =
-      rw (append-assoc) (open-row cs ss st n kind name _ l ∙ (f _ ∙ close-row _ cs _ (scopeT name n ∷ st) _ ms))
+      rw (append-assoc) (open-row cs ss st n kind name _ l ∙ (f _ ∙ close-row _ cs _ (openScopeT name n ∷ st) _ ms))
 
   next-entered : (c : List ℕ) (cs : List (List ℕ)) (ss : List Slot) (st : List (List ℕ)) (n : ℕ) (i : Item) (fs : Fields) (ms : List Mark) → SpacesDecls (headOf i .decls) → length ss + length (headOf i .decls) ≤ room
       → ((us : List Slot) (es : List (List ℕ)) (ks : List Mark) → us ≡ ss ++ slotsOf (hereT st) c (headDeclared n (headOf i)) → es ≡ countsBy c (headDeclared n (headOf i)) ∷ cs → entries es us (itemMarks (n + length (headRows (headOf i))) st i ++ ks) ≡ entries es (us ++ itemSlots (n + length (headRows (headOf i))) i) ks)
@@ -235,7 +235,7 @@ module _ (room : ℕ) where
   unfolding scopeMarks scopeSlots
   holds-entered cs us st n h s ks e = e
 
-  scope-room : (n kind name : ℕ) (fs : Fields) (st : List (List ℕ)) (ss : List Slot) → length ss + length (scopeSlots n (scope kind name fs)) ≤ room → length ss + length (fieldsSlots (hereT (scopeT name n ∷ st)) (suc n) noCounts fs) ≤ room
+  scope-room : (n kind name : ℕ) (fs : Fields) (st : List (List ℕ)) (ss : List Slot) → length ss + length (scopeSlots n (scope kind name fs)) ≤ room → length ss + length (fieldsSlots (hereT (openScopeT name n ∷ st)) (suc n) noCounts fs) ≤ room
   unfolding scopeSlots hereT
   scope-room n kind name fs st ss r = r
 
@@ -267,7 +267,7 @@ module _ (room : ℕ) where
       scope-entered : (s : Scope) (cs : List (List ℕ)) (ss : List Slot) (st : List (List ℕ)) (n : ℕ) (ms : List Mark) → GoodScope rules s → length cs + height s ≤ 64 → length ss + length (scopeSlots n s) ≤ room → ScopeEntered cs ss st n s ms
       scope-entered (scope kind name fs) cs ss st n ms g d r =
           let D = scope-deep kind name fs cs d in
-          scope-entered-is cs ss st n kind name fs ms (D .0) (λ ks. fields-entered fs kind noCounts cs ss (scopeT name n) st (suc n) ks g (D .1) (scope-room n kind name fs st ss r))
+          scope-entered-is cs ss st n kind name fs ms (D .0) (λ ks. fields-entered fs kind noCounts cs ss (openScopeT name n) st (suc n) ks g (D .1) (scope-room n kind name fs st ss r))
 
       fields-entered : (fs : Fields) (kind : ℕ) (c : List ℕ) (cs : List (List ℕ)) (ss : List Slot) (s : List ℕ) (st : List (List ℕ)) (n : ℕ) (ms : List Mark) → GoodFields rules fs kind → suc (length cs) + heights fs ≤ 64
           → length ss + length (fieldsSlots (hereT (s ∷ st)) n c fs) ≤ room → FieldsEntered c cs ss (s ∷ st) n fs ms

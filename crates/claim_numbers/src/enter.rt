@@ -19,7 +19,7 @@ ghost use lib.ListN.{length};
 ghost use Rattle.kit.specs.Out.{_&_};
 ghost use Rattle.index.specs.Indexed.{Holds};
 ghost use Rattle.claim_rows.specs.Left.{rowsAt};
-ghost use Rattle.claim_numbers.specs.Enter.{enteredT, atT, onT, turnT, laidBy, entriesT};
+ghost use Rattle.claim_numbers.specs.Enter.{enterDeclT, enterAtT, enterOnT, enterTurnT, laidBy, entriesT};
 
 // The most scopes that are open one in another, in any version.
 const SCOPES: usize = 64;
@@ -44,7 +44,7 @@ fn enter_decl(
     c: Cursor,
 ) -> usize
     requires { ⌜ Holds (now table) (now index) (c .used) ⌝ }
-    ensures { λ r. ⌜ ((r & now (table .exit)) ≡ enteredT (now (table .entry)) scope p number i c) × Holds (now (table .exit)) (now (index .exit)) r ⌝ }
+    ensures { λ r. ⌜ ((r & now (table .exit)) ≡ enterDeclT (now (table .entry)) scope p number i c) × Holds (now (table .exit)) (now (index .exit)) r ⌝ }
 {
     let used = c.used;
     if p.code != DECL {
@@ -69,7 +69,7 @@ fn go_on(
     c: Cursor,
 ) -> Cursor
     requires { ⌜ Holds (now table) (now index) (c .used) ⌝ }
-    ensures { λ r. ⌜ ((r & now (table .exit) & now (scopes .exit) & now (counts .exit)) ≡ onT p i (now (table .entry)) (now (scopes .entry)) (now (counts .entry)) c) × Holds (now (table .exit)) (now (index .exit)) (r .used) ⌝ }
+    ensures { λ r. ⌜ ((r & now (table .exit) & now (scopes .exit) & now (counts .exit)) ≡ enterOnT p i (now (table .entry)) (now (scopes .entry)) (now (counts .entry)) c) × Holds (now (table .exit)) (now (index .exit)) (r .used) ⌝ }
 {
     let number = count(counts, c.depth, p);
     let used = enter_decl(table, index, here(scopes, c.depth), p, number, i, c);
@@ -83,7 +83,7 @@ fn go_on(
 
 // The cursor at a row: whether its field is added.
 fn at_row(p: Parts, claim: &[u8], next: usize, c: Cursor) -> Cursor
-    ensures { λ r. ⌜ r ≡ atT p (rowsAt (now (claim .entry)) next) c ⌝ }
+    ensures { λ r. ⌜ r ≡ enterAtT p (rowsAt (now (claim .entry)) next) c ⌝ }
 {
     Cursor {
         depth: c.depth,
@@ -103,7 +103,7 @@ fn go_over(
     c: Cursor,
 ) -> Cursor
     requires { ⌜ Holds (now table) (now index) (c .used) × (i < length (now claim) / 16) ⌝ }
-    ensures { λ r. ⌜ ((r & now (table .exit) & now (scopes .exit) & now (counts .exit)) ≡ turnT (rowsAt (now (claim .entry)) i) i (now (table .entry)) (now (scopes .entry)) (now (counts .entry)) c) × Holds (now (table .exit)) (now (index .exit)) (r .used) ⌝ }
+    ensures { λ r. ⌜ ((r & now (table .exit) & now (scopes .exit) & now (counts .exit)) ≡ enterTurnT (rowsAt (now (claim .entry)) i) i (now (table .entry)) (now (scopes .entry)) (now (counts .entry)) c) × Holds (now (table .exit)) (now (index .exit)) (r .used) ⌝ }
 {
     let p = parts_at(claim, i);
     go_on(

@@ -11,7 +11,7 @@ use borrow.Author.Needs.{needs}
 use borrow.Author.Tests.{lt-ltb, le-ltb, le-leb, lt-leb, eq-eqb, ne-eqb}
 use Rattle.kit.specs.Pick.{pick}
 use Rattle.kit.proofs.Laws.{down, lt-or-le}
-use Rattle.parts.specs.Apart.{partsAt}
+use Rattle.parts.specs.PartsAt.{partsAt}
 use Rattle.parts.specs.declared.Parts.{Parts}
 use Rattle.names.specs.Table.{Slot, noScope, scopeAt, namedFrom}
 use Rattle.names.specs.declared.Met.{Met}
@@ -21,16 +21,16 @@ use Rattle.names.specs.declared.Named.the-variants as named
 use Rattle.index.specs.Indexed.{Holds}
 use Rattle.claim_rows.specs.Left.{rowsAt}
 use Rattle.claim_rows.proofs.Ways.{rows-there, rows-past}
-use Rattle.claim_scopes.specs.Open.{nameIn, rowIn, openIn, hereT, closeT}
+use Rattle.claim_scopes.specs.Open.{nameIn, rowIn, openIn, hereT, openClosedT}
 use Rattle.claim_scopes.specs.Entries.{lookT}
 use Rattle.claim_scopes.specs.declared.entries.Entry.{Entry}
 use Rattle.claim_scopes.specs.declared.entries.Entry.the-variants.{Value, Nothing}
 use Rattle.claim_scopes.proofs.Held.{open-length}
 use Rattle.claim_reach.specs.Alias.{throughOuterT, throughExportT}
-use Rattle.claim_reach.specs.Outward.{outT}
+use Rattle.claim_reach.specs.Outward.{reachOutT}
 use Rattle.claim_reach.specs.declared.alias.Sought.{Sought}
-use Rattle.claim_operands.specs.Paths.{noParts, onward, orStop, pathsT, instanceSpace, isNumber, instanceT}
-use Rattle.claim_operands.specs.Reference.{isMetT, seeking, furtherT, ownOr, nameRightT, fromT, pathRightT, refRightT}
+use Rattle.claim_operands.specs.Paths.{noParts, onward, orStop, throughPathsT, instanceSpace, isNumber, instanceT}
+use Rattle.claim_operands.specs.Reference.{isMetT, seeking, furtherT, ownOr, nameRightT, refFromT, pathRightT, refRightT}
 use Rattle.claim_operands.specs.Outer.{namedIn, upT, atRightT, upRightT, outerRightT}
 
 -- ---- rows behind a row
@@ -52,21 +52,21 @@ row-behind l first (suc k) =
 
 -- what a turn of the loop keeps
 pub record Follows (table : List Slot) (index claim input : List ℕ) (first used left : ℕ) (s : Sought) (T : Entry) : Type 0 where
-  pub goes : pathsT (take used table) claim (rowsAt input first) left s ≡ T
+  pub goes : throughPathsT (take used table) claim (rowsAt input first) left s ≡ T
   pub is-used : s .used ≡ used
   pub held : Holds table index (s .used)
 
-pub follows-start : (table : List Slot) (index claim input : List ℕ) (first left : ℕ) (s : Sought) → Holds table index (s .used) → Follows table index claim input first (s .used) left s (pathsT (take (s .used) table) claim (rowsAt input first) left s)
+pub follows-start : (table : List Slot) (index claim input : List ℕ) (first left : ℕ) (s : Sought) → Holds table index (s .used) → Follows table index claim input first (s .used) left s (throughPathsT (take (s .used) table) claim (rowsAt input first) left s)
 follows-start table index claim input first left s h = record { goes = refl; is-used = refl; held = h }
 
 module _ (table : List Slot) (index claim input : List ℕ) (first used left : ℕ) (s : Sought) (T : Entry) (g : Follows table index claim input first used left s T) where
   pub follows-end : left ≤ 0 → Value (s .number) ≡ T
-  unfolding pathsT
+  unfolding throughPathsT
   follows-end h = let z : left ≡ 0 = omega arith in rw z at (g .goes)
 
   module _ (h : 0 < left) (q : Parts) (r : q ≡ partsAt input (first + (left - 1))) (e : Entry) (f : e ≡ throughExportT (take (s .used) table) claim s (q .x)) where
-    followed : orStop e (λ n. pathsT (take used table) claim (rowsAt input first) (left - 1) (onward s n)) ≡ T
-    unfolding pathsT
+    followed : orStop e (λ n. throughPathsT (take used table) claim (rowsAt input first) (left - 1) (onward s n)) ≡ T
+    unfolding throughPathsT
     followed =
         let k : e ≡ throughExportT (take used table) claim s (q .x) = f ∙ ap (λ (n : ℕ). throughExportT (take n table) claim s (q .x)) (g .is-used) in
         rw (k, r, row-behind input first (left - 1)) (rw (down left h) at (g .goes))
@@ -122,13 +122,13 @@ met-both a b out number o n h g = rw (h, g)
 pub ruleset meeting = (met-none, met-first, met-both, needs)
 
 -- the scopes around the innermost
-open-close : (scopes : List (List ℕ)) (d : ℕ) → openIn scopes (d - 1) ≡ closeT (openIn scopes d)
-unfolding openIn closeT
+open-close : (scopes : List (List ℕ)) (d : ℕ) → openIn scopes (d - 1) ≡ openClosedT (openIn scopes d)
+unfolding openIn openClosedT
 open-close scopes zero = refl
 open-close scopes (suc k) = let q : suc k - 1 ≡ k = omega arith in rw q
 
 module _ (ss : List Slot) (claim : List ℕ) (used : ℕ) (scopes : List (List ℕ)) (depth : ℕ) (q : Parts) (number : ℕ) where
-  pub further-is : (scope around : ℕ) (m o : Met) (t : Bool) → scope ≡ hereT (openIn scopes depth) → around ≡ depth - 1 → m ≡ throughOuterT ss claim (seeking used scope (q .b) number) → o ≡ outT ss (openIn scopes around) 1 (q .b) (q .x) → t ≡ isMetT m o
+  pub further-is : (scope around : ℕ) (m o : Met) (t : Bool) → scope ≡ hereT (openIn scopes depth) → around ≡ depth - 1 → m ≡ throughOuterT ss claim (seeking used scope (q .b) number) → o ≡ reachOutT ss (openIn scopes around) 1 (q .b) (q .x) → t ≡ isMetT m o
       → t ≡ furtherT ss claim used (openIn scopes depth) q number
   unfolding furtherT
   further-is scope around m o t h k e f g = rw (← h, ← open-close scopes depth, ← k, ← e, ← f) g
@@ -144,17 +144,17 @@ module _ (ss : List Slot) (claim : List ℕ) (used : ℕ) (scopes : List (List �
 
 pub ruleset naming = (name-here, name-further, needs)
 
-module _ (ss : List Slot) (claim : List ℕ) (used scope : ℕ) (q : Parts) (qs : List Parts) (number : ℕ) (e : Entry) (f : e ≡ pathsT ss claim qs (q .y) (seeking used scope (q .b) number)) where
+module _ (ss : List Slot) (claim : List ℕ) (used scope : ℕ) (q : Parts) (qs : List Parts) (number : ℕ) (e : Entry) (f : e ≡ throughPathsT ss claim qs (q .y) (seeking used scope (q .b) number)) where
   pub path-ends : (from : ℕ) (t : Bool) → e ≡ Value from → t ≡ instanceT ss scope q from → t ≡ pathRightT ss claim used scope q qs number
-  unfolding pathRightT fromT
+  unfolding pathRightT refFromT
   path-ends from t z g = rw (← f, z) g
 
   pub path-none : e ≡ Nothing → false ≡ pathRightT ss claim used scope q qs number
-  unfolding pathRightT fromT
+  unfolding pathRightT refFromT
   path-none z = rw (← f, z)
 
 -- the same of the row itself
-module _ (ss : List Slot) (claim input : List ℕ) (used scope next number : ℕ) (q : Parts) (k : q ≡ partsAt input next) (e : Entry) (f : e ≡ pathsT ss claim (rowsAt input (next + 1)) (q .y) (seeking used scope (q .b) number)) where
+module _ (ss : List Slot) (claim input : List ℕ) (used scope next number : ℕ) (q : Parts) (k : q ≡ partsAt input next) (e : Entry) (f : e ≡ throughPathsT ss claim (rowsAt input (next + 1)) (q .y) (seeking used scope (q .b) number)) where
   pub path-leads : (from : ℕ) (t : Bool) → e ≡ Value from → t ≡ instanceT ss scope q from → t ≡ pathRightT ss claim used scope (partsAt input next) (rowsAt input (next + 1)) number
   path-leads from t z g = rw (← k) (path-ends ss claim used scope q (rowsAt input (next + 1)) number e f from t z g)
 

@@ -5,7 +5,7 @@ use Prim.Native.Nat.{ℕ, zero, suc}
 use lib.Dec.{eqb, leb}
 use lib.ListN.{getD}
 use Rattle.kit.specs.Pick.{pick}
-use Rattle.parts.specs.Apart.{parts}
+use Rattle.parts.specs.PartsAt.{parts}
 use Rattle.parts.specs.declared.Parts.{Parts}
 use Rattle.names.specs.Table.{Slot}
 use Rattle.claim_scopes.specs.Entries.{lookT}
@@ -27,9 +27,9 @@ orStop (Value n) f = f n
 orStop Nothing f = Nothing
 
 -- through one alias for each of the first `count` of these rows, the last of them first
-unfoldable pub pathsT : List Slot → (claim : List ℕ) → List Parts → (count : ℕ) → Sought → Entry
-pathsT ss claim qs zero s = Value (s .number)
-pathsT ss claim qs (suc k) s = orStop (throughExportT ss claim s (getD qs k noParts .x)) (λ n. pathsT ss claim qs k (onward s n))
+unfoldable pub throughPathsT : List Slot → (claim : List ℕ) → List Parts → (count : ℕ) → Sought → Entry
+throughPathsT ss claim qs zero s = Value (s .number)
+throughPathsT ss claim qs (suc k) s = orStop (throughExportT ss claim s (getD qs k noParts .x)) (λ n. throughPathsT ss claim qs k (onward s n))
 
 -- the space of the instance that a path to an item of this space starts from
 unfoldable pub instanceSpace : (space : ℕ) → ℕ

@@ -9,14 +9,14 @@ use Rattle.parts.specs.declared.Parts.{Parts}
 use Rattle.names.specs.Table.{Slot}
 use Rattle.names.specs.declared.Met.{Met}
 use Rattle.names.specs.declared.Met.the-variants.{At, Nowhere}
-use Rattle.claim_scopes.specs.Open.{hereT, closeT}
+use Rattle.claim_scopes.specs.Open.{hereT, openClosedT}
 use Rattle.claim_scopes.specs.Entries.{lookT}
 use Rattle.claim_scopes.specs.declared.entries.Entry.{Entry}
 use Rattle.claim_scopes.specs.declared.entries.Entry.the-variants.{Value, Nothing}
 use Rattle.claim_reach.specs.Alias.{throughOuterT}
-use Rattle.claim_reach.specs.Outward.{outT}
+use Rattle.claim_reach.specs.Outward.{reachOutT}
 use Rattle.claim_reach.specs.declared.alias.Sought.{Sought}
-use Rattle.claim_operands.specs.Paths.{pathsT, instanceT}
+use Rattle.claim_operands.specs.Paths.{throughPathsT, instanceT}
 
 -- do both lead to the same?
 unfoldable pub isMetT : Met → Met → Bool
@@ -35,20 +35,20 @@ ownOr Nothing number else = else
 module _ (ss : List Slot) (claim : List ℕ) (used : ℕ) where
   -- a name that is not declared here
   unfoldable pub furtherT : (st : List (List ℕ)) → Parts → (number : ℕ) → Bool
-  furtherT st q number = isMetT (throughOuterT ss claim (seeking used (hereT st) (q .b) number)) (outT ss (closeT st) 1 (q .b) (q .x))
+  furtherT st q number = isMetT (throughOuterT ss claim (seeking used (hereT st) (q .b) number)) (reachOutT ss (openClosedT st) 1 (q .b) (q .x))
 
   -- whether a number is what a name means: that of its declaration here, or of an alias
   unfoldable pub nameRightT : (st : List (List ℕ)) → Parts → (number : ℕ) → Bool
   nameRightT st q number = ownOr (lookT ss (hereT st) (q .b) (q .x)) number (furtherT st q number)
 
   -- what a path starts from
-  unfoldable pub fromT : Entry → (scope : ℕ) → Parts → Bool
-  fromT (Value number) scope q = instanceT ss scope q number
-  fromT Nothing scope q = false
+  unfoldable pub refFromT : Entry → (scope : ℕ) → Parts → Bool
+  refFromT (Value number) scope q = instanceT ss scope q number
+  refFromT Nothing scope q = false
 
   -- does a number reach what the input's REF with PATHs starts from?
   unfoldable pub pathRightT : (scope : ℕ) → Parts → List Parts → (number : ℕ) → Bool
-  pathRightT scope q qs number = fromT (pathsT ss claim qs (q .y) (seeking used scope (q .b) number)) scope q
+  pathRightT scope q qs number = refFromT (throughPathsT ss claim qs (q .y) (seeking used scope (q .b) number)) scope q
 
   -- is a claimed REF right for the input's?
   unfoldable pub refRightT : (st : List (List ℕ)) → Parts → Parts → List Parts → Bool

@@ -11,7 +11,7 @@ ghost use Prim.Native.Nat.{_+_, _<_};
 ghost use lib.ListN.{take};
 ghost use Rattle.index.specs.Indexed.{Holds};
 ghost use Rattle.claim_rows.specs.Left.{rowsAt};
-ghost use Rattle.claim_operands.specs.Paths.{onward, instanceSpace, pathsT, instanceT};
+ghost use Rattle.claim_operands.specs.Paths.{onward, instanceSpace, throughPathsT, instanceT};
 
 // The space of instances, and the last of the spaces whose items are exports of core instances, with their space.
 const INSTANCE: u8 = 10;
@@ -44,7 +44,7 @@ pub(crate) fn through_paths(
     sought: Sought,
 ) -> Entry
     requires { ⌜ Holds (now table) (now index) (sought .used) × (first + count < 18446744073709551616) ⌝ }
-    ensures { λ r. ⌜ r ≡ pathsT (take (sought .used) (now (table .entry))) (now (claim .entry)) (rowsAt (now (input .entry)) first) count sought ⌝ }
+    ensures { λ r. ⌜ r ≡ throughPathsT (take (sought .used) (now (table .entry))) (now (claim .entry)) (rowsAt (now (input .entry)) first) count sought ⌝ }
 {
     let mut s = sought;
     let mut left = count as usize;

@@ -17,7 +17,7 @@ ghost use mathlib.Core.Path.{_≡_};
 ghost use Prim.Native.Nat.{_-_, _+_, _/_, _<_};
 ghost use lib.ListN.{length, take};
 ghost use Rattle.index.specs.Indexed.{Holds};
-ghost use Rattle.parts.specs.Apart.{partsAt};
+ghost use Rattle.parts.specs.PartsAt.{partsAt};
 ghost use Rattle.claim_rows.specs.Left.{rowsAt};
 ghost use Rattle.claim_scopes.specs.Open.{openIn};
 ghost use Rattle.claim_operands.specs.Reference.{isMetT, furtherT, nameRightT, pathRightT, refRightT};

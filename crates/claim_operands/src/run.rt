@@ -19,14 +19,14 @@ ghost use lib.ListN.{take};
 ghost use Rattle.index.specs.Indexed.{Holds};
 ghost use Rattle.claim_rows.specs.Left.{rowsAt};
 ghost use Rattle.claim_scopes.specs.Open.{openIn};
-ghost use Rattle.claim_operands.specs.Operands.{atT, rightT, nextIn, Behind, operandsT};
+ghost use Rattle.claim_operands.specs.Operands.{operandAtT, isRightT, nextIn, Behind, tryOperandsT};
 
 // The most scopes that are open one in another, in any version.
 const SCOPES: usize = 64;
 
 // The cursor at a row: whether its field is added.
 fn at_row(p: Parts, claim: &[u8], next: usize, c: Cursor) -> Cursor
-    ensures { λ r. ⌜ r ≡ atT p (rowsAt (now (claim .entry)) next) c ⌝ }
+    ensures { λ r. ⌜ r ≡ operandAtT p (rowsAt (now (claim .entry)) next) c ⌝ }
 {
     Cursor {
         used: c.used,
@@ -47,7 +47,7 @@ fn is_right(
     p: Parts,
 ) -> bool
     requires { ⌜ Holds (now table) (now index) (c .used) ⌝ }
-    ensures { λ r. ⌜ r ≡ rightT (take (c .used) (now (table .entry))) (now (claim .entry)) (c .used) (c .added) (openIn (now (scopes .entry)) (c .depth)) p (rowsAt (now (input .entry)) (c .next)) ⌝ }
+    ensures { λ r. ⌜ r ≡ isRightT (take (c .used) (now (table .entry))) (now (claim .entry)) (c .used) (c .added) (openIn (now (scopes .entry)) (c .depth)) p (rowsAt (now (input .entry)) (c .next)) ⌝ }
 {
     if c.added {
         return true;
@@ -94,7 +94,7 @@ fn go_on(p: Parts, i: usize, input: &[u8], scopes: &mut [Scope], c: Cursor) -> C
 // Tries condition 4 on the rows of an input and of a claim whose declarations were entered in the first `used` slots.
 pub fn try_operands(input: &[u8], claim: &[u8], table: &[Slot], index: &[u16], used: usize) -> Tried
     requires { ⌜ Holds (now table) (now index) used ⌝ }
-    ensures { λ r. ⌜ r ≡ operandsT (take used (now (table .entry))) (now (claim .entry)) used 0 false [] (rowsAt (now (claim .entry)) 0) (rowsAt (now (input .entry)) 0) ⌝ }
+    ensures { λ r. ⌜ r ≡ tryOperandsT (take used (now (table .entry))) (now (claim .entry)) used 0 false [] (rowsAt (now (claim .entry)) 0) (rowsAt (now (input .entry)) 0) ⌝ }
 {
     let n = claim.len() / 16;
     let mut scopes: [Scope; SCOPES] = [[0usize; 4]; SCOPES];

@@ -8,7 +8,7 @@ use borrow.Author.Needs.{needs}
 use borrow.Author.Tests.{lt-ltb, le-ltb, le-leb, lt-leb, eq-eqb, ne-eqb}
 use Rattle.kit.specs.Pick.{pick}
 use Rattle.kit.proofs.Laws.{down}
-use Rattle.parts.specs.Apart.{partsAt}
+use Rattle.parts.specs.PartsAt.{partsAt}
 use Rattle.parts.specs.declared.Parts.{Parts}
 use Rattle.names.specs.Table.{Slot, noScope, scopeAt}
 use Rattle.names.specs.declared.Met.{Met}
@@ -17,32 +17,32 @@ use Rattle.claim_scopes.specs.Open.{openIn}
 use Rattle.claim_scopes.specs.Entries.{lookT}
 use Rattle.claim_scopes.specs.declared.entries.Entry.{Entry}
 use Rattle.claim_scopes.specs.declared.entries.Entry.the-variants.{Value, Nothing}
-use Rattle.claim_reach.specs.Alias.{countedT, reachedT, codeT, exportCode, outerAt, exportAt, outerIn, exportIn, throughOuterT, throughExportT}
-use Rattle.claim_reach.specs.Outward.{orFurther, outT}
+use Rattle.claim_reach.specs.Alias.{reachCountedT, reachedT, reachCodeT, exportCode, outerAt, exportAt, outerIn, exportIn, throughOuterT, throughExportT}
+use Rattle.claim_reach.specs.Outward.{orFurther, reachOutT}
 use Rattle.claim_reach.specs.declared.alias.Sought.{Sought}
 
 -- ---- an alias by its number
 
-pub counted-low : (number : ℕ) → number < 65536 → number + 1 ≡ countedT number
-unfolding countedT pick
+pub counted-low : (number : ℕ) → number < 65536 → number + 1 ≡ reachCountedT number
+unfolding reachCountedT pick
 counted-low number h = rw (lt-ltb _ _ h)
 
-pub counted-high : (number : ℕ) → 65536 ≤ number → 0 ≡ countedT number
-unfolding countedT pick
+pub counted-high : (number : ℕ) → 65536 ≤ number → 0 ≡ reachCountedT number
+unfolding reachCountedT pick
 counted-high number h = rw (le-ltb _ _ h)
 
-pub reached-is : (ss : List Slot) (s : Sought) (n : ℕ) (e : Entry) → n ≡ countedT (s .number) → e ≡ lookT ss (s .scope % 65536 + 1) (s .space) n → e ≡ reachedT ss s
+pub reached-is : (ss : List Slot) (s : Sought) (n : ℕ) (e : Entry) → n ≡ reachCountedT (s .number) → e ≡ lookT ss (s .scope % 65536 + 1) (s .space) n → e ≡ reachedT ss s
 unfolding reachedT
 reached-is ss s n e h q = rw (← h) q
 
 -- ---- its rows
 
-pub code-none : (claim : List ℕ) (i : ℕ) → i ≡ 0 → 0 ≡ codeT claim i
-unfolding codeT pick
+pub code-none : (claim : List ℕ) (i : ℕ) → i ≡ 0 → 0 ≡ reachCodeT claim i
+unfolding reachCodeT pick
 code-none claim i h = rw (eq-eqb _ _ h)
 
-pub code-before : (claim : List ℕ) (i : ℕ) (p : Parts) → (i ≡ 0 → ⊥) → p ≡ partsAt claim (i - 1) → p .b ≡ codeT claim i
-unfolding codeT pick
+pub code-before : (claim : List ℕ) (i : ℕ) (p : Parts) → (i ≡ 0 → ⊥) → p ≡ partsAt claim (i - 1) → p .b ≡ reachCodeT claim i
+unfolding reachCodeT pick
 code-before claim i p h e = rw (ne-eqb _ _ h, ← e)
 
 pub export-core : (space : ℕ) → space ≤ 6 → 10 ≡ exportCode space
@@ -53,7 +53,7 @@ pub export-other : (space : ℕ) → 6 < space → 9 ≡ exportCode space
 unfolding exportCode pick
 export-other space h = rw (lt-leb _ _ h)
 
-module _ (claim : List ℕ) (i k : ℕ) (q : k ≡ codeT claim i) where
+module _ (claim : List ℕ) (i k : ℕ) (q : k ≡ reachCodeT claim i) where
   pub outer-none : (k ≡ 11 → ⊥) → Nowhere ≡ outerAt claim i
   unfolding outerAt pick
   outer-none h = rw (← q, ne-eqb _ _ h)
@@ -103,15 +103,15 @@ pub ruleset throughs = (through-outer-none, through-outer-there, through-export-
 
 -- what is left to do
 abbrev pub Goes : List Slot → (scopes : List (List ℕ)) (depth left space name : ℕ) → Met → Type 0
-Goes ss scopes depth left space name m = outT ss (openIn scopes left) (depth - left + 1) space name ≡ m
+Goes ss scopes depth left space name m = reachOutT ss (openIn scopes left) (depth - left + 1) space name ≡ m
 
 module _ (ss : List Slot) (scopes : List (List ℕ)) (depth space name : ℕ) where
-  pub goes-start : Goes ss scopes depth depth space name (outT ss (openIn scopes depth) 1 space name)
+  pub goes-start : Goes ss scopes depth depth space name (reachOutT ss (openIn scopes depth) 1 space name)
   goes-start = let e : depth - depth + 1 ≡ 1 = omega arith in rw e
 
   module _ (left : ℕ) (m : Met) (g : Goes ss scopes depth left space name m) where
     pub goes-end : left ≤ 0 → Nowhere ≡ m
-    unfolding outT openIn
+    unfolding reachOutT openIn
     goes-end h = let z : left ≡ 0 = omega arith in rw z at g
 
     module _ (h : 0 < left) (l : left ≤ depth) (scope : List ℕ) (s : scope ≡ scopeAt scopes (left - 1)) (e : Entry) (q : e ≡ lookT ss (getD scope 1 0) space name) where
@@ -119,8 +119,8 @@ module _ (ss : List Slot) (scopes : List (List ℕ)) (depth space name : ℕ) wh
       unfolding openIn
       innermost-first = ap (openIn scopes) (down left h)
 
-      opened : orFurther e (depth - left + 1) (outT ss (openIn scopes (left - 1)) (depth - left + 1 + 1) space name) ≡ m
-      unfolding outT
+      opened : orFurther e (depth - left + 1) (reachOutT ss (openIn scopes (left - 1)) (depth - left + 1 + 1) space name) ≡ m
+      unfolding reachOutT
       opened = rw (q, s) (rw innermost-first at g)
 
       pub goes-found : (number : ℕ) → e ≡ Value number → At (depth - (left - 1)) number ≡ m

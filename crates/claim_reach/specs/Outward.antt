@@ -15,6 +15,6 @@ orFurther (Value number) out rest = At out number
 orFurther Nothing out rest = rest
 
 -- the first of these scopes is `out` scopes out
-unfoldable pub outT : List Slot → (st : List (List ℕ)) (out space name : ℕ) → Met
-outT ss [] out space name = Nowhere
-outT ss (s ∷ st) out space name = orFurther (lookT ss (rowIn s) space name) out (outT ss st (out + 1) space name)
+unfoldable pub reachOutT : List Slot → (st : List (List ℕ)) (out space name : ℕ) → Met
+reachOutT ss [] out space name = Nowhere
+reachOutT ss (s ∷ st) out space name = orFurther (lookT ss (rowIn s) space name) out (reachOutT ss st (out + 1) space name)

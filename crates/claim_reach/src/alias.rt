@@ -8,7 +8,7 @@ use parts::parts_at;
 ghost use mathlib.Core.Path.{_≡_};
 ghost use lib.ListN.{take};
 ghost use Rattle.index.specs.Indexed.{Holds};
-ghost use Rattle.claim_reach.specs.Alias.{countedT, reachedT, codeT, exportCode, outerAt, exportAt, throughOuterT, throughExportT};
+ghost use Rattle.claim_reach.specs.Alias.{reachCountedT, reachedT, reachCodeT, exportCode, outerAt, exportAt, throughOuterT, throughExportT};
 
 // The codes of aliases: of an export, of a core export, of an item further out.
 const EXPORT_ALIAS: u8 = 9;
@@ -30,7 +30,7 @@ pub struct Sought {
 
 // A number counted from 1, as aliases are entered; 0 for one that no declaration has.
 fn counted(number: u32) -> u32
-    ensures { λ r. ⌜ r ≡ countedT number ⌝ }
+    ensures { λ r. ⌜ r ≡ reachCountedT number ⌝ }
 {
     if number < 65536 { number + 1 } else { 0 }
 }
@@ -52,7 +52,7 @@ fn reached(table: &[Slot], index: &[u16], s: Sought) -> Entry
 
 // The code of the field whose only DECL is row i.
 fn code_of(claim: &[u8], i: usize) -> u8
-    ensures { λ r. ⌜ r ≡ codeT (now (claim .entry)) i ⌝ }
+    ensures { λ r. ⌜ r ≡ reachCodeT (now (claim .entry)) i ⌝ }
 {
     if i == 0 {
         return 0;

@@ -9,7 +9,7 @@ ghost use mathlib.Core.Path.{_≡_};
 ghost use lib.ListN.{take};
 ghost use Rattle.index.specs.Indexed.{Holds};
 ghost use Rattle.claim_scopes.specs.Open.{openIn};
-ghost use Rattle.claim_reach.specs.Outward.{outT};
+ghost use Rattle.claim_reach.specs.Outward.{reachOutT};
 
 // Walks the `depth` open scopes outward, the innermost first as one scope out, and stops at the first that has the name.
 pub fn outward(
@@ -22,7 +22,7 @@ pub fn outward(
     name: u32,
 ) -> Met
     requires { ⌜ Holds (now table) (now index) used ⌝ }
-    ensures { λ r. ⌜ r ≡ outT (take used (now (table .entry))) (openIn (now (scopes .entry)) depth) 1 space name ⌝ }
+    ensures { λ r. ⌜ r ≡ reachOutT (take used (now (table .entry))) (openIn (now (scopes .entry)) depth) 1 space name ⌝ }
 {
     let mut left = depth;
     while 0 < left {

@@ -10,11 +10,11 @@ use borrow.Author.Needs.{needs}
 use borrow.Author.Tests.{lt-ltb, le-ltb, le-leb, lt-leb, eq-eqb, ne-eqb}
 use Rattle.kit.specs.Pick.{pick}
 use Rattle.kit.proofs.Laws.{left-suc}
-use Rattle.parts.specs.Apart.{partsAt}
+use Rattle.parts.specs.PartsAt.{partsAt}
 use Rattle.parts.specs.declared.Parts.{Parts}
 use Rattle.claim_rows.specs.Left.{rowsFrom, rowsAt}
 use Rattle.claim_rows.specs.Added.{anyFresh, isAddedT}
-use Rattle.claim_rows.specs.Same.{depthT, sameT, otherT, breaksT, pastPaths, nextT, behindT, restT, differsT}
+use Rattle.claim_rows.specs.Same.{depthBehindT, isSameT, otherT, sameBreaksT, pastPaths, sameNextT, rowsBehindT, restT, differsT}
 use Rattle.claim_rows.specs.declared.Tried.{Tried}
 use Rattle.claim_rows.specs.declared.Tried.the-variants.{Passes, Breaks}
 
@@ -81,36 +81,36 @@ pub ruleset adding = (added-field, added-close, added-other, needs)
 -- ---- depth_behind
 
 module _ (d code : ℕ) (b : Bool) where
-  pub depth-inner : code ≡ 1 → 1 < d → d ≡ depthT d code b
-  unfolding depthT pick
+  pub depth-inner : code ≡ 1 → 1 < d → d ≡ depthBehindT d code b
+  unfolding depthBehindT pick
   depth-inner h g = rw (h, lt-ltb _ _ g)
 
-  pub depth-added : code ≡ 1 → d ≤ 1 → b ≡ true → 1 ≡ depthT d code b
-  unfolding depthT pick
+  pub depth-added : code ≡ 1 → d ≤ 1 → b ≡ true → 1 ≡ depthBehindT d code b
+  unfolding depthBehindT pick
   depth-added h g k = rw (h, le-ltb _ _ g, k)
 
-  pub depth-own : code ≡ 1 → d ≤ 1 → b ≡ false → 0 ≡ depthT d code b
-  unfolding depthT pick
+  pub depth-own : code ≡ 1 → d ≤ 1 → b ≡ false → 0 ≡ depthBehindT d code b
+  unfolding depthBehindT pick
   depth-own h g k = rw (h, le-ltb _ _ g, k)
 
-  pub depth-close : code ≡ 8 → d - 1 ≡ depthT d code b
-  unfolding depthT pick
+  pub depth-close : code ≡ 8 → d - 1 ≡ depthBehindT d code b
+  unfolding depthBehindT pick
   depth-close h = rw h
 
-  pub depth-end : code ≡ 8 → d ≡ 0 → 0 ≡ depthT d code b
-  unfolding depthT pick
+  pub depth-end : code ≡ 8 → d ≡ 0 → 0 ≡ depthBehindT d code b
+  unfolding depthBehindT pick
   depth-end h g = rw (h, g)
 
-  pub depth-outside : code ≡ 7 → d ≡ 0 → 0 ≡ depthT d code b
-  unfolding depthT pick
+  pub depth-outside : code ≡ 7 → d ≡ 0 → 0 ≡ depthBehindT d code b
+  unfolding depthBehindT pick
   depth-outside h g = rw (h, g)
 
-  pub depth-open : code ≡ 7 → (d ≡ 0 → ⊥) → d + 1 ≡ depthT d code b
-  unfolding depthT pick
+  pub depth-open : code ≡ 7 → (d ≡ 0 → ⊥) → d + 1 ≡ depthBehindT d code b
+  unfolding depthBehindT pick
   depth-open h g = rw (h, ne-eqb _ _ g)
 
-  pub depth-other : (code ≡ 1 → ⊥) → (code ≡ 8 → ⊥) → (code ≡ 7 → ⊥) → d ≡ depthT d code b
-  unfolding depthT pick
+  pub depth-other : (code ≡ 1 → ⊥) → (code ≡ 8 → ⊥) → (code ≡ 7 → ⊥) → d ≡ depthBehindT d code b
+  unfolding depthBehindT pick
   depth-other h g k = rw (ne-eqb _ _ h, ne-eqb _ _ g, ne-eqb _ _ k)
 
 pub ruleset depths = (depth-inner, depth-added, depth-own, depth-close, depth-end, depth-outside, depth-open, depth-other, needs)
@@ -118,22 +118,22 @@ pub ruleset depths = (depth-inner, depth-added, depth-own, depth-close, depth-en
 -- ---- breaks
 
 module _ (p : Parts) (d : ℕ) where
-  pub breaks-path : (qs : List Parts) → p .code ≡ 4 → true ≡ breaksT p d qs
-  unfolding breaksT pick
+  pub breaks-path : (qs : List Parts) → p .code ≡ 4 → true ≡ sameBreaksT p d qs
+  unfolding sameBreaksT pick
   breaks-path qs h = rw (eq-eqb _ _ h)
 
   module _ (h : p .code ≡ 4 → ⊥) where
-    pub breaks-added : (qs : List Parts) → 0 < d → false ≡ breaksT p d qs
-    unfolding breaksT pick
+    pub breaks-added : (qs : List Parts) → 0 < d → false ≡ sameBreaksT p d qs
+    unfolding sameBreaksT pick
     breaks-added qs g = rw (ne-eqb _ _ h, lt-ltb _ _ g)
 
     module _ (l : List ℕ) (j : ℕ) (g : d ≤ 0) where
-      pub breaks-past : length l / 16 ≤ j → true ≡ breaksT p d (rowsAt l j)
-      unfolding breaksT pick otherT
+      pub breaks-past : length l / 16 ≤ j → true ≡ sameBreaksT p d (rowsAt l j)
+      unfolding sameBreaksT pick otherT
       breaks-past k = rw (ne-eqb _ _ h, le-ltb _ _ g, rows-past l j k)
 
-      pub breaks-other : (q : Parts) (b : Bool) → j < length l / 16 → q ≡ partsAt l j → b ≡ sameT p q → not b ≡ breaksT p d (rowsAt l j)
-      unfolding breaksT pick otherT
+      pub breaks-other : (q : Parts) (b : Bool) → j < length l / 16 → q ≡ partsAt l j → b ≡ isSameT p q → not b ≡ sameBreaksT p d (rowsAt l j)
+      unfolding sameBreaksT pick otherT
       breaks-other q b k e f = rw (ne-eqb _ _ h, le-ltb _ _ g, rows-there l j k, ← e, f)
 
 pub ruleset breaking = (breaks-path, breaks-added, breaks-past, breaks-other, needs)
@@ -161,16 +161,16 @@ module _ (l : List ℕ) (i : ℕ) (T : List Parts) (inv : pastPaths (rowsAt l i)
 pub ruleset passing = (paths-none, paths-done, paths-turn, needs)
 
 module _ (d : ℕ) (l : List ℕ) (j : ℕ) where
-  pub behind-added : 0 < d → rowsAt l j ≡ behindT d (rowsAt l j)
-  unfolding behindT pick
+  pub behind-added : 0 < d → rowsAt l j ≡ rowsBehindT d (rowsAt l j)
+  unfolding rowsBehindT pick
   behind-added h = rw (lt-ltb _ _ h)
 
-  pub behind-past : d ≤ 0 → length l / 16 ≤ j → rowsAt l j ≡ behindT d (rowsAt l j)
-  unfolding behindT pick nextT
+  pub behind-past : d ≤ 0 → length l / 16 ≤ j → rowsAt l j ≡ rowsBehindT d (rowsAt l j)
+  unfolding rowsBehindT pick sameNextT
   behind-past h g = rw (le-ltb _ _ h, rows-past l j g)
 
-  pub behind-own : (r : ℕ) → d ≤ 0 → j < length l / 16 → rowsAt l r ≡ pastPaths (rowsAt l (j + 1)) → rowsAt l r ≡ behindT d (rowsAt l j)
-  unfolding behindT pick nextT
+  pub behind-own : (r : ℕ) → d ≤ 0 → j < length l / 16 → rowsAt l r ≡ pastPaths (rowsAt l (j + 1)) → rowsAt l r ≡ rowsBehindT d (rowsAt l j)
+  unfolding rowsBehindT pick sameNextT
   behind-own r h g e = rw (le-ltb _ _ h, rows-there l j g) e
 
 pub ruleset following = (behind-added, behind-past, behind-own, needs)
@@ -178,16 +178,16 @@ pub ruleset following = (behind-added, behind-past, behind-own, needs)
 -- ---- try_rows
 
 module _ (l w : List ℕ) (T : Tried) (i d j : ℕ) (inv : differsT i d (rowsAt l i) (rowsAt w j) ≡ T) where
-  module _ (h : i < length l / 16) (p : Parts) (e : p ≡ partsAt l i) (b : Bool) (f : b ≡ isAddedT false (p .code) (rowsAt l (i + 1))) (d′ : ℕ) (g : d′ ≡ depthT d (p .code) b) (t : Bool) (k : t ≡ breaksT p d′ (rowsAt w j)) where
-    turn : pick t (Breaks i) (differsT (i + 1) d′ (rowsAt l (i + 1)) (behindT d′ (rowsAt w j))) ≡ T
+  module _ (h : i < length l / 16) (p : Parts) (e : p ≡ partsAt l i) (b : Bool) (f : b ≡ isAddedT false (p .code) (rowsAt l (i + 1))) (d′ : ℕ) (g : d′ ≡ depthBehindT d (p .code) b) (t : Bool) (k : t ≡ sameBreaksT p d′ (rowsAt w j)) where
+    turn : pick t (Breaks i) (differsT (i + 1) d′ (rowsAt l (i + 1)) (rowsBehindT d′ (rowsAt w j))) ≡ T
     unfolding differsT
-    turn = let q : d′ ≡ depthT d (p .code) (isAddedT false (p .code) (rowsAt l (i + 1))) = rw (← f) g in rw (k, q, e) (rw (rows-there l i h) at inv)
+    turn = let q : d′ ≡ depthBehindT d (p .code) (isAddedT false (p .code) (rowsAt l (i + 1))) = rw (← f) g in rw (k, q, e) (rw (rows-there l i h) at inv)
 
     pub row-breaks : t ≡ true → Breaks i ≡ T
     unfolding pick
     row-breaks z = rw z at turn
 
-    pub row-passes : (j′ : ℕ) → t ≡ false → rowsAt w j′ ≡ behindT d′ (rowsAt w j) → differsT (i + 1) d′ (rowsAt l (i + 1)) (rowsAt w j′) ≡ T
+    pub row-passes : (j′ : ℕ) → t ≡ false → rowsAt w j′ ≡ rowsBehindT d′ (rowsAt w j) → differsT (i + 1) d′ (rowsAt l (i + 1)) (rowsAt w j′) ≡ T
     unfolding pick
     row-passes j′ z q = rw q (rw z at turn)
 

@@ -14,13 +14,13 @@ ghost use mathlib.Core.Path.{_≡_};
 ghost use Prim.Native.Nat.{_+_, _/_, _<_, _≤_};
 ghost use lib.ListN.{length};
 ghost use Rattle.claim_rows.specs.Left.{rowsAt};
-ghost use Rattle.claim_rows.specs.Same.{depthT, sameT, breaksT, pastPaths, behindT, differsT};
+ghost use Rattle.claim_rows.specs.Same.{depthBehindT, isSameT, sameBreaksT, pastPaths, rowsBehindT, differsT};
 
 // How deep in an added field the claim is behind a row of this code: 0 outside of added fields, 1 in one, and one more for
 // each scope that is open in it. `begins`: whether a FIELD is that of an added field.
 fn depth_behind(depth: usize, code: u8, begins: bool) -> usize
     requires { ⌜ depth + 1 < 18446744073709551616 ⌝ }
-    ensures { λ r. ⌜ (r ≡ depthT depth code begins) × (r ≤ depth + 1) ⌝ }
+    ensures { λ r. ⌜ (r ≡ depthBehindT depth code begins) × (r ≤ depth + 1) ⌝ }
 {
     if code == FIELD {
         if 1 < depth {
@@ -39,7 +39,7 @@ fn depth_behind(depth: usize, code: u8, begins: bool) -> usize
 
 // Whether a claimed row is the input's: REF and OUTER may have other numbers.
 fn is_same(p: Parts, q: Parts) -> bool
-    ensures { λ r. ⌜ r ≡ sameT p q ⌝ }
+    ensures { λ r. ⌜ r ≡ isSameT p q ⌝ }
 {
     (p.code == q.code)
         & ((p.b == q.b)
@@ -50,7 +50,7 @@ fn is_same(p: Parts, q: Parts) -> bool
 
 // Whether a claimed row breaks the condition, where j is the input's next row.
 fn breaks(p: Parts, depth: usize, input: &[u8], j: usize) -> bool
-    ensures { λ r. ⌜ r ≡ breaksT p depth (rowsAt (now (input .entry)) j) ⌝ }
+    ensures { λ r. ⌜ r ≡ sameBreaksT p depth (rowsAt (now (input .entry)) j) ⌝ }
 {
     if p.code == PATH {
         return true;
@@ -81,7 +81,7 @@ pub fn past_paths(rows: &[u8], from: usize) -> usize
 
 // The input's next row behind a claimed row: the same again behind an added one.
 fn behind(depth: usize, input: &[u8], j: usize) -> usize
-    ensures { λ r. ⌜ rowsAt (now (input .entry)) r ≡ behindT depth (rowsAt (now (input .entry)) j) ⌝ }
+    ensures { λ r. ⌜ rowsAt (now (input .entry)) r ≡ rowsBehindT depth (rowsAt (now (input .entry)) j) ⌝ }
 {
     if 0 < depth {
         return j;

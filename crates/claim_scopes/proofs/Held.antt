@@ -13,7 +13,7 @@ use Rattle.kit.specs.Out.{Out, _&_}
 use Rattle.kit.proofs.Laws.{take-next-set}
 use Rattle.parts.specs.declared.Parts.{Parts}
 use Rattle.names.specs.Table.{Slot, pushed, noScope, scopeAt}
-use Rattle.claim_scopes.specs.Open.{scopeT, behindT, openIn, closeT, openT}
+use Rattle.claim_scopes.specs.Open.{openScopeT, openBehindT, openIn, openClosedT, openOneT}
 use Rattle.claim_scopes.specs.Entries.{enterT, laidT}
 
 -- ---- scopes
@@ -30,7 +30,7 @@ open-below scopes d (suc k) s h = rw (getD-set-other scopes d k s noScope (omega
 
 -- what is open behind a row
 pub record Behind (scopes scopes′ : List (List ℕ)) (d r : ℕ) (p : Parts) (i : ℕ) : Type 0 where
-  pub are : openIn scopes′ r ≡ openT (length scopes) (openIn scopes d) p i
+  pub are : openIn scopes′ r ≡ openOneT (length scopes) (openIn scopes d) p i
   pub room : r ≤ length scopes
   pub long : length scopes′ ≡ length scopes
 
@@ -41,22 +41,22 @@ abbrev leftOf : {A B : Type 0} → Out A B → B
 leftOf (a & b) = b
 
 module _ (scopes : List (List ℕ)) (d : ℕ) (p : Parts) (i : ℕ) (h : d ≤ length scopes) where
-  opened : (t : Bool) → ltb d (length scopes) ≡ t → (o : Out ℕ (List (List ℕ))) → o ≡ pick t (d + 1 & set scopes d (scopeT (p .x) i)) (d & scopes)
-      → (openIn (leftOf o) (outOf o) ≡ pick (ltb (length (openIn scopes d)) (length scopes)) (scopeT (p .x) i ∷ openIn scopes d) (openIn scopes d)) × (outOf o ≤ length scopes) × (length (leftOf o) ≡ length scopes)
+  opened : (t : Bool) → ltb d (length scopes) ≡ t → (o : Out ℕ (List (List ℕ))) → o ≡ pick t (d + 1 & set scopes d (openScopeT (p .x) i)) (d & scopes)
+      → (openIn (leftOf o) (outOf o) ≡ pick (ltb (length (openIn scopes d)) (length scopes)) (openScopeT (p .x) i ∷ openIn scopes d) (openIn scopes d)) × (outOf o ≤ length scopes) × (length (leftOf o) ≡ length scopes)
   unfolding pick openIn
   opened true t o e =
       let l = ltb-true _ _ t in
       let q : d + 1 ≡ suc d = omega arith in
-      rw (e, q, open-length scopes d, t) (rw (getD-set-same scopes d (scopeT (p .x) i) noScope l, open-below scopes d d (scopeT (p .x) i) (omega arith)), omega arith, length-set scopes d (scopeT (p .x) i))
+      rw (e, q, open-length scopes d, t) (rw (getD-set-same scopes d (openScopeT (p .x) i) noScope l, open-below scopes d d (openScopeT (p .x) i) (omega arith)), omega arith, length-set scopes d (openScopeT (p .x) i))
   opened false t o e = rw (e, open-length scopes d, t) (refl, h, refl)
 
-  closed : (d₁ : ℕ) → d₁ ≡ d → (openIn scopes (d₁ - 1) ≡ closeT (openIn scopes d₁))
-  unfolding openIn closeT
+  closed : (d₁ : ℕ) → d₁ ≡ d → (openIn scopes (d₁ - 1) ≡ openClosedT (openIn scopes d₁))
+  unfolding openIn openClosedT
   closed zero e = refl
   closed (suc k) e = let q : suc k - 1 ≡ k = omega arith in rw q
 
-  by-code : (t u : Bool) → eqb (p .code) 7 ≡ t → eqb (p .code) 8 ≡ u → (scopes′ : List (List ℕ)) (r : ℕ) → (r & scopes′) ≡ behindT scopes d p i → Behind scopes scopes′ d r p i
-  unfolding behindT openT pick
+  by-code : (t u : Bool) → eqb (p .code) 7 ≡ t → eqb (p .code) 8 ≡ u → (scopes′ : List (List ℕ)) (r : ℕ) → (r & scopes′) ≡ openBehindT scopes d p i → Behind scopes scopes′ d r p i
+  unfolding openBehindT openOneT pick
   by-code true u t w scopes′ r e =
       let o = opened (ltb d (length scopes)) refl (r & scopes′) (rw t at e) in
       record { are = rw t (o .0); room = o .1; long = o .2 }
@@ -71,7 +71,7 @@ module _ (scopes : List (List ℕ)) (d : ℕ) (p : Parts) (i : ℕ) (h : d ≤ l
       let s-is : scopes′ ≡ scopes = ap leftOf q in
       record { are = rw (t, w, r-is, s-is); room = omega arith; long = ap length s-is }
 
-  pub open-behind : (scopes′ : List (List ℕ)) (r : ℕ) → (r & scopes′) ≡ behindT scopes d p i → Behind scopes scopes′ d r p i
+  pub open-behind : (scopes′ : List (List ℕ)) (r : ℕ) → (r & scopes′) ≡ openBehindT scopes d p i → Behind scopes scopes′ d r p i
   open-behind = by-code (eqb (p .code) 7) (eqb (p .code) 8) refl refl
 
 -- ---- slots

@@ -11,12 +11,12 @@ use Rattle.claim_scopes.specs.declared.entries.Entry.{Entry}
 use Rattle.claim_scopes.specs.declared.entries.Entry.the-variants.{Value, Nothing}
 
 -- a space of a scope, by the row of its OPEN
-unfoldable pub keyT : (scope space : ℕ) → ℕ
-keyT scope space = scope % 65536 * 257 + space
+unfoldable pub entryKeyT : (scope space : ℕ) → ℕ
+entryKeyT scope space = scope % 65536 * 257 + space
 
 -- a slot of a claim's table: the space of a scope as one number, the name, and the value
 unfoldable pub slotT : (scope space name value : ℕ) → Slot
-slotT scope space name value = keyT scope space ∷ name ∷ value ∷ 0 ∷ 0 ∷ 0 ∷ []
+slotT scope space name value = entryKeyT scope space ∷ name ∷ value ∷ 0 ∷ 0 ∷ 0 ∷ []
 
 -- what was found, as the value that was entered
 unfoldable pub entryOf : Found → Entry
@@ -25,7 +25,7 @@ entryOf found.Nothing = Nothing
 
 -- the first of the slots that were entered so
 unfoldable pub lookT : List Slot → (scope space name : ℕ) → Entry
-lookT ss scope space name = entryOf (findIn ss (keyT scope space) name)
+lookT ss scope space name = entryOf (findIn ss (entryKeyT scope space) name)
 
 -- one slot more, where there is room
 unfoldable pub enterT : (room : ℕ) → List Slot → Slot → List Slot

@@ -8,8 +8,8 @@ use Rattle.kit.specs.Out.{Out, _&_}
 use Rattle.names.specs.Table.{scopeAt}
 use Rattle.parts.specs.declared.Parts.{Parts}
 
-abbrev pub scopeT : (name row : ℕ) → List ℕ
-scopeT name row = name ∷ row ∷ 0 ∷ 0 ∷ []
+abbrev pub openScopeT : (name row : ℕ) → List ℕ
+openScopeT name row = name ∷ row ∷ 0 ∷ 0 ∷ []
 
 abbrev pub nameIn : List ℕ → ℕ
 nameIn s = getD s 0 0
@@ -20,9 +20,9 @@ rowIn s = getD s 1 0
 -- ---- as the code has them: the first `depth` of an array, the outermost first
 
 -- behind a row, which is row i
-unfoldable pub behindT : (scopes : List (List ℕ)) (depth : ℕ) → Parts → (i : ℕ) → Out ℕ (List (List ℕ))
-behindT scopes depth p i =
-    pick (eqb (p .code) 7) (pick (ltb depth (length scopes)) (depth + 1 & set scopes depth (scopeT (p .x) i)) (depth & scopes))
+unfoldable pub openBehindT : (scopes : List (List ℕ)) (depth : ℕ) → Parts → (i : ℕ) → Out ℕ (List (List ℕ))
+openBehindT scopes depth p i =
+    pick (eqb (p .code) 7) (pick (ltb depth (length scopes)) (depth + 1 & set scopes depth (openScopeT (p .x) i)) (depth & scopes))
     (pick (eqb (p .code) 8) (depth - 1 & scopes)
     (depth & scopes))
 
@@ -38,10 +38,10 @@ unfoldable pub hereT : List (List ℕ) → ℕ
 hereT [] = 0
 hereT (s ∷ st) = rowIn s
 
-unfoldable pub closeT : List (List ℕ) → List (List ℕ)
-closeT [] = []
-closeT (s ∷ st) = st
+unfoldable pub openClosedT : List (List ℕ) → List (List ℕ)
+openClosedT [] = []
+openClosedT (s ∷ st) = st
 
 -- behind a row, which is row i: at most `room` are open
-unfoldable pub openT : (room : ℕ) → List (List ℕ) → Parts → (i : ℕ) → List (List ℕ)
-openT room st p i = pick (eqb (p .code) 7) (pick (ltb (length st) room) (scopeT (p .x) i ∷ st) st) (pick (eqb (p .code) 8) (closeT st) st)
+unfoldable pub openOneT : (room : ℕ) → List (List ℕ) → Parts → (i : ℕ) → List (List ℕ)
+openOneT room st p i = pick (eqb (p .code) 7) (pick (ltb (length st) room) (openScopeT (p .x) i ∷ st) st) (pick (eqb (p .code) 8) (openClosedT st) st)

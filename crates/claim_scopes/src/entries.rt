@@ -10,7 +10,7 @@ ghost use lib.ListN.{take};
 ghost use Rattle.kit.specs.Out.{_&_};
 ghost use Rattle.names.specs.Table.{pushed};
 ghost use Rattle.index.specs.Indexed.{Holds};
-ghost use Rattle.claim_scopes.specs.Entries.{keyT, slotT, lookT};
+ghost use Rattle.claim_scopes.specs.Entries.{entryKeyT, slotT, lookT};
 
 // More than a byte can say, so that no two scopes have a space in common, whatever stands for a space. It is odd, so that the
 // chains of one name in several scopes differ.
@@ -24,7 +24,7 @@ pub enum Entry {
 
 // A space of a scope, which is known by the row of its OPEN: no two scopes have one in common.
 fn key(scope: usize, space: u8) -> u32
-    ensures { λ r. ⌜ r ≡ keyT scope space ⌝ }
+    ensures { λ r. ⌜ r ≡ entryKeyT scope space ⌝ }
 {
     (scope % 65536) as u32 * SPACES + space as u32
 }

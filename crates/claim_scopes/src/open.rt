@@ -6,11 +6,11 @@ use rows::row::CLOSE;
 use rows::row::OPEN;
 ghost use mathlib.Core.Path.{_≡_};
 ghost use Rattle.kit.specs.Out.{_&_};
-ghost use Rattle.claim_scopes.specs.Open.{behindT, hereT, openIn};
+ghost use Rattle.claim_scopes.specs.Open.{openBehindT, hereT, openIn};
 
 // How many scopes are open behind a row, which is row i: an OPEN opens one, where there is room, and a CLOSE closes one.
 pub fn behind_row(scopes: &mut [Scope], depth: usize, p: Parts, i: usize) -> usize
-    ensures { λ r. ⌜ (r & now (scopes .exit)) ≡ behindT (now (scopes .entry)) depth p i ⌝ }
+    ensures { λ r. ⌜ (r & now (scopes .exit)) ≡ openBehindT (now (scopes .entry)) depth p i ⌝ }
 {
     if p.code == OPEN {
         if depth < scopes.len() {

@@ -22,8 +22,8 @@ use Rattle.rules.specs.Begins.{Right}
 use Rattle.rules.specs.Reader.{read}
 use Rattle.rules.specs.Answer.{AnswerOf, refused, accepted, mapAnswer, settingOf, rowCount, rowsOf, rowsIn, headerBytes}
 use Rattle.rules.specs.Laws.ToolLaws.{false-not}
-use Rattle.rules.specs.Laws.Reading.ReadRight.{read-right}
-use Rattle.rules.specs.Laws.Reading.BeginsWritten.{rows-length}
+use Rattle.rules.specs.Laws.Read.ReadRight.{read-right}
+use Rattle.rules.specs.Laws.Read.BeginsWritten.{rows-length}
 use Rattle.rules.specs.Laws.Output.OutBytes.{header-length}
 use Rattle.headers.specs.Laws.Settings.{headed, all-in-force, setting-is}
 use Rattle.read_form.specs.ReadForm.{readForm}
@@ -34,9 +34,9 @@ use Rattle.refusal.specs.declared.Refusal.{Refusal}
 use Rattle.limits.specs.declared.Limits.{Limits}
 use Rattle.limits.specs.Held.{settingIn, limitsOf, setting}
 use Rattle.limits.proofs.Laws.{stand-for, few-rows}
-use Rattle.reader.specs.Readings.{answerOf, readTo}
-use Rattle.reader.specs.declared.read.Reading.{Reading}
-use Rattle.reader.specs.declared.read.Reading.the-variants as reading
+use Rattle.reader.specs.ReadTo.{answerOf, readTo}
+use Rattle.reader.specs.declared.read.RowsRead.{RowsRead}
+use Rattle.reader.specs.declared.read.RowsRead.the-variants as rowsRead
 use Rattle.whole_form.specs.Asked.{askedOf}
 use Rattle.whole_form.specs.Whole.{formOf}
 use Rattle.whole_form.specs.declared.asked.Asked.{Asked}
@@ -45,7 +45,7 @@ use Rattle.whole_form.specs.declared.read.Form.{Form}
 use Rattle.whole_form.specs.declared.read.Form.the-variants as whole
 use Rattle.whole_form.proofs.Laws.{among, plain-at, unsized, asked-for, asked-wrong, asked-count, whole-read, refused-read}
 use Rattle.convert.specs.Meaning.{meaning, Says}
-use Rattle.convert.specs.Run.{refusedT, placeT, lacksT, Sized, Sound}
+use Rattle.convert.specs.Run.{refusedT, placeOfT, lacksT, Sized, Sound}
 use Rattle.convert.specs.declared.run.Answer.{Answer}
 use Rattle.convert.specs.declared.run.Answer.the-variants.{Converted, Refused}
 
@@ -78,19 +78,19 @@ module _ (P : ℕ → ℕ → Type 0) (p₁₀ : P 1 0) (p₁₁ : P 1 1) (p₁�
   each (suc (suc (suc version))) from h g f = absurd (omega arith)
 
 -- the setting at the place of a version has that version,
-number-placed : (version from : ℕ) → 1 ≤ version → version ≤ 2 → from < 3 → setting (placeT version from) .version .number ≡ version
-unfolding placeT pick
-number-placed = each (λ v f. setting (placeT v f) .version .number ≡ v) refl refl refl refl refl refl
+number-placed : (version from : ℕ) → 1 ≤ version → version ≤ 2 → from < 3 → setting (placeOfT version from) .version .number ≡ version
+unfolding placeOfT pick
+number-placed = each (λ v f. setting (placeOfT v f) .version .number ≡ v) refl refl refl refl refl refl
 
-version-placed : (version from : ℕ) → 1 ≤ version → version ≤ 2 → from < 3 → versionOf all version ≡ some (setting (placeT version from) .version)
-unfolding placeT pick versionOf only _orElse_
-version-placed = each (λ v f. versionOf all v ≡ some (setting (placeT v f) .version)) refl refl refl refl refl refl
+version-placed : (version from : ℕ) → 1 ≤ version → version ≤ 2 → from < 3 → versionOf all version ≡ some (setting (placeOfT version from) .version)
+unfolding placeOfT pick versionOf only _orElse_
+version-placed = each (λ v f. versionOf all v ≡ some (setting (placeOfT v f) .version)) refl refl refl refl refl refl
 
 -- and the rules of the form, or no setting has both
-rules-placed : (version from : ℕ) → 1 ≤ version → version ≤ 2 → from < 3 → lacksT version from ≡ false → setting (placeT version from) .rules .number ≡ setting from .rules .number
-unfolding placeT lacksT pick
+rules-placed : (version from : ℕ) → 1 ≤ version → version ≤ 2 → from < 3 → lacksT version from ≡ false → setting (placeOfT version from) .rules .number ≡ setting from .rules .number
+unfolding placeOfT lacksT pick
 rules-placed =
-    each (λ v f. lacksT v f ≡ false → setting (placeT v f) .rules .number ≡ setting f .rules .number) (λ e. refl) (λ e. refl) (λ e. false-not (sym e)) (λ e. refl) (λ e. refl) (λ e. refl)
+    each (λ v f. lacksT v f ≡ false → setting (placeOfT v f) .rules .number ≡ setting f .rules .number) (λ e. refl) (λ e. refl) (λ e. false-not (sym e)) (λ e. refl) (λ e. refl) (λ e. refl)
 
 rules-lacking : (version from : ℕ) → 1 ≤ version → version ≤ 2 → from < 3 → lacksT version from ≡ true → settingWith all version (setting from .rules .number) ≡ none
 unfolding lacksT settingWith only _orElse_
@@ -107,7 +107,7 @@ module _ (from : ℕ) (form : List ℕ) (rows : ℕ) (S : Sized from form rows) 
   behind = take-all (length form - header) (drop header form) (omega (arith, length-drop header form)) ∙ ap (λ n. drop n form) is
 
   module _ (to : ℕ) (l : Limits) (e : l ≡ limitsOf (setting to)) where
-    pub rows-read : (r : Reading) → r ≡ readTo l (take (length form - header) (drop header form)) → r ≡ answerOf (read (setting to .rules) (setting to .version .scopes) (rowsIn (setting from) form))
+    pub rows-read : (r : RowsRead) → r ≡ readTo l (take (length form - header) (drop header form)) → r ≡ answerOf (read (setting to .rules) (setting to .version .scopes) (rowsIn (setting from) form))
     unfolding readTo
     rows-read r q =
         let long = S .long in
@@ -148,7 +148,7 @@ module _ (from : ℕ) (form : List ℕ) (rows : ℕ) (S : Sound from form rows) 
   abbrev t : Setting
   t = setting to
 
-  abbrev x : tree.Reading
+  abbrev x : tree.RowsRead
   x = read (t .rules) (t .version .scopes) (rowsIn s form)
 
   abbrev Said : Answer → List ℕ → Type 0
@@ -167,15 +167,15 @@ module _ (from : ℕ) (form : List ℕ) (rows : ℕ) (S : Sound from form rows) 
   many = rows-length (s .version .names) (rowCount (s .version) form) (drop (s .version .header) form) ∙ count
 
   -- what is read decides
-  answer : (y : tree.Reading) → x ≡ y → converted all (t .version .number) form (length out) ≡ withinScopes s t form y
+  answer : (y : tree.RowsRead) → x ≡ y → converted all (t .version .number) form (length out) ≡ withinScopes s t form y
   answer y p =
       limited all all-coherent s form (S .tree) (among from) (S .reads) t (among to) same (length out) few-to (omega (arith, count)) ∙ ap (withinScopes s t form) p
 
-  module _ (r : Reading) (e : r ≡ answerOf x) where
-    pub to-broken : (row : ℕ) (v : Answer) → r ≡ reading.Broken row → v ≡ refusedT 4 (row % 4294967296) → Said v out
+  module _ (r : RowsRead) (e : r ≡ answerOf x) where
+    pub to-broken : (row : ℕ) (v : Answer) → r ≡ rowsRead.Broken row → v ≡ refusedT 4 (row % 4294967296) → Said v out
     to-broken row v q w = go x refl (sym q ∙ e)
       where
-        go : (y : tree.Reading) → x ≡ y → reading.Broken row ≡ answerOf y → Said v out
+        go : (y : tree.RowsRead) → x ≡ y → rowsRead.Broken row ≡ answerOf y → Said v out
         go (tree.bad p) i z = unfold answerOf in
             let at : row ≡ p = cc in
             let in-range = read-right (t .rules) (t .version .scopes) (rowsIn s form) (tree.bad p) .0 i .in-range in
@@ -184,10 +184,10 @@ module _ (from : ℕ) (form : List ℕ) (rows : ℕ) (S : Sound from form rows) 
         go (tree.deep p) i z = unfold answerOf in (let no-way : _≡_ {A = ℕ} 0 1 = cc in absurd (omega arith))
         go (tree.form y) i z = unfold answerOf in (let no-way : _≡_ {A = ℕ} 0 1 = cc in absurd (omega arith))
 
-    pub to-deep : (row : ℕ) (v : Answer) → r ≡ reading.Deep row → v ≡ refusedT 5 (row % 4294967296) → Said v out
+    pub to-deep : (row : ℕ) (v : Answer) → r ≡ rowsRead.Deep row → v ≡ refusedT 5 (row % 4294967296) → Said v out
     to-deep row v q w = go x refl (sym q ∙ e)
       where
-        go : (y : tree.Reading) → x ≡ y → reading.Deep row ≡ answerOf y → Said v out
+        go : (y : tree.RowsRead) → x ≡ y → rowsRead.Deep row ≡ answerOf y → Said v out
         go (tree.bad p) i z = unfold answerOf in (let no-way : _≡_ {A = ℕ} 0 1 = cc in absurd (omega arith))
         go (tree.deep p) i z = unfold answerOf in
             let at : row ≡ p = cc in
@@ -196,10 +196,10 @@ module _ (from : ℕ) (form : List ℕ) (rows : ℕ) (S : Sound from form rows) 
             rw w (says-refused _ 5 (row % 4294967296) out (answer (tree.deep p) i ∙ scopes-deep s t form p (row % 4294967296) place))
         go (tree.form y) i z = unfold answerOf in (let no-way : _≡_ {A = ℕ} 0 1 = cc in absurd (omega arith))
 
-    accepts : r ≡ reading.Whole → converted all (t .version .number) form (length out) ≡ accepted (recast s t form)
+    accepts : r ≡ rowsRead.Whole → converted all (t .version .number) form (length out) ≡ accepted (recast s t form)
     accepts q = go x refl (sym q ∙ e)
       where
-        go : (y : tree.Reading) → x ≡ y → reading.Whole ≡ answerOf y → converted all (t .version .number) form (length out) ≡ accepted (recast s t form)
+        go : (y : tree.RowsRead) → x ≡ y → rowsRead.Whole ≡ answerOf y → converted all (t .version .number) form (length out) ≡ accepted (recast s t form)
         go (tree.bad p) i z = unfold answerOf in (let no-way : _≡_ {A = ℕ} 0 1 = cc in absurd (omega arith))
         go (tree.deep p) i z = unfold answerOf in (let no-way : _≡_ {A = ℕ} 0 1 = cc in absurd (omega arith))
         go (tree.form y) i z = answer (tree.form y) i ∙ unfold withinScopes in refl
@@ -215,7 +215,7 @@ module _ (from : ℕ) (form : List ℕ) (rows : ℕ) (S : Sound from form rows) 
     long : length (recast s t form) ≡ t .version .header + 16 * rows
     long = let e = recast-length s t (plain-at from) (plain-at to) form few-to (omega (arith, S .sized .long, count)) in omega (arith, count)
 
-    pub to-whole : (new : List ℕ) → r ≡ reading.Whole → new ≡ sets out 0 (recast s t form) → Said (Converted rows) new
+    pub to-whole : (new : List ℕ) → r ≡ rowsRead.Whole → new ≡ sets out 0 (recast s t form) → Said (Converted rows) new
     unfolding meaning mapAnswer bufferAfter
     to-whole new q w =
         let none-before : 0 + length (recast s t form) ≡ length (recast s t form) = omega arith in
@@ -226,17 +226,17 @@ pub ruleset to-ways = (to-fits, to-broken, to-deep, to-whole, needs)
 -- ---- the place of a version, and whether it has the rules
 
 module _ (version from : ℕ) where
-  pub place-one : version ≡ 1 → 0 ≡ placeT version from
-  unfolding placeT pick
+  pub place-one : version ≡ 1 → 0 ≡ placeOfT version from
+  unfolding placeOfT pick
   place-one h = rw h
 
   module _ (n : version ≡ 1 → ⊥) where
-    pub place-newer : from ≡ 2 → 2 ≡ placeT version from
-    unfolding placeT pick
+    pub place-newer : from ≡ 2 → 2 ≡ placeOfT version from
+    unfolding placeOfT pick
     place-newer h = rw (ne-eqb version 1 n, h)
 
-    pub place-two : (from ≡ 2 → ⊥) → 1 ≡ placeT version from
-    unfolding placeT pick
+    pub place-two : (from ≡ 2 → ⊥) → 1 ≡ placeOfT version from
+    unfolding placeOfT pick
     place-two h = rw (ne-eqb version 1 n, ne-eqb from 2 h)
 
   pub lacks-is : eqb version 1 && eqb from 2 ≡ lacksT version from
@@ -248,14 +248,14 @@ pub ruleset place-ways = (place-one, place-newer, place-two, lacks-is, needs)
 -- ---- convert_form
 
 module _ (version : ℕ) (one : 1 ≤ version) (two : version ≤ 2) (from : ℕ) (form : List ℕ) (rows : ℕ) where
-  module _ (S : Sound from form rows) (out : List ℕ) (roomy : setting (placeT version from) .version .header + 16 * rows ≤ length out) (b : Bool) (lacks : b ≡ lacksT version from) where
+  module _ (S : Sound from form rows) (out : List ℕ) (roomy : setting (placeOfT version from) .version .header + 16 * rows ≤ length out) (b : Bool) (lacks : b ≡ lacksT version from) where
     pub form-lacks : (v : Answer) → b ≡ true → v ≡ refusedT 1 0 → Says (converted all version form (length out)) out v out
     form-lacks v e w =
         let k = S .sized .known in
         let count = S .sized .counted in
-        rw w (says-refused _ 1 0 out (other-rules all all-coherent (setting from) form (S .tree) (among from) (S .reads) version (setting (placeT version from) .version) (version-placed version from one two k) (rules-lacking version from one two k (sym lacks ∙ e)) (length out) (omega (arith, count))))
+        rw w (says-refused _ 1 0 out (other-rules all all-coherent (setting from) form (S .tree) (among from) (S .reads) version (setting (placeOfT version from) .version) (version-placed version from one two k) (rules-lacking version from one two k (sym lacks ∙ e)) (length out) (omega (arith, count))))
 
-    module _ (e : b ≡ false) (to : ℕ) (p : to ≡ placeT version from) (l : Limits) (q : l ≡ limitsOf (setting to)) where
+    module _ (e : b ≡ false) (to : ℕ) (p : to ≡ placeOfT version from) (l : Limits) (q : l ≡ limitsOf (setting to)) where
       pub same-rules : setting to .rules .number ≡ setting from .rules .number
       same-rules = rw p (rules-placed version from one two (S .sized .known) (sym lacks ∙ e))
 
@@ -284,10 +284,10 @@ pub ruleset form-ways = (form-lacks, form-many, same-rules, form-few, form-room,
 
 -- ---- convert_sized
 
-module _ (version : ℕ) (one : 1 ≤ version) (two : version ≤ 2) (from : ℕ) (form : List ℕ) (rows : ℕ) (S : Sized from form rows) (to : ℕ) (p : to ≡ placeT version from)
+module _ (version : ℕ) (one : 1 ≤ version) (two : version ≤ 2) (from : ℕ) (form : List ℕ) (rows : ℕ) (S : Sized from form rows) (to : ℕ) (p : to ≡ placeOfT version from)
     (header : ℕ) (q : header ≡ setting to .version .header) (out : List ℕ) where
   abbrev v : Version
-  v = setting (placeT version from) .version
+  v = setting (placeOfT version from) .version
 
   header-to : header ≡ v .header
   header-to = rw p at q

@@ -20,8 +20,8 @@ abbrev pub refusedT : (number place : ℕ) → Answer
 refusedT number place = Refused (record { number = number; place = place })
 
 -- the place in the list of all settings of the version asked for, 1 or 2, with the rule set of the form's setting if it has that
-unfoldable pub placeT : (version from : ℕ) → ℕ
-placeT version from = pick (eqb version 1) 0 (pick (eqb from 2) 2 1)
+unfoldable pub placeOfT : (version from : ℕ) → ℕ
+placeOfT version from = pick (eqb version 1) 0 (pick (eqb from 2) 2 1)
 
 -- does the version asked for lack the form's rule set? Version 1 has rule set 0 alone
 unfoldable pub lacksT : (version from : ℕ) → Bool

@@ -1,7 +1,7 @@
 // The same rows behind the header of another version: the refusals of the form as it is, then those of the version asked for.
 use copy::copy;
 use limits::of_input;
-use reader::read::Reading;
+use reader::read::RowsRead;
 use reader::read::read_to;
 use refusal::BROKEN;
 use refusal::DEEP;
@@ -24,9 +24,9 @@ ghost use Rattle.rules.specs.Reader.{read};
 ghost use Rattle.rules.specs.Answer.{mapAnswer, rowsIn};
 ghost use Rattle.converting.specs.Convert.{recast, converted, convertedOutput, rowsSaid};
 ghost use Rattle.limits.specs.Held.{setting};
-ghost use Rattle.reader.specs.Readings.{answerOf};
+ghost use Rattle.reader.specs.ReadTo.{answerOf};
 ghost use Rattle.convert.specs.Meaning.{meaning, Says};
-ghost use Rattle.convert.specs.Run.{refusedT, placeT, lacksT, Sized, Sound};
+ghost use Rattle.convert.specs.Run.{refusedT, placeOfT, lacksT, Sized, Sound};
 
 pub enum Answer {
     // The output begins with the form that was asked for, which has this many rows.
@@ -43,7 +43,7 @@ fn refused(number: u32, place: u32) -> Answer
 
 // The place in the list of all settings of the version asked for, 1 or 2, with the rule set of the form's setting if it has that.
 fn place_of(version: u32, from: usize) -> usize
-    ensures { λ r. ⌜ r ≡ placeT version from ⌝ }
+    ensures { λ r. ⌜ r ≡ placeOfT version from ⌝ }
 {
     if version == 1 {
         return 0;
@@ -59,7 +59,7 @@ fn lacks(version: u32, from: usize) -> bool
 }
 
 // What the rows of bytes of the setting at `from` are by the limits of the setting at `to`.
-fn read_as(form: &[u8], from: usize, rows: usize, to: usize) -> Reading
+fn read_as(form: &[u8], from: usize, rows: usize, to: usize) -> RowsRead
     requires { ⌜ Sized from (now form) rows ⌝ }
     ensures { λ r. ⌜ r ≡ answerOf (read (setting to .rules) (setting to .version .scopes) (rowsIn (setting from) (now (form .entry)))) ⌝ }
 {
@@ -84,9 +84,9 @@ fn convert_to(form: &[u8], from: usize, rows: usize, to: usize, out: &mut [u8]) 
     ensures { λ r. ⌜ Says (converted all (setting to .version .number) (now (form .entry)) (length (now (out .entry)))) (now (out .entry)) r (now (out .exit)) ⌝ }
 {
     match read_as(form, from, rows, to) {
-        Reading::Broken(row) => refused(BROKEN, (row % 4294967296) as u32),
-        Reading::Deep(row) => refused(DEEP, (row % 4294967296) as u32),
-        Reading::Whole => {
+        RowsRead::Broken(row) => refused(BROKEN, (row % 4294967296) as u32),
+        RowsRead::Deep(row) => refused(DEEP, (row % 4294967296) as u32),
+        RowsRead::Whole => {
             put_form(form, from, rows, to, out);
             Answer::Converted(rows as u32)
         }
@@ -96,7 +96,7 @@ fn convert_to(form: &[u8], from: usize, rows: usize, to: usize, out: &mut [u8]) 
 // A form, by the version asked for: refusal 1 if that version lacks the form's rule set, 2 if the form has more rows than it allows.
 fn convert_form(form: &[u8], from: usize, rows: usize, version: u32, out: &mut [u8]) -> Answer
     requires { ⌜ Sound from (now form) rows ⌝ }
-    requires { ⌜ (1 ≤ version) × (version ≤ 2) × (setting (placeT version from) .version .header + 16 * rows ≤ length (now out)) ⌝ }
+    requires { ⌜ (1 ≤ version) × (version ≤ 2) × (setting (placeOfT version from) .version .header + 16 * rows ≤ length (now out)) ⌝ }
     ensures { λ r. ⌜ Says (converted all version (now (form .entry)) (length (now (out .entry)))) (now (out .entry)) r (now (out .exit)) ⌝ }
 {
     if lacks(version, from) {

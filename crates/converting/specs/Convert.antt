@@ -8,7 +8,7 @@ use lib.Dec.{eqb, ltb}
 use lib.ListN.{length, drop}
 use Rattle.rules.specs.Tools.{if_then_else_, between, only, _orElse_}
 use Rattle.rules.specs.Versions.{Version, Setting}
-use Rattle.rules.specs.Tree.{Reading, bad, deep, form}
+use Rattle.rules.specs.Tree.{RowsRead, bad, deep, form}
 use Rattle.rules.specs.Reader.{read}
 use Rattle.rules.specs.Answer.{AnswerOf, refused, accepted, settingOf, rowCount, rowsIn, headerBytes}
 
@@ -31,7 +31,7 @@ unfoldable pub recast : (s t : Setting) → List ℕ → List ℕ
 recast s t input = headerBytes t (rowCount (s .version) input) ++ drop (s .version .header) input
 
 -- a form must be within the limits of `t` too: refusal 5 at the OPEN while all its scopes are open
-unfoldable pub withinScopes : (s t : Setting) → List ℕ → Reading → AnswerOf (List ℕ)
+unfoldable pub withinScopes : (s t : Setting) → List ℕ → RowsRead → AnswerOf (List ℕ)
 withinScopes s t input (bad place) = refused 4 place []
 withinScopes s t input (deep place) = refused 5 place []
 withinScopes s t input (form tree) = accepted (recast s t input)
@@ -44,7 +44,7 @@ withinLimits s (some t) input =
     else withinScopes s t input (read (t .rules) (t .version .scopes) (rowsIn s input))
 
 -- refusals 4 and 5 of the form as it is
-unfoldable pub ifForm : (s : Setting) → Option Setting → List ℕ → Reading → AnswerOf (List ℕ)
+unfoldable pub ifForm : (s : Setting) → Option Setting → List ℕ → RowsRead → AnswerOf (List ℕ)
 ifForm s t input (bad place) = refused 4 place []
 ifForm s t input (deep place) = refused 5 place []
 ifForm s t input (form tree) = withinLimits s t input

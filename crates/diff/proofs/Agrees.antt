@@ -20,7 +20,7 @@ use Rattle.rules.specs.Tree.{Scope, flatten}
 use Rattle.rules.specs.Answer.{AnswerOf, refused, accepted, mapAnswer, hasHeader, settingOf, rowCount, rowsBytes, headerBytes, formBytes}
 use Rattle.rules.specs.Laws.ToolLaws.{done, _&_ as _also_, and-left, and-right}
 use Rattle.rules.specs.Laws.RowLaws.{Bytes}
-use Rattle.rules.specs.Laws.Reading.BeginsWritten.{rows-length}
+use Rattle.rules.specs.Laws.Read.BeginsWritten.{rows-length}
 use Rattle.rules.specs.Laws.Output.OutBytes.{header-length}
 use Rattle.headers.specs.Laws.Settings.{all-in-force, found-in}
 use Rattle.read_form.specs.ReadForm.{_andThen_, readForm}
@@ -39,7 +39,7 @@ use Rattle.whole_form.specs.declared.read.Form.the-variants as form
 use Rattle.whole_form.proofs.Laws.{plain-at, unsized, claimed-for, claimed-wrong, claimed-count, whole-read, refused-read}
 use Rattle.matched.proofs.Ends.{At}
 use Rattle.diff.specs.Meaning.{meaning, bytesOf, Says}
-use Rattle.diff.specs.Run.{listT, refusing, rowsT}
+use Rattle.diff.specs.Run.{listT, refusing, listRowsT}
 use Rattle.diff.specs.declared.run.Answer.{Answer}
 use Rattle.diff.specs.declared.run.Answer.the-variants.{Listed, Refused}
 use Rattle.diff.proofs.Lists.{Held, at-rows, whole-list}
@@ -167,11 +167,11 @@ module _ (c : Choice) (i : ℕ) (left right list : List ℕ) (asks : settingOf a
         right-read : (t : Scope) × (readForm (asClaimed (setting i)) right ≡ accepted t)
         right-read = let r = whole-read (asClaimed (setting i)) right m (sym w′ ∙ e′) in (r .0, r .1)
 
-        rows-are : (l r : List ℕ) → rowsT c l r list ≡ pick (ltb (length list) (length (listT c l r))) (refusing 3 0 & list) (Listed (length (listT c l r)) & sets list 0 (listT c l r))
-        unfolding rowsT
+        rows-are : (l r : List ℕ) → listRowsT c l r list ≡ pick (ltb (length list) (length (listT c l r))) (refusing 3 0 & list) (Listed (length (listT c l r)) & sets list 0 (listT c l r))
+        unfolding listRowsT
         rows-are l r = refl
 
-        pub both-listed : ((k : ℕ) → Fits w8 (getD right k 0)) → (a : Answer) (out : List ℕ) → (a & out) ≡ rowsT c (drop h left) (drop h right) list → Says said list a out
+        pub both-listed : ((k : ℕ) → Fits w8 (getD right k 0)) → (a : Answer) (out : List ℕ) → (a & out) ≡ listRowsT c (drop h left) (drop h right) list → Says said list a out
         both-listed b a out q = go (left-read .0) (right-read .0) (left-read .1) (right-read .1)
           where
             is-listed : (s t : Scope) → readForm (asClaimed (setting i)) left ≡ accepted s → readForm (asClaimed (setting i)) right ≡ accepted t
@@ -183,7 +183,7 @@ module _ (c : Choice) (i : ℕ) (left right list : List ℕ) (asks : settingOf a
                 let H = setting i .version .header in
                 let is : listT c (drop H left) (drop H right) ≡ listBytes (differences c s t) =
                 whole-list c (drop H left) (drop H right) s t (rows-at i left s x) (rows-at i right t y) (rows-held i right t y (all-bytes right b)) (rows-count i left s x) (rows-count i right t y) in
-                let ran : (a & out) ≡ rowsT c (drop H left) (drop H right) list = rw g at q in
+                let ran : (a & out) ≡ listRowsT c (drop H left) (drop H right) list = rw g at q in
                 rw (is-listed s t x y) (rw (ap length is) at (says-list list (listT c (drop H left) (drop H right)) (differences c s t) is a out (ran ∙ rows-are (drop H left) (drop H right))))
 
 pub ruleset as-ways = (whole-low, whole-some, whole-high, left-refused, right-refused, both-listed, needs)

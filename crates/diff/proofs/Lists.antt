@@ -19,9 +19,9 @@ use Rattle.rules.specs.Laws.ToolLaws.{ok-at}
 use Rattle.rules.specs.Laws.RowLaws.{decode-parts}
 use Rattle.read_form.specs.Laws.OutputLength.{rows-length}
 use Rattle.comparing.specs.Compare.{Choice, same, Pair, alike, differs, opening, leftOnly, rightOnly, differing, items, onlyLeft, onlyRight, rest, fieldPairs, openPair, formPairs, Entry, entries, differences, kindNumber, entryBytes, listBytes}
-use Rattle.comparing.specs.Laws.Apart.{itemsRows, fields-items}
+use Rattle.comparing.specs.Laws.FieldsFromRows.{itemsRows, fields-items}
 use Rattle.rows.proofs.Laws.{value-four}
-use Rattle.parts.specs.Apart.{two, four, parts, partsIn, partsAt}
+use Rattle.parts.specs.PartsAt.{two, four, parts, partsIn, partsAt}
 use Rattle.parts.specs.declared.Parts.{Parts}
 use Rattle.matched.specs.Counted.{rawOf, sameT}
 use Rattle.matched.specs.Alike.{endBehind, fieldEnd, middleT}

@@ -13,12 +13,12 @@ use Rattle.kit.specs.Out.{_&_}
 use Rattle.kit.proofs.Laws.{sets-append}
 use Rattle.rules.specs.Laws.ToolLaws.{false-not}
 use Rattle.comparing.specs.Compare.{Choice}
-use Rattle.parts.specs.Apart.{partsAt}
+use Rattle.parts.specs.PartsAt.{partsAt}
 use Rattle.matched.specs.Counted.{sameT}
 use Rattle.matched.specs.Alike.{fieldEnd, middleT}
 use Rattle.matched.specs.declared.fields.Rest.{Rest}
 use Rattle.diff.specs.Written.{entrySize, sizeT, entryT, leftEntry, leftT, rowsHeld, rightEntry, rightT, loneT, codeT, pairT}
-use Rattle.diff.specs.Run.{opening, pairBytes, restBytes, restOf, bothBytes, listT, refusing, rowsT}
+use Rattle.diff.specs.Run.{opening, pairBytes, restBytes, restOf, bothBytes, listT, refusing, listRowsT}
 use Rattle.diff.specs.declared.run.Answer.{Answer}
 use Rattle.diff.specs.declared.run.Answer.the-variants.{Listed}
 use Rattle.diff.proofs.Ways.{length-entry, length-held, length-right, end-within, fields-long}
@@ -202,15 +202,15 @@ module _ (c : Choice) (l r : List ℕ) (same : Bool) (m : Rest) (p : same ≡ sa
     long : o + n ≡ length (listT c l r)
     long = both-long l r same m o n k po pn ∙ ap length both-is
 
-    pub rows-short : (list : List ℕ) (a : Answer) → length list < o + n → a ≡ refusing 3 0 → a & list ≡ rowsT c l r list
-    unfolding rowsT pick
+    pub rows-short : (list : List ℕ) (a : Answer) → length list < o + n → a ≡ refusing 3 0 → a & list ≡ listRowsT c l r list
+    unfolding listRowsT pick
     rows-short list a h e = let w : length list < length (listT c l r) = omega (arith, long) in rw (lt-ltb _ _ w, e)
 
     pub rows-room : (list : List ℕ) → o + n ≤ length list → length (bothBytes l r same m) ≤ length list
     rows-room list h = omega (arith, long, ap length both-is)
 
-    pub rows-listed : (list list′ : List ℕ) → o + n ≤ length list → list′ ≡ sets list 0 (bothBytes l r same m) → Listed (o + n) & list′ ≡ rowsT c l r list
-    unfolding rowsT pick
+    pub rows-listed : (list list′ : List ℕ) → o + n ≤ length list → list′ ≡ sets list 0 (bothBytes l r same m) → Listed (o + n) & list′ ≡ listRowsT c l r list
+    unfolding listRowsT pick
     rows-listed list list′ h e =
         let w : length (listT c l r) ≤ length list = omega (arith, long) in
         rw (le-ltb _ _ w, e, both-is, long)
@@ -218,7 +218,7 @@ module _ (c : Choice) (l r : List ℕ) (same : Bool) (m : Rest) (p : same ≡ sa
 all-behind : (l : List ℕ) (h : ℕ) → take (length l - h) (drop h l) ≡ drop h l
 all-behind l h = take-all (length l - h) (drop h l) (omega (arith, length-drop h l))
 
-pub forms-listed : (c : Choice) (l r list list′ : List ℕ) (h : ℕ) (a : Answer) → (a & list′) ≡ rowsT c (take (length l - h) (drop h l)) (take (length r - h) (drop h r)) list → (a & list′) ≡ rowsT c (drop h l) (drop h r) list
+pub forms-listed : (c : Choice) (l r list list′ : List ℕ) (h : ℕ) (a : Answer) → (a & list′) ≡ listRowsT c (take (length l - h) (drop h l)) (take (length r - h) (drop h r)) list → (a & list′) ≡ listRowsT c (drop h l) (drop h r) list
 forms-listed c l r list list′ h a e = rw (all-behind l h, all-behind r h) at e
 
 -- ---- open_size

@@ -12,7 +12,7 @@ use borrow.Author.Tests.{lt-ltb, le-ltb, le-leb, lt-leb, leb-false}
 use Rattle.kit.specs.Pick.{pick}
 use Rattle.kit.proofs.Laws.{sets-append, pick-has, lt-or-le}
 use Rattle.rules.specs.Rows.{bytes}
-use Rattle.parts.specs.Apart.{partsAt}
+use Rattle.parts.specs.PartsAt.{partsAt}
 use Rattle.parts.specs.declared.Parts.{Parts}
 use Rattle.matched.specs.Alike.{codeOf, isBehind, depthBehind, endT, endBehind, fieldEnd}
 use Rattle.diff.specs.Written.{entrySize, sizeT, twoT, entryT, fieldsT, leftEntry, rowsHeld, rightEntry, loneT, codeT, pairT}

@@ -7,7 +7,7 @@ use lib.ListN.{length}
 use lib.Seq.{sets}
 use Rattle.kit.specs.Pick.{pick}
 use Rattle.kit.specs.Out.{Out, _&_}
-use Rattle.parts.specs.Apart.{partsAt}
+use Rattle.parts.specs.PartsAt.{partsAt}
 use Rattle.comparing.specs.Compare.{Choice}
 use Rattle.matched.specs.Counted.{sameT}
 use Rattle.matched.specs.Alike.{middleT}
@@ -53,6 +53,6 @@ abbrev pub refusing : (number place : ℕ) → Answer
 refusing number place = Refused (record { number = number; place = place })
 
 -- the list for two forms whose rows these are
-unfoldable pub rowsT : Choice → (l r list : List ℕ) → Ran
-rowsT c l r list =
+unfoldable pub listRowsT : Choice → (l r list : List ℕ) → Ran
+listRowsT c l r list =
     pick (ltb (length list) (length (listT c l r))) (refusing 3 0 & list) (Listed (length (listT c l r)) & sets list 0 (listT c l r))

@@ -6,7 +6,7 @@ use lib.Dec.{eqb, leb, ltb}
 use lib.ListN.{length, take, drop}
 use Rattle.kit.specs.Pick.{pick}
 use Rattle.rules.specs.Rows.{bytes}
-use Rattle.parts.specs.Apart.{partsAt}
+use Rattle.parts.specs.PartsAt.{partsAt}
 use Rattle.matched.specs.Alike.{fieldEnd}
 
 -- ---- how many bytes

@@ -30,7 +30,7 @@ ghost use Rattle.comparing.specs.Compare.{listed, listOutput};
 ghost use Rattle.matched.specs.Counted.{choiceOf};
 ghost use Rattle.limits.specs.Held.{setting};
 ghost use Rattle.diff.specs.Meaning.{meaning, bytesOf, Says};
-ghost use Rattle.diff.specs.Run.{refusing, opening, pairBytes, restBytes, restOf, bothBytes, rowsT};
+ghost use Rattle.diff.specs.Run.{refusing, opening, pairBytes, restBytes, restOf, bothBytes, listRowsT};
 
 pub enum Answer {
     // The list has this many bytes.
@@ -120,7 +120,7 @@ fn put_list(left: &[u8], right: &[u8], same: bool, rest: Rest, list: &mut [u8])
 // The list for two forms whose rows these are.
 fn list_rows(left: &[u8], right: &[u8], choice: u32, list: &mut [u8]) -> Answer
     requires { ⌜ (length (now left) ≤ 1048576) × (length (now right) ≤ 1048576) × (16 ≤ length (now right)) ⌝ }
-    ensures { λ r. ⌜ (r & now (list .exit)) ≡ rowsT (choiceOf choice) (now (left .entry)) (now (right .entry)) (now (list .entry)) ⌝ }
+    ensures { λ r. ⌜ (r & now (list .exit)) ≡ listRowsT (choiceOf choice) (now (left .entry)) (now (right .entry)) (now (list .entry)) ⌝ }
 {
     let same = same_row(left, 0, right, 0, choice);
     let rest = middle(left, right, choice);
@@ -135,7 +135,7 @@ fn list_rows(left: &[u8], right: &[u8], choice: u32, list: &mut [u8]) -> Answer
 // The list for two forms with headers of this many bytes.
 fn list_forms(left: &[u8], right: &[u8], header: usize, choice: u32, list: &mut [u8]) -> Answer
     requires { ⌜ (header ≤ length (now left)) × (length (now left) ≤ header + 1048576) × (header + 16 ≤ length (now right)) × (length (now right) ≤ header + 1048576) ⌝ }
-    ensures { λ r. ⌜ (r & now (list .exit)) ≡ rowsT (choiceOf choice) (drop header (now (left .entry))) (drop header (now (right .entry))) (now (list .entry)) ⌝ }
+    ensures { λ r. ⌜ (r & now (list .exit)) ≡ listRowsT (choiceOf choice) (drop header (now (left .entry))) (drop header (now (right .entry))) (now (list .entry)) ⌝ }
 {
     list_rows(&left[header..], &right[header..], choice, list)
 }

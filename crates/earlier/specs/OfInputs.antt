@@ -18,7 +18,7 @@ use Rattle.rules.specs.Readings.{isInserted, Place, placeFrom, walkedInside}
 use Rattle.rules.specs.Explainer.{Standing, standingInside, explained, amongInside}
 use Rattle.rules.specs.Laws.RowLaws.{Bytes}
 use Rattle.rules.specs.Laws.Meaning.Around.{Around, alone}
-use Rattle.rules.specs.Laws.Demand3.{AllUsual, AcceptedInside, Accepted, asked, steps as of-steps, low-read, readings}
+use Rattle.rules.specs.Laws.InputLaws.{AllUsual, AcceptedInside, Accepted, asked, steps as of-steps, low-read, readings}
 use Rattle.earlier.specs.Tested.{Name, testedInside}
 use Rattle.earlier.specs.Scopes.{namesOf}
 use Rattle.earlier.specs.Holders.{HoldersAround, nowhere}

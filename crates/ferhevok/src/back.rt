@@ -6,7 +6,7 @@ use unresolve::run::unresolve;
 use unresolve_with::unresolve_with;
 ghost use mathlib.Core.Path.{_≡_};
 ghost use lib.ListN.{length};
-ghost use Rattle.resolver_with.specs.Served.{asked};
+ghost use Rattle.resolver_with.specs.Asked.{asked};
 ghost use Rattle.resolver_with.specs.Areas.{lentOf, Cleared};
 ghost use Rattle.unresolve.specs.Meaning.{returned, returnedIn};
 ghost use Rattle.unresolve.specs.With.{backWith, outWith, restoredAfter, againAfter};

@@ -6,9 +6,9 @@ use sheet::check;
 use sheet_with::check_with;
 ghost use mathlib.Core.Path.{_≡_};
 ghost use lib.ListN.{length};
-ghost use Rattle.rules.specs.Versions.{base};
+ghost use Rattle.rules.specs.Versions.{base, all};
 ghost use Rattle.binding.specs.Sheet.{sheetAnswer, answersAfter, workAfter};
-ghost use Rattle.resolver_with.specs.Served.{served, asked};
+ghost use Rattle.resolver_with.specs.Asked.{asked};
 ghost use Rattle.resolver_with.specs.Areas.{lentOf, Cleared};
 ghost use Rattle.sheet.specs.Meaning.{meaning, ruled};
 ghost use Rattle.sheet_with.specs.With.{sheetWith};
@@ -56,7 +56,7 @@ pub extern "C" fn wnt_sheet_with(
 ) -> u64
     ensures { λ r. ⌜ r ≡ packed (ruled (sheetWith (now (form .entry)) (now (resolved .entry)) (now (sheet .entry)) (length (now (answers .entry))) (length (now (work .entry))) (lentOf (now (entered .entry)) (now (names .entry)) (now (known .entry)) (now (chains .entry)) (now (ends .entry))))) ⌝ }
     ensures { λ r. ⌜ now (answers .exit) ≡ answersAfter (sheetWith (now (form .entry)) (now (resolved .entry)) (now (sheet .entry)) (length (now (answers .entry))) (length (now (work .entry))) (lentOf (now (entered .entry)) (now (names .entry)) (now (known .entry)) (now (chains .entry)) (now (ends .entry)))) (now (answers .entry)) ⌝ }
-    ensures { λ r. ⌜ now (work .exit) ≡ workAfter served (now (form .entry)) (now (work .entry)) ⌝ }
+    ensures { λ r. ⌜ now (work .exit) ≡ workAfter all (now (form .entry)) (now (work .entry)) ⌝ }
     ensures { λ r. ⌜ Cleared (asked (now (form .entry)) .version) (now (entered .entry)) (now (entered .exit)) (now (names .entry)) (now (names .exit)) (now (known .entry)) (now (known .exit)) (now (chains .entry)) (now (chains .exit)) (now (ends .entry)) (now (ends .exit)) ⌝ }
 {
     packed_slots(check_with(

@@ -7,9 +7,9 @@ use packed::packed_no;
 use packed::packed_refusal;
 ghost use mathlib.Core.Path.{_≡_};
 ghost use lib.ListN.{length};
-ghost use Rattle.rules.specs.Versions.{base};
+ghost use Rattle.rules.specs.Versions.{base, all};
 ghost use Rattle.checking.specs.CheckAnswer.{checkAnswer, tableAfter, indexAfter};
-ghost use Rattle.resolver_with.specs.Served.{served, asked};
+ghost use Rattle.resolver_with.specs.Asked.{asked};
 ghost use Rattle.resolver_with.specs.Areas.{lentOf, Cleared};
 ghost use Rattle.claim_check.specs.Meaning.{meaning, ruled};
 ghost use Rattle.check_with.specs.With.{checkWith};
@@ -48,7 +48,7 @@ pub extern "C" fn wnt_check_with(
     ends: &mut [u32],
 ) -> u64
     ensures { λ r. ⌜ r ≡ packedVerdict (ruled (checkWith (now (form .entry)) (now (claim .entry)) (length (now (table .entry))) (length (now (index .entry))) (lentOf (now (entered .entry)) (now (names .entry)) (now (known .entry)) (now (chains .entry)) (now (ends .entry))))) ⌝ }
-    ensures { λ r. ⌜ (now (table .exit) ≡ tableAfter served (now (form .entry)) (now (table .entry))) × (now (index .exit) ≡ indexAfter served (now (form .entry)) (now (index .entry))) ⌝ }
+    ensures { λ r. ⌜ (now (table .exit) ≡ tableAfter all (now (form .entry)) (now (table .entry))) × (now (index .exit) ≡ indexAfter all (now (form .entry)) (now (index .entry))) ⌝ }
     ensures { λ r. ⌜ Cleared (asked (now (form .entry)) .version) (now (entered .entry)) (now (entered .exit)) (now (names .entry)) (now (names .exit)) (now (known .entry)) (now (known .exit)) (now (chains .entry)) (now (chains .exit)) (now (ends .entry)) (now (ends .exit)) ⌝ }
 {
     packed_verdict(judge_with(

@@ -5,11 +5,11 @@ use share::share;
 use share_with::share_with;
 ghost use mathlib.Core.Path.{_≡_};
 ghost use lib.ListN.{length};
-ghost use Rattle.rules.specs.Versions.{base};
+ghost use Rattle.rules.specs.Versions.{base, all};
 ghost use Rattle.checking.specs.CheckAnswer.{tableAfter, indexAfter};
 ghost use Rattle.share.specs.Lent.{sharedWith, outputWith};
 ghost use Rattle.resolver.specs.Meaning.{ruled};
-ghost use Rattle.resolver_with.specs.Served.{served, asked};
+ghost use Rattle.resolver_with.specs.Asked.{asked};
 ghost use Rattle.resolver_with.specs.Areas.{lentOf, cleared, Cleared};
 ghost use Rattle.share_with.specs.With.{bytesFor, sharedWith as sharedLent, outputWith as outputLent};
 ghost use Rattle.ferhevok.specs.Packed.{packed};
@@ -43,7 +43,7 @@ pub extern "C" fn wnt_share_with(
     ends: &mut [u32],
 ) -> u64
     ensures { λ r. ⌜ (r ≡ packed (ruled (sharedLent (now (form .entry)) (length (now (out .entry))) (length (now (marked .entry))) (length (now (table .entry))) (length (now (index .entry))) (lentOf (now (entered .entry)) (now (names .entry)) (now (known .entry)) (now (chains .entry)) (now (ends .entry)))) .plain)) × (now (out .exit) ≡ outputLent (now (form .entry)) (now (out .entry)) (length (now (marked .entry))) (length (now (table .entry))) (length (now (index .entry))) (lentOf (now (entered .entry)) (now (names .entry)) (now (known .entry)) (now (chains .entry)) (now (ends .entry)))) ⌝ }
-    ensures { λ _. ⌜ (now (marked .exit) ≡ cleared 0 (bytesFor (asked (now (form .entry)) .version)) (now (marked .entry))) × (now (table .exit) ≡ tableAfter served (now (form .entry)) (now (table .entry))) × (now (index .exit) ≡ indexAfter served (now (form .entry)) (now (index .entry))) ⌝ }
+    ensures { λ _. ⌜ (now (marked .exit) ≡ cleared 0 (bytesFor (asked (now (form .entry)) .version)) (now (marked .entry))) × (now (table .exit) ≡ tableAfter all (now (form .entry)) (now (table .entry))) × (now (index .exit) ≡ indexAfter all (now (form .entry)) (now (index .entry))) ⌝ }
     ensures { λ _. ⌜ Cleared (asked (now (form .entry)) .version) (now (entered .entry)) (now (entered .exit)) (now (names .entry)) (now (names .exit)) (now (known .entry)) (now (known .exit)) (now (chains .entry)) (now (chains .exit)) (now (ends .entry)) (now (ends .exit)) ⌝ }
 {
     packed_in(share_with(

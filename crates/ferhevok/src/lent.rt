@@ -5,7 +5,7 @@ use resolver_with::run::resolve_with;
 ghost use mathlib.Core.Path.{_≡_};
 ghost use lib.ListN.{length};
 ghost use Rattle.resolver.specs.Meaning.{ruled};
-ghost use Rattle.resolver_with.specs.Served.{asked};
+ghost use Rattle.resolver_with.specs.Asked.{asked};
 ghost use Rattle.resolver_with.specs.Areas.{lentOf, Cleared};
 ghost use Rattle.resolver_with.specs.With.{answerWith, outputWith};
 ghost use Rattle.ferhevok.specs.Packed.{packed};

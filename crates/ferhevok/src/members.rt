@@ -12,9 +12,9 @@ ghost use mathlib.Core.Path.{_≡_};
 ghost use mathlib.Core.Bool.{false};
 ghost use lib.Dec.{ltb};
 ghost use lib.ListN.{length};
-ghost use Rattle.rules.specs.Versions.{base};
+ghost use Rattle.rules.specs.Versions.{base, all};
 ghost use Rattle.batching.specs.BatchCalls.{memberCall, memberLeaves, batchCall, batchLeaves, cleared};
-ghost use Rattle.resolver_with.specs.Served.{served, asked};
+ghost use Rattle.resolver_with.specs.Asked.{asked};
 ghost use Rattle.resolver_with.specs.Areas.{lentOf};
 ghost use Rattle.member_with.specs.Areas.{areaFor, isSmall, shortWith, TablesCleared};
 ghost use Rattle.ferhevok.specs.Meant.{packedDeclared, meantRow};
@@ -73,8 +73,8 @@ pub extern "C" fn wnt_member_with(
     chains: &mut [u16],
     ends: &mut [u32],
 ) -> u64
-    ensures { λ r. ⌜ r ≡ memberCall served (shortWith (now (prelude .entry)) (length (now (work .entry))) (lentOf (now (entered .entry)) (now (names .entry)) (now (known .entry)) (now (chains .entry)) (now (ends .entry)))) (now (prelude .entry)) (areaFor (asked (now (prelude .entry)) .version)) (now (member .entry)) (length (now (out .entry))) ⌝ }
-    ensures { λ _. ⌜ now (out .exit) ≡ memberLeaves served (shortWith (now (prelude .entry)) (length (now (work .entry))) (lentOf (now (entered .entry)) (now (names .entry)) (now (known .entry)) (now (chains .entry)) (now (ends .entry)))) (now (prelude .entry)) (areaFor (asked (now (prelude .entry)) .version)) (now (member .entry)) (now (out .entry)) ⌝ }
+    ensures { λ r. ⌜ r ≡ memberCall all (shortWith (now (prelude .entry)) (length (now (work .entry))) (lentOf (now (entered .entry)) (now (names .entry)) (now (known .entry)) (now (chains .entry)) (now (ends .entry)))) (now (prelude .entry)) (areaFor (asked (now (prelude .entry)) .version)) (now (member .entry)) (length (now (out .entry))) ⌝ }
+    ensures { λ _. ⌜ now (out .exit) ≡ memberLeaves all (shortWith (now (prelude .entry)) (length (now (work .entry))) (lentOf (now (entered .entry)) (now (names .entry)) (now (known .entry)) (now (chains .entry)) (now (ends .entry)))) (now (prelude .entry)) (areaFor (asked (now (prelude .entry)) .version)) (now (member .entry)) (now (out .entry)) ⌝ }
     ensures { λ _. ⌜ now (work .exit) ≡ cleared 0 (areaFor (asked (now (prelude .entry)) .version)) (now (work .entry)) ⌝ }
     ensures { λ _. ⌜ TablesCleared (asked (now (prelude .entry)) .version) (now (entered .entry)) (now (entered .exit)) (now (names .entry)) (now (names .exit)) (now (known .entry)) (now (known .exit)) (now (chains .entry)) (now (chains .exit)) (now (ends .entry)) (now (ends .exit)) ⌝ }
 {
@@ -123,8 +123,8 @@ pub extern "C" fn wnt_batch_with(
     chains: &mut [u16],
     ends: &mut [u32],
 ) -> u64
-    ensures { λ r. ⌜ r ≡ batchCall served (isSmall (asked (now (prelude .entry)) .version) (lentOf (now (entered .entry)) (now (names .entry)) (now (known .entry)) (now (chains .entry)) (now (ends .entry)))) (now (prelude .entry)) (now (members .entry)) (now (lengths .entry)) (record { prelude = now (resolved .entry); outs = now (outs .entry); answers = now (answers .entry) }) ⌝ }
-    ensures { λ _. ⌜ record { prelude = now (resolved .exit); outs = now (outs .exit); answers = now (answers .exit) } ≡ batchLeaves served (isSmall (asked (now (prelude .entry)) .version) (lentOf (now (entered .entry)) (now (names .entry)) (now (known .entry)) (now (chains .entry)) (now (ends .entry)))) (now (prelude .entry)) (now (members .entry)) (now (lengths .entry)) (record { prelude = now (resolved .entry); outs = now (outs .entry); answers = now (answers .entry) }) ⌝ }
+    ensures { λ r. ⌜ r ≡ batchCall all (isSmall (asked (now (prelude .entry)) .version) (lentOf (now (entered .entry)) (now (names .entry)) (now (known .entry)) (now (chains .entry)) (now (ends .entry)))) (now (prelude .entry)) (now (members .entry)) (now (lengths .entry)) (record { prelude = now (resolved .entry); outs = now (outs .entry); answers = now (answers .entry) }) ⌝ }
+    ensures { λ _. ⌜ record { prelude = now (resolved .exit); outs = now (outs .exit); answers = now (answers .exit) } ≡ batchLeaves all (isSmall (asked (now (prelude .entry)) .version) (lentOf (now (entered .entry)) (now (names .entry)) (now (known .entry)) (now (chains .entry)) (now (ends .entry)))) (now (prelude .entry)) (now (members .entry)) (now (lengths .entry)) (record { prelude = now (resolved .entry); outs = now (outs .entry); answers = now (answers .entry) }) ⌝ }
     ensures { λ _. ⌜ TablesCleared (asked (now (prelude .entry)) .version) (now (entered .entry)) (now (entered .exit)) (now (names .entry)) (now (names .exit)) (now (known .entry)) (now (known .exit)) (now (chains .entry)) (now (chains .exit)) (now (ends .entry)) (now (ends .exit)) ⌝ }
 {
     batch_with(

@@ -10,7 +10,7 @@ ghost use Rattle.rules.specs.Versions.{base};
 ghost use Rattle.moving.specs.MovedAnswer.{movedAnswer, roomsOf, buffers};
 ghost use Rattle.moved.specs.Meaning.{meaning, ruled, held};
 ghost use Rattle.moved_with.specs.With.{movedWith, buffersWith};
-ghost use Rattle.resolver_with.specs.Served.{asked};
+ghost use Rattle.resolver_with.specs.Asked.{asked};
 ghost use Rattle.resolver_with.specs.Areas.{lentOf, Cleared};
 ghost use Rattle.ferhevok.specs.Packed.{packed};
 

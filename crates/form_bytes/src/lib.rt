@@ -2,7 +2,7 @@
 ghost use mathlib.Core.Path.{_≡_};
 ghost use Prim.Native.Nat.{_<_};
 ghost use lib.ListN.{getD};
-ghost use Rattle.parts.specs.Apart.{two, four};
+ghost use Rattle.parts.specs.PartsAt.{two, four};
 
 pub fn byte_at(form: &[u8], at: usize) -> u8
     ensures { λ r. ⌜ r ≡ getD (now (form .entry)) at 0 ⌝ }

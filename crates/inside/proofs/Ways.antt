@@ -22,22 +22,22 @@ use Rattle.rules.specs.Laws.RowLaws.{Bytes}
 use Rattle.batching.specs.Batch.{rootOf, insideAnswer, insideOutput}
 use Rattle.refusal.specs.declared.Refusal.{Refusal}
 use Rattle.refusal.specs.Refusals.{untold}
-use Rattle.parts.specs.Apart.{partsAt}
+use Rattle.parts.specs.PartsAt.{partsAt}
 use Rattle.parts.specs.declared.Parts.{Parts}
 use Rattle.limits.specs.declared.Limits.{Limits}
 use Rattle.limits.specs.Held.{settingIn, limitsOf, setting}
 use Rattle.limits.proofs.Laws as limits
 use Rattle.form.specs.Header.{headerFor, headerTo}
-use Rattle.form.specs.Marked.{endsTo}
+use Rattle.form.specs.MarkEnds.{endsTo}
 use Rattle.form.specs.declared.header.Header.{Header}
 use Rattle.form.specs.declared.header.Header.the-variants.{Rows, Wrong, Count}
-use Rattle.reader.specs.Readings.{readTo}
+use Rattle.reader.specs.ReadTo.{readTo}
 use Rattle.names.specs.Table.{Slot, noScope, scopeOf, pastOf, scopeAt}
 use Rattle.index.specs.Indexed.{Holds, Tiled}
-use Rattle.write.specs.State.{Wrote}
-use Rattle.write.specs.declared.alias.State.{State}
+use Rattle.write.specs.WriteState.{Wrote}
+use Rattle.write.specs.declared.alias.WriteState.{WriteState}
 use Rattle.write.specs.declared.alias.Walked.{Walked}
-use Rattle.walk.specs.Walk.{scopeT, startIn}
+use Rattle.walk.specs.Scopes.{scopeWalkT, startIn}
 use Rattle.walk.specs.Open.{Served, Stacked}
 use Rattle.claim_rows.specs.Left.{rowsAt}
 use Rattle.claim_laws.specs.RowParts.{allParts}
@@ -197,7 +197,7 @@ module _ (i : ℕ) (entered names : List Slot) (known chains ends : List ℕ) (s
     pub most-few : most ≤ 64
     most-few = omega (arith, most-is, able-at i .shallow)
 
-    module _ (name used : ℕ) (scope : List ℕ) (is : scope ≡ scopeOf name 0 used 0) (early : Bool) (s : State) (starts : s ≡ startIn used 1 early) where
+    module _ (name used : ℕ) (scope : List ℕ) (is : scope ≡ scopeOf name 0 used 0) (early : Bool) (s : WriteState) (starts : s ≡ startIn used 1 early) where
       stack-is : take most (set (replicate 64 noScope) 0 scope) ≡ oneOpen (setting i .version .scopes) name used
       stack-is =
           front-set most 63 scope (omega (arith, most-is, some-scope i)) most-few ∙ (ap (λ (n : ℕ). set (replicate n noScope) 0 scope) most-is ∙ ap (λ (x : List ℕ). set (replicate (setting i .version .scopes) noScope) 0 x) is)
@@ -206,13 +206,13 @@ module _ (i : ℕ) (entered names : List Slot) (known chains ends : List ℕ) (s
       stacked-inside = rw (stack-is, starts) (stacked (setting i .version .scopes) name used early (some-scope i))
 
       pub walk-behind : (rows noted out o : List ℕ) (e n : List Slot) (a : Walked) (by : Limits) → early ≡ setting i .rules .early → by ≡ limitsOf (setting i) → noted ≡ endsTo (by .scopes) rows ends
-          → (a & e & n & o) ≡ scopeT rows noted (length (take most (set (replicate 64 noScope) 0 scope)) - s .depth) entered names (take most (set (replicate 64 noScope) 0 scope)) out s → a & o ≡ walkInside (setting i) name used rows ends entered names out
+          → (a & e & n & o) ≡ scopeWalkT rows noted (length (take most (set (replicate 64 noScope) 0 scope)) - s .depth) entered names (take most (set (replicate 64 noScope) 0 scope)) out s → a & o ≡ walkInside (setting i) name used rows ends entered names out
       unfolding walkInside seenOf
       walk-behind rows noted out o e n a by asked limits₂ m w =
           let k : by .scopes ≡ setting i .version .scopes = ap (λ (x : Limits). x .scopes) limits₂ in
           let d : length (oneOpen (setting i .version .scopes) name used) - 1 ≡ setting i .version .scopes - 1 =
           ap (λ (n : ℕ). n - 1) (length-set (replicate (setting i .version .scopes) noScope) 0 (scopeOf name 0 used 0) ∙ length-replicate (setting i .version .scopes) noScope) in
-          let w′ : (a & e & n & o) ≡ scopeT rows (endsTo (setting i .version .scopes) rows ends) (setting i .version .scopes - 1) entered names (oneOpen (setting i .version .scopes) name used) out (startIn used 1 early) = rw (stack-is, starts, m, k, d) at w in
+          let w′ : (a & e & n & o) ≡ scopeWalkT rows (endsTo (setting i .version .scopes) rows ends) (setting i .version .scopes - 1) entered names (oneOpen (setting i .version .scopes) name used) out (startIn used 1 early) = rw (stack-is, starts, m, k, d) at w in
           rw (← asked, ← w′)
 
 pub walk-is : (i : ℕ) (root rows ends out : List ℕ) (entered names names′ : List Slot) (w : Wrote) (name used : ℕ) → (used & names′) ≡ rootT names (rowsAt root 0) → name ≡ partsAt root 0 .x

@@ -8,12 +8,12 @@ use Rattle.rules.specs.Versions.{Version, Setting}
 use Rattle.rules.specs.Tree.{Scope, flatten}
 use Rattle.rules.specs.Readings.{fieldsOf}
 use Rattle.batching.specs.Batch.{rootOf, insideAnswer, insideOutput}
-use Rattle.parts.specs.Apart.{partsAt}
+use Rattle.parts.specs.PartsAt.{partsAt}
 use Rattle.names.specs.Table.{Slot}
-use Rattle.write.specs.State.{Wrote}
+use Rattle.write.specs.WriteState.{Wrote}
 use Rattle.claim_rows.specs.Left.{rowsAt}
 use Rattle.claim_laws.specs.RowParts.{allParts}
-use Rattle.agree.specs.Spaces.{Spaces}
+use Rattle.agree.specs.Fit.Spaces.{Spaces}
 use Rattle.prelude_root.specs.Root.{rootT}
 use Rattle.resolver.specs.Meaning.{meaning, ruled}
 use Rattle.resolver.specs.declared.run.Answer.{Answer}

@@ -6,13 +6,13 @@ use mathlib.Core.List.{List, [], _∷_}
 use native.Mathlib.Omega.{arith}
 use Prim.Native.Nat.{ℕ, zero, suc, _≤_}
 use Rattle.rules.specs.Tools.{if_then_else_, only, _orElse_}
-use Rattle.rules.specs.Versions.{Setting}
+use Rattle.rules.specs.Versions.{Setting, all}
 use Rattle.rules.specs.Answer.{hasHeader, settingOf}
 use Rattle.rules.specs.Laws.Results.{some-same, no-option}
 use Rattle.limits.specs.Held.{settingIn, limitsOf, setting}
 use Rattle.limits.proofs.Laws.{stand-for}
 use Rattle.form.specs.Header.{headerFor, headerTo}
-use Rattle.resolver_with.specs.Served.{first, served, askedIn, asked}
+use Rattle.resolver_with.specs.Asked.{first, askedIn, asked}
 use Rattle.resolver_with.proofs.Asked.{setting-asked}
 
 first-in : (ss : List Setting) (input : List ℕ) → (settingOf ss input orElse some first) ≡ some (askedIn ss input)
@@ -25,14 +25,14 @@ first-in (s ∷ ss) input = go (hasHeader s input) (first-in ss input)
     go false later = later
 
 -- it is the first one where a header asks for none
-pub first-asked : (input : List ℕ) → (settingOf served input orElse some first) ≡ some (asked input)
+pub first-asked : (input : List ℕ) → (settingOf all input orElse some first) ≡ some (asked input)
 unfolding asked
-first-asked input = first-in served input
+first-asked input = first-in all input
 
-only-asked : (input : List ℕ) → settingOf served input ≡ (only (hasHeader (asked input) input) (asked input) orElse none)
+only-asked : (input : List ℕ) → settingOf all input ≡ (only (hasHeader (asked input) input) (asked input) orElse none)
 only-asked input = setting-asked input ∙ unfold settingOf in refl
 
-pub asked-is : (input : List ℕ) (v : Setting) → settingOf served input ≡ some v → asked input ≡ v
+pub asked-is : (input : List ℕ) (v : Setting) → settingOf all input ≡ some v → asked input ≡ v
 unfolding only _orElse_
 asked-is input v e = go (hasHeader (asked input) input) (sym (only-asked input) ∙ e)
   where
@@ -41,7 +41,7 @@ asked-is input v e = go (hasHeader (asked input) input) (sym (only-asked input) 
     go false e = no-option v e
 
 -- what the header says under the setting that it asks for is what it says under all in force
-pub header-asked : (i : ℕ) (input : List ℕ) → setting i ≡ asked input → headerTo (limitsOf (setting i)) input ≡ headerFor (settingOf served input) input
+pub header-asked : (i : ℕ) (input : List ℕ) → setting i ≡ asked input → headerTo (limitsOf (setting i)) input ≡ headerFor (settingOf all input) input
 unfolding headerTo only _orElse_
 header-asked i input e =
     ap (λ (s : Setting). headerFor (only (hasHeader s input) s) input) (stand-for i ∙ e) ∙ (go (hasHeader (asked input) input) ∙ ap (λ (o : Option Setting). headerFor o input) (sym (only-asked input)))

@@ -12,7 +12,7 @@ use Rattle.kit.proofs.Laws.{yes!, no!, tests, left-suc, down, past}
 use Rattle.kit.specs.Out.{Out, _&_}
 use Rattle.rules.specs.Shapes.{hereOnly}
 use Rattle.parts.specs.declared.Parts.{Parts}
-use Rattle.parts.specs.Apart.{partsAt}
+use Rattle.parts.specs.PartsAt.{partsAt}
 use Rattle.rows.specs.declared.row.Index.the-variants.{Name}
 use Rattle.rows.specs.declared.row.Row.the-variants.{Ref}
 use Rattle.put.specs.Put.{putRow, copyRow}
@@ -22,31 +22,31 @@ use Rattle.names.specs.declared.Found.the-variants.{At, Nothing}
 use Rattle.index.specs.Indexed.{Holds, Covers}
 use Rattle.mark.specs.declared.Place.{Place}
 use Rattle.mark.specs.declared.Marking.{Marking}
-use Rattle.mark.specs.Visits.{place, placeAt, behindT, stepT, Visit, visitsT}
-use Rattle.mark.specs.Marked.{Serves, leftBy, slotOf, enterRowT, enterThen, enterAll, isFound, Step, marking, insertWith, insertT, serveT, beside, outerT, nameT, refT, rowT, markThen, markAll, Steps, nextOf, scopeT, openT, scopesThen, scopesT, copiesT, markedT}
+use Rattle.mark.specs.Visits.{place, placeAt, visitsBehindT, visitStepT, Visit, visitsT}
+use Rattle.mark.specs.MarkedRows.{Serves, leftBy, slotOf, enterRowT, enterThen, enterAll, isFound, Step, marking, insertWith, insertMarkedT, serveT, beside, markOuterT, markNameT, markRefT, markRowT, markThen, markAll, Steps, nextOf, markScopeT, markOpenT, scopesThen, scopesT, copiesT, markRowsT}
 
 -- ---- behind, step
 
 module _ (count row : ℕ) where
-  pub behind-on : row < count → row + 1 ≡ behindT count row
-  unfolding behindT
+  pub behind-on : row < count → row + 1 ≡ visitsBehindT count row
+  unfolding visitsBehindT
   behind-on h = yes! _ (omega tests) refl
 
-  pub behind-past : count ≤ row → row ≡ behindT count row
-  unfolding behindT
+  pub behind-past : count ≤ row → row ≡ visitsBehindT count row
+  unfolding visitsBehindT
   behind-past h = no! _ (omega tests) refl
 
 module _ (ends : List ℕ) (count : ℕ) (p : Parts) (at : Place) where
-  pub step-field : (r e : ℕ) (w : Bool) → p .code ≡ 1 → r ≡ behindT count (at .row) → e ≡ getD ends (at .row) 0 → w ≡ hereOnly (p .b) → place r e (not w) ≡ stepT ends count p at
-  unfolding stepT
+  pub step-field : (r e : ℕ) (w : Bool) → p .code ≡ 1 → r ≡ visitsBehindT count (at .row) → e ≡ getD ends (at .row) 0 → w ≡ hereOnly (p .b) → place r e (not w) ≡ visitStepT ends count p at
+  unfolding visitStepT
   step-field r e w h f g k = yes! _ (omega tests) (rw (f, g, k))
 
-  pub step-open : (p .code ≡ 1 → ⊥) → p .code ≡ 7 → place (at .end) (at .end) (at .walked) ≡ stepT ends count p at
-  unfolding stepT
+  pub step-open : (p .code ≡ 1 → ⊥) → p .code ≡ 7 → place (at .end) (at .end) (at .walked) ≡ visitStepT ends count p at
+  unfolding visitStepT
   step-open h g = no! _ (omega tests) (yes! _ (omega tests) refl)
 
-  pub step-other : (r : ℕ) → (p .code ≡ 1 → ⊥) → (p .code ≡ 7 → ⊥) → r ≡ behindT count (at .row) → place r (at .end) (at .walked) ≡ stepT ends count p at
-  unfolding stepT
+  pub step-other : (r : ℕ) → (p .code ≡ 1 → ⊥) → (p .code ≡ 7 → ⊥) → r ≡ visitsBehindT count (at .row) → place r (at .end) (at .walked) ≡ visitStepT ends count p at
+  unfolding visitStepT
   step-other r h g f = no! _ (omega tests) (no! _ (omega tests) (rw f))
 
 pub ruleset step-ways = (behind-on, behind-past, step-field, step-open, step-other, past, needs)
@@ -72,7 +72,7 @@ module _ (rows ends : List ℕ) (at : Place) (table : List Slot) (used turns : �
     unfolding visitsT enterAll pick
     enter-close e = (rw (← got, e) at (rw (down turns h) at inv))
 
-    pub enter-turn : (p .code ≡ 8 → ⊥) → (u : ℕ) (t : List Slot) (at′ : Place) → (u & t) ≡ enterRowT p table used → at′ ≡ stepT ends (length rows / 16) p at → enterAll (visitsT rows ends (turns - 1) at′) t u ≡ T
+    pub enter-turn : (p .code ≡ 8 → ⊥) → (u : ℕ) (t : List Slot) (at′ : Place) → (u & t) ≡ enterRowT p table used → at′ ≡ visitStepT ends (length rows / 16) p at → enterAll (visitsT rows ends (turns - 1) at′) t u ≡ T
     unfolding visitsT enterAll enterThen pick
     enter-turn e u t at′ w s = rw s (rw (← got, ne-eqb _ _ e, ← w) at (rw (down turns h) at inv))
 
@@ -94,8 +94,8 @@ own-covered m table index s = record { used = m .used; below = s .within; holds 
 pub all-covered : (table : List Slot) (index : List ℕ) (used : ℕ) → Holds table index used → Covers table index used
 all-covered table index used s = record { used = used; below = omega arith; holds = s }
 
-pub insert-way : (p : Parts) (m : Marking) (table : List Slot) (u : ℕ) (t : List Slot) (f : ℕ) → (u & t) ≡ pushed table (m .used) (slotOf p (m .fresh)) → f ≡ (m .fresh + 1) % 4294967296 → (marking (m .own) u f & t) ≡ insertT p m table
-unfolding insertT insertWith
+pub insert-way : (p : Parts) (m : Marking) (table : List Slot) (u : ℕ) (t : List Slot) (f : ℕ) → (u & t) ≡ pushed table (m .used) (slotOf p (m .fresh)) → f ≡ (m .fresh + 1) % 4294967296 → (marking (m .own) u f & t) ≡ insertMarkedT p m table
+unfolding insertMarkedT insertWith
 insert-way p m table u t f e g = rw (← e, g)
 
 pub serves-more : (m : Marking) (u f : ℕ) (table t : List Slot) (index i : List ℕ) → Serves m table index → Holds t i u → m .used ≤ u → Serves (marking (m .own) u f) t i
@@ -111,46 +111,46 @@ pub ruleset insert-ways = (own-found, own-nothing, own-covered, all-covered, ins
 
 module _ (p : Parts) (row : ℕ) (m : Marking) (table : List Slot) (marked : List ℕ) where
   module _ (f F : Found) (got : f ≡ F) where
-    pub outer-served : (alias : ℕ) → f ≡ At alias → (l : List ℕ) → l ≡ serveT p row alias marked → (m & table & l) ≡ outerT F p row m table marked
-    unfolding outerT
+    pub outer-served : (alias : ℕ) → f ≡ At alias → (l : List ℕ) → l ≡ serveT p row alias marked → (m & table & l) ≡ markOuterT F p row m table marked
+    unfolding markOuterT
     outer-served alias g l w = rw (← got, g, w)
 
-    pub outer-new : f ≡ Nothing → (m′ : Marking) (t : List Slot) → (m′ & t) ≡ insertT p m table → (m′ & t & marked) ≡ outerT F p row m table marked
-    unfolding outerT beside
+    pub outer-new : f ≡ Nothing → (m′ : Marking) (t : List Slot) → (m′ & t) ≡ insertMarkedT p m table → (m′ & t & marked) ≡ markOuterT F p row m table marked
+    unfolding markOuterT beside
     outer-new g m′ t w = rw (← got, g, ← w)
 
   module _ (b : Bool) (own : b ≡ isFound (findIn (between 0 (m .own) table) (p .b) (p .x))) where
-    pub name-own : b ≡ true → (m & table & marked) ≡ nameT p row m table marked
-    unfolding nameT
+    pub name-own : b ≡ true → (m & table & marked) ≡ markNameT p row m table marked
+    unfolding markNameT
     name-own e = yes! _ (sym own ∙ e) refl
 
-    pub name-outer : {R : Step} → b ≡ false → R ≡ outerT (findIn (between (m .own) (m .used) table) (p .b) (p .x)) p row m table marked → R ≡ nameT p row m table marked
-    unfolding nameT
+    pub name-outer : {R : Step} → b ≡ false → R ≡ markOuterT (findIn (between (m .own) (m .used) table) (p .b) (p .x)) p row m table marked → R ≡ markNameT p row m table marked
+    unfolding markNameT
     name-outer e r = no! _ (sym own ∙ e) r
 
-  pub ref-paths : (f : ℕ) → 0 < p .y → f ≡ (m .fresh + p .y) % 4294967296 → (marking (m .own) (m .used) f & table & marked) ≡ refT p row m table marked
-  unfolding refT
+  pub ref-paths : (f : ℕ) → 0 < p .y → f ≡ (m .fresh + p .y) % 4294967296 → (marking (m .own) (m .used) f & table & marked) ≡ markRefT p row m table marked
+  unfolding markRefT
   ref-paths f h g = yes! _ (omega tests) (rw g)
 
-  pub ref-number : p .y ≤ 0 → p .e ≡ 0 → (m & table & marked) ≡ refT p row m table marked
-  unfolding refT
+  pub ref-number : p .y ≤ 0 → p .e ≡ 0 → (m & table & marked) ≡ markRefT p row m table marked
+  unfolding markRefT
   ref-number h g = no! _ (omega tests) (yes! _ (omega tests) refl)
 
-  pub ref-name : {R : Step} → p .y ≤ 0 → (p .e ≡ 0 → ⊥) → R ≡ nameT p row m table marked → R ≡ refT p row m table marked
-  unfolding refT
+  pub ref-name : {R : Step} → p .y ≤ 0 → (p .e ≡ 0 → ⊥) → R ≡ markNameT p row m table marked → R ≡ markRefT p row m table marked
+  unfolding markRefT
   ref-name h g e = no! _ (omega tests) (no! _ (omega tests) e)
 
   module _ (walked : Bool) where
-    pub row-ref : {R : Step} → walked ≡ true → p .code ≡ 3 → R ≡ refT p row m table marked → R ≡ rowT p row walked m table marked
-    unfolding rowT
+    pub row-ref : {R : Step} → walked ≡ true → p .code ≡ 3 → R ≡ markRefT p row m table marked → R ≡ markRowT p row walked m table marked
+    unfolding markRowT
     row-ref w h e = yes! _ w (yes! _ (omega tests) e)
 
-    pub row-other : walked ≡ true → (p .code ≡ 3 → ⊥) → (m & table & marked) ≡ rowT p row walked m table marked
-    unfolding rowT
+    pub row-other : walked ≡ true → (p .code ≡ 3 → ⊥) → (m & table & marked) ≡ markRowT p row walked m table marked
+    unfolding markRowT
     row-other w h = yes! _ w (no! _ (omega tests) refl)
 
-    pub row-passed : walked ≡ false → (m & table & marked) ≡ rowT p row walked m table marked
-    unfolding rowT
+    pub row-passed : walked ≡ false → (m & table & marked) ≡ markRowT p row walked m table marked
+    unfolding markRowT
     row-passed w = no! _ w refl
 
 pub ruleset mark-ways = (outer-served, outer-new, name-own, name-outer, ref-paths, ref-number, ref-name, row-ref, row-other, row-passed, own-covered, all-covered, needs)
@@ -167,12 +167,12 @@ module _ (rows ends : List ℕ) (at : Place) (m : Marking) (table : List Slot) (
     unfolding visitsT markAll pick
     mark-close e = (rw (← got, e) at (rw (down turns h) at inv))
 
-    pub mark-turn : (p .code ≡ 8 → ⊥) → (m′ : Marking) (t : List Slot) (l : List ℕ) (at′ : Place) → (m′ & t & l) ≡ rowT p (at .row) (at .walked) m table marked → at′ ≡ stepT ends (length rows / 16) p at → markAll (visitsT rows ends (turns - 1) at′) m′ t l ≡ T
+    pub mark-turn : (p .code ≡ 8 → ⊥) → (m′ : Marking) (t : List Slot) (l : List ℕ) (at′ : Place) → (m′ & t & l) ≡ markRowT p (at .row) (at .walked) m table marked → at′ ≡ visitStepT ends (length rows / 16) p at → markAll (visitsT rows ends (turns - 1) at′) m′ t l ≡ T
     unfolding visitsT markAll markThen pick
     mark-turn e m′ t l at′ w s = rw s (rw (← got, ne-eqb _ _ e, ← w) at (rw (down turns h) at inv))
 
-pub scope-way : (rows ends : List ℕ) (first fresh : ℕ) (table : List Slot) (marked : List ℕ) (own : ℕ) (t : List Slot) (m : Marking) (t′ : List Slot) (l : List ℕ) → (own & t) ≡ enterAll (visitsT rows ends (length rows / 16) (placeAt first)) table 0 → (m & t′ & l) ≡ markAll (visitsT rows ends (length rows / 16) (placeAt first)) (marking own own fresh) t marked → (m .fresh & t′ & l) ≡ scopeT rows ends first fresh table marked
-unfolding scopeT enterThen nextOf
+pub scope-way : (rows ends : List ℕ) (first fresh : ℕ) (table : List Slot) (marked : List ℕ) (own : ℕ) (t : List Slot) (m : Marking) (t′ : List Slot) (l : List ℕ) → (own & t) ≡ enterAll (visitsT rows ends (length rows / 16) (placeAt first)) table 0 → (m & t′ & l) ≡ markAll (visitsT rows ends (length rows / 16) (placeAt first)) (marking own own fresh) t marked → (m .fresh & t′ & l) ≡ markScopeT rows ends first fresh table marked
+unfolding markScopeT enterThen nextOf
 scope-way rows ends first fresh table marked own t m t′ l e f = rw (← e, ← f)
 
 -- nothing refers to an alias yet
@@ -184,12 +184,12 @@ pub ruleset scope-ways = (mark-end, mark-close, mark-turn, scope-way, serves-fir
 -- ---- mark_at, mark_scopes
 
 module _ (rows ends : List ℕ) (i fresh : ℕ) (table : List Slot) (marked : List ℕ) (p : Parts) (got : p ≡ partsAt rows i) where
-  pub open-scope : {R : Steps} → p .code ≡ 7 → R ≡ scopeT rows ends (i + 1) fresh table marked → R ≡ openT rows ends i fresh table marked
-  unfolding openT
+  pub open-scope : {R : Steps} → p .code ≡ 7 → R ≡ markScopeT rows ends (i + 1) fresh table marked → R ≡ markOpenT rows ends i fresh table marked
+  unfolding markOpenT
   open-scope h e = yes! _ (rw (← got) (omega tests)) e
 
-  pub open-other : (p .code ≡ 7 → ⊥) → (fresh & table & marked) ≡ openT rows ends i fresh table marked
-  unfolding openT
+  pub open-other : (p .code ≡ 7 → ⊥) → (fresh & table & marked) ≡ markOpenT rows ends i fresh table marked
+  unfolding markOpenT
   open-other h = no! _ (rw (← got) (omega tests)) refl
 
 module _ (rows ends : List ℕ) (i n fresh : ℕ) (table : List Slot) (marked : List ℕ) (T : Out (List Slot) (List ℕ)) (inv : scopesT rows ends i (n - i) fresh table marked ≡ T) where
@@ -197,7 +197,7 @@ module _ (rows ends : List ℕ) (i n fresh : ℕ) (table : List Slot) (marked : 
   unfolding scopesT
   scopes-end h = let e : n - i ≡ 0 = omega arith in rw e at inv
 
-  pub scopes-turn : i < n → (f : ℕ) (t : List Slot) (l : List ℕ) → (f & t & l) ≡ openT rows ends i fresh table marked → scopesT rows ends (i + 1) (n - (i + 1)) f t l ≡ T
+  pub scopes-turn : i < n → (f : ℕ) (t : List Slot) (l : List ℕ) → (f & t & l) ≡ markOpenT rows ends i fresh table marked → scopesT rows ends (i + 1) (n - (i + 1)) f t l ≡ T
   unfolding scopesT scopesThen
   scopes-turn h f t l w = (rw (← w) at (rw (left-suc i n h) at inv))
 
@@ -226,8 +226,8 @@ copies-start rows marked n = let z : n - 0 ≡ n = omega arith in rw z
 
 pub ruleset copies-ways = (left-is, copies-end, copies-turn, copies-start, needs)
 
-pub marked-way : (rows ends : List ℕ) (table : List Slot) (marked l : List ℕ) {R : Out (List Slot) (List ℕ)} → l ≡ copiesT rows 0 (length rows / 16) marked → R ≡ scopesT rows ends 0 (length rows / 16) 2147483648 table l → R ≡ markedT rows ends table marked
-unfolding markedT
+pub marked-way : (rows ends : List ℕ) (table : List Slot) (marked l : List ℕ) {R : Out (List Slot) (List ℕ)} → l ≡ copiesT rows 0 (length rows / 16) marked → R ≡ scopesT rows ends 0 (length rows / 16) 2147483648 table l → R ≡ markRowsT rows ends table marked
+unfolding markRowsT
 marked-way rows ends table marked l e f = f ∙ rw e
 
 pub ruleset rows-ways = (marked-way, needs)

@@ -1,4 +1,4 @@
 -- The rows of one scope, as they are gone through.
 pub mod Visits
 -- What the contracts cite.
-pub mod Marked
+pub mod MarkedRows

@@ -30,8 +30,8 @@ ghost use Rattle.kit.specs.Out.{_&_};
 ghost use Rattle.put.specs.Put.{copyRow};
 ghost use Rattle.names.specs.Table.{between, findIn};
 ghost use Rattle.index.specs.Indexed.{Holds, Covers};
-ghost use Rattle.mark.specs.Visits.{behindT, stepT, placeAt, visitsT};
-ghost use Rattle.mark.specs.Marked.{Serves, leftBy, isFound, enterRowT, enterAll, serveT, insertT, outerT, nameT, refT, rowT, markAll, scopeT, openT, scopesT, copiesT, markedT};
+ghost use Rattle.mark.specs.Visits.{visitsBehindT, visitStepT, placeAt, visitsT};
+ghost use Rattle.mark.specs.MarkedRows.{Serves, leftBy, isFound, enterRowT, enterAll, serveT, insertMarkedT, markOuterT, markNameT, markRefT, markRowT, markAll, markScopeT, markOpenT, scopesT, copiesT, markRowsT};
 
 // ---- the rows of one scope
 
@@ -62,14 +62,14 @@ fn end_of(ends: &[u32], row: usize) -> usize
 
 // The row behind a row of `count`; past the last there is none.
 fn behind(row: usize, count: usize) -> usize
-    ensures { λ r. ⌜ r ≡ behindT count row ⌝ }
+    ensures { λ r. ⌜ r ≡ visitsBehindT count row ⌝ }
 {
     if row < count { row + 1 } else { row }
 }
 
 // On from the row at hand, whose parts these are: the scope that a field holds is passed over.
 fn step(p: Parts, at: Place, ends: &[u32], count: usize) -> Place
-    ensures { λ r. ⌜ r ≡ stepT (now (ends .entry)) count p at ⌝ }
+    ensures { λ r. ⌜ r ≡ visitStepT (now (ends .entry)) count p at ⌝ }
 {
     if p.code == FIELD {
         return Place {
@@ -160,7 +160,7 @@ fn is_own(table: &[Slot], index: &[u16], own: usize, space: u32, name: u32) -> b
 // The next insertion is the alias of a name that has none yet.
 fn insert(p: Parts, table: &mut [Slot], index: &mut [u16], m: Marking) -> Marking
     requires { ⌜ Serves m (now table) (now index) ⌝ }
-    ensures { λ r. ⌜ ((r & now (table .exit)) ≡ insertT p m (now (table .entry))) × Serves r (now (table .exit)) (now (index .exit)) ⌝ }
+    ensures { λ r. ⌜ ((r & now (table .exit)) ≡ insertMarkedT p m (now (table .entry))) × Serves r (now (table .exit)) (now (index .exit)) ⌝ }
 {
     let fresh = m.fresh;
     let used = push(table, index, m.used, [p.b as u32, p.x, fresh, 0, 0, 0]);
@@ -197,7 +197,7 @@ fn mark_outer(
     m: Marking,
 ) -> Marking
     requires { ⌜ Serves m (now table) (now index) ⌝ }
-    ensures { λ r. ⌜ ((r & now (table .exit) & now (marked .exit)) ≡ outerT (findIn (between (m .own) (m .used) (now (table .entry))) (p .b) (p .x)) p row m (now (table .entry)) (now (marked .entry))) × Serves r (now (table .exit)) (now (index .exit)) ⌝ }
+    ensures { λ r. ⌜ ((r & now (table .exit) & now (marked .exit)) ≡ markOuterT (findIn (between (m .own) (m .used) (now (table .entry))) (p .b) (p .x)) p row m (now (table .entry)) (now (marked .entry))) × Serves r (now (table .exit)) (now (index .exit)) ⌝ }
 {
     match find(table, index, m.own, m.used, p.b as u32, p.x) {
         Found::At(alias) => {
@@ -218,7 +218,7 @@ fn mark_name(
     m: Marking,
 ) -> Marking
     requires { ⌜ Serves m (now table) (now index) ⌝ }
-    ensures { λ r. ⌜ ((r & now (table .exit) & now (marked .exit)) ≡ nameT p row m (now (table .entry)) (now (marked .entry))) × Serves r (now (table .exit)) (now (index .exit)) ⌝ }
+    ensures { λ r. ⌜ ((r & now (table .exit) & now (marked .exit)) ≡ markNameT p row m (now (table .entry)) (now (marked .entry))) × Serves r (now (table .exit)) (now (index .exit)) ⌝ }
 {
     if is_own(table, index, m.own, p.b as u32, p.x) {
         return m;
@@ -236,7 +236,7 @@ fn mark_ref(
     m: Marking,
 ) -> Marking
     requires { ⌜ Serves m (now table) (now index) ⌝ }
-    ensures { λ r. ⌜ ((r & now (table .exit) & now (marked .exit)) ≡ refT p row m (now (table .entry)) (now (marked .entry))) × Serves r (now (table .exit)) (now (index .exit)) ⌝ }
+    ensures { λ r. ⌜ ((r & now (table .exit) & now (marked .exit)) ≡ markRefT p row m (now (table .entry)) (now (marked .entry))) × Serves r (now (table .exit)) (now (index .exit)) ⌝ }
 {
     if 0 < p.y {
         return Marking {
@@ -261,7 +261,7 @@ fn mark_row(
     m: Marking,
 ) -> Marking
     requires { ⌜ Serves m (now table) (now index) ⌝ }
-    ensures { λ r. ⌜ ((r & now (table .exit) & now (marked .exit)) ≡ rowT p (at .row) (at .walked) m (now (table .entry)) (now (marked .entry))) × Serves r (now (table .exit)) (now (index .exit)) ⌝ }
+    ensures { λ r. ⌜ ((r & now (table .exit) & now (marked .exit)) ≡ markRowT p (at .row) (at .walked) m (now (table .entry)) (now (marked .entry))) × Serves r (now (table .exit)) (now (index .exit)) ⌝ }
 {
     if at.walked {
         if p.code == REF {
@@ -315,7 +315,7 @@ fn mark_scope(
     fresh: u32,
 ) -> u32
     requires { ⌜ Holds (now table) (now index) 0 ⌝ }
-    ensures { λ r. ⌜ ((r & now (table .exit) & now (marked .exit)) ≡ scopeT (now (rows .entry)) (now (ends .entry)) first fresh (now (table .entry)) (now (marked .entry))) × Holds (now (table .exit)) (now (index .exit)) 0 ⌝ }
+    ensures { λ r. ⌜ ((r & now (table .exit) & now (marked .exit)) ≡ markScopeT (now (rows .entry)) (now (ends .entry)) first fresh (now (table .entry)) (now (marked .entry))) × Holds (now (table .exit)) (now (index .exit)) 0 ⌝ }
 {
     let own = enter_scope(rows, ends, first, table, index);
     let start = Marking {
@@ -341,7 +341,7 @@ fn mark_at(
     fresh: u32,
 ) -> u32
     requires { ⌜ Holds (now table) (now index) 0 × (i ≤ length (now rows) / 16) ⌝ }
-    ensures { λ r. ⌜ ((r & now (table .exit) & now (marked .exit)) ≡ openT (now (rows .entry)) (now (ends .entry)) i fresh (now (table .entry)) (now (marked .entry))) × Holds (now (table .exit)) (now (index .exit)) 0 ⌝ }
+    ensures { λ r. ⌜ ((r & now (table .exit) & now (marked .exit)) ≡ markOpenT (now (rows .entry)) (now (ends .entry)) i fresh (now (table .entry)) (now (marked .entry))) × Holds (now (table .exit)) (now (index .exit)) 0 ⌝ }
 {
     if parts_at(rows, i).code == OPEN {
         return mark_scope(rows, ends, i + 1, marked, table, index, fresh);
@@ -392,7 +392,7 @@ pub fn mark_rows(
     index: &mut [u16],
 )
     requires { ⌜ Holds (now table) (now index) 0 ⌝ }
-    ensures { λ _. ⌜ ((now (table .exit) & now (marked .exit)) ≡ markedT (now (rows .entry)) (now (ends .entry)) (now (table .entry)) (now (marked .entry))) × Holds (now (table .exit)) (now (index .exit)) 0 ⌝ }
+    ensures { λ _. ⌜ ((now (table .exit) & now (marked .exit)) ≡ markRowsT (now (rows .entry)) (now (ends .entry)) (now (table .entry)) (now (marked .entry))) × Holds (now (table .exit)) (now (index .exit)) 0 ⌝ }
 {
     copy_rows(rows, marked);
     mark_scopes(rows, ends, marked, table, index);

@@ -27,14 +27,14 @@ use Rattle.sharing.specs.Sharing.{Served, servedBy, Marked, markHead, insertion
 use Rattle.rows.proofs.Runs.{rows-count, encode-again}
 use Rattle.put.specs.Put.{copyRow}
 use Rattle.names.specs.Table.{Slot, between, findIn}
-use Rattle.parts.specs.Apart.{partsAt}
+use Rattle.parts.specs.PartsAt.{partsAt}
 use Rattle.matched.specs.Counted.{rawOf}
 use Rattle.matched.proofs.Ends.{At, at-first, at-second}
 use Rattle.diff.proofs.Lists.{at-rows}
 use Rattle.form.specs.Ends.{Ends, Inside, EndsIn}
 use Rattle.sharing.specs.Laws.Marks.{like-rows, scope-like}
 use Rattle.mark.specs.Visits.{placeAt, Visit, visitsT}
-use Rattle.mark.specs.Marked.{enterThen, enterAll, marking, markAll, Steps, nextOf, scopeT, openT, scopesThen, scopesT, leftBy, copiesT, markedT}
+use Rattle.mark.specs.MarkedRows.{enterThen, enterAll, marking, markAll, Steps, nextOf, markScopeT, markOpenT, scopesThen, scopesT, leftBy, copiesT, markRowsT}
 use Rattle.mark_laws.specs.Visited.{partsOf, parts-there, ownRows, isInner, Inner, inner-own, fieldRow, fieldsVisits, fields-visits}
 use Rattle.mark_laws.specs.Entered.{Entered, enter-scope}
 use Rattle.mark_laws.specs.Referred.{State, Goes, aliasOf, withHead, markOwn, lastSeen, allRefs, item-size, fields-go}
@@ -85,8 +85,8 @@ module _ (rows ends : List ℕ) where
         }
 
     own-marked : At rows (length pre) (flatten (scope kind name fs)) → Ends fs ends (length pre + 1) → length pre + length (flatten (scope kind name fs)) ≤ length rows / 16 → own fs ≤ length table → k + own fs < 2147483648
-        → Scope-marked (scopeT rows ends (length pre + 1) (fresh k) table (rowsBytes (pre ++ (flatten (scope kind name fs) ++ post)))) (length table) (insertions ds [] k fs) (pre ++ (flatten (scope kind name (markOwn ds [] k fs)) ++ post))
-    unfolding scopeT enterThen nextOf flatten
+        → Scope-marked (markScopeT rows ends (length pre + 1) (fresh k) table (rowsBytes (pre ++ (flatten (scope kind name fs) ++ post)))) (length table) (insertions ds [] k fs) (pre ++ (flatten (scope kind name (markOwn ds [] k fs)) ++ post))
+    unfolding markScopeT enterThen nextOf flatten
     own-marked a en b r h =
         let f = few-slots fs in
         let l = length-append (fieldsRows fs) (Close ∷ []) in
@@ -118,8 +118,8 @@ module _ (rows ends : List ℕ) where
   abbrev NoOpens : List Row → Type 0
   NoOpens rs = All (λ (r : Row). isOpen r ≡ false) rs
 
-  passed : (r : Row) (i f : ℕ) (t : List Slot) (l : List ℕ) → rawOf (partsAt rows i) ≡ encode r → isOpen r ≡ false → openT rows ends i f t l ≡ (f & t & l)
-  unfolding openT partsOf encode pick
+  passed : (r : Row) (i f : ℕ) (t : List Slot) (l : List ℕ) → rawOf (partsAt rows i) ≡ encode r → isOpen r ≡ false → markOpenT rows ends i f t l ≡ (f & t & l)
+  unfolding markOpenT partsOf encode pick
   passed (Field code builtin z) i f t l a e = rw (parts-there rows i (Field code builtin z) a)
   passed (Decl space name z) i f t l a e = rw (parts-there rows i (Decl space name z) a)
   passed (Ref space at paths z) i f t l a e = rw (parts-there rows i (Ref space at paths z) a)
@@ -171,8 +171,8 @@ module _ (rows ends : List ℕ) where
   skip-then rs p left k table L p₂ left₂ k₂ L₂ a n b = record { table′ = b .table′; answer = skip rs p left (fresh k) table (rowsBytes L) a n ∙ b .answer; size = b .size }
 
   -- an OPEN
-  open-turn : (kind name i left f : ℕ) (t : List Slot) (l : List ℕ) (f′ : ℕ) (t′ : List Slot) (l′ : List ℕ) → rawOf (partsAt rows i) ≡ encode (Open kind name) → scopeT rows ends (i + 1) f t l ≡ (f′ & t′ & l′) → scopesT rows ends i (suc left) f t l ≡ scopesT rows ends (i + 1) left f′ t′ l′
-  unfolding scopesT scopesThen openT partsOf encode pick
+  open-turn : (kind name i left f : ℕ) (t : List Slot) (l : List ℕ) (f′ : ℕ) (t′ : List Slot) (l′ : List ℕ) → rawOf (partsAt rows i) ≡ encode (Open kind name) → markScopeT rows ends (i + 1) f t l ≡ (f′ & t′ & l′) → scopesT rows ends i (suc left) f t l ≡ scopesT rows ends (i + 1) left f′ t′ l′
+  unfolding scopesT scopesThen markOpenT partsOf encode pick
   open-turn kind name i left f t l f′ t′ l′ a e = rw (parts-there rows i (Open kind name) a, e)
 
   opened : (kind name : ℕ) (fs : Fields) (p : ℕ) → At rows p (flatten (scope kind name fs)) → rawOf (partsAt rows p) ≡ encode (Open kind name)
@@ -439,8 +439,8 @@ root-ends (scope kind name fs) ends en = en
 -- THE MARKED ROWS OF A TREE are those of the rules' marked tree: where the bytes are its rows, the ends of its fields are noted, there is room
 -- for as many rows and as many slots, and names are left for as many insertions.
 pub mark-agrees : (rows ends marked : List ℕ) (table : List Slot) (t : Scope) → Bytes rows → map some (flatten t) ≡ rowsOf topName (length rows / 16) rows → length rows ≡ 16 * (length rows / 16) → Ends (fieldsOf t) ends 1
-    → length marked ≡ length rows → length (flatten t) ≤ length table → length (flatten t) < 2147483648 → AllMarked (markedT rows ends table marked) (length table) (flatten (mark t))
-unfolding markedT mark fresh
+    → length marked ≡ length rows → length (flatten t) ≤ length table → length (flatten t) < 2147483648 → AllMarked (markRowsT rows ends table marked) (length table) (flatten (mark t))
+unfolding markRowsT mark fresh
 mark-agrees rows ends marked table t bs e whole en l r k =
     let n : length (flatten t) ≡ length rows / 16 = sym (length-map (flatten t) some) ∙ ap length e ∙ rows-count topName (length rows / 16) rows in
     let c : copiesT rows 0 (length rows / 16) marked ≡ rows = copied rows (length rows / 16) 0 marked (omega arith) (omega arith) (omega arith) in

@@ -20,7 +20,7 @@ use Rattle.names.specs.declared.Found.{Found}
 use Rattle.names.specs.declared.Found.the-variants.{At as FoundAt, Nothing}
 use Rattle.names.proofs.Storey.{pushed-room, between-push}
 use Rattle.mark.specs.Visits.{Visit}
-use Rattle.mark.specs.Marked.{slotOf, enterRowT, enterThen, enterAll, isFound}
+use Rattle.mark.specs.MarkedRows.{slotOf, enterRowT, enterThen, enterAll, isFound}
 use Rattle.mark_laws.specs.Visited.{partsOf, visit, visitRows, visit-append, ownRows, walks, openRows, fieldRow, fieldsVisits}
 
 -- ---- rows one behind another

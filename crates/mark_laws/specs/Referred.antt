@@ -31,10 +31,10 @@ use Rattle.rows.specs.declared.row.Index.the-variants as code-index
 use Rattle.rows.specs.declared.row.Row.the-variants as code
 use Rattle.put.specs.Put.{putRow, rowBytes, bytesOf, ruleRow, ruleIndex}
 use Rattle.parts.specs.declared.Parts.{Parts}
-use Rattle.parts.specs.Apart.{parts}
+use Rattle.parts.specs.PartsAt.{parts}
 use Rattle.mark.specs.declared.Marking.{Marking}
 use Rattle.mark.specs.Visits.{Visit}
-use Rattle.mark.specs.Marked.{leftBy, slotOf, isFound, Step, marking, insertWith, insertT, serveT, beside, outerT, nameT, refT, rowT, markThen, markAll}
+use Rattle.mark.specs.MarkedRows.{leftBy, slotOf, isFound, Step, marking, insertWith, insertMarkedT, serveT, beside, markOuterT, markNameT, markRefT, markRowT, markThen, markAll}
 use Rattle.mark_laws.specs.Visited.{partsOf, visit, visitRows, visit-append, ownRows, walks, openRows, fieldRow, fieldsVisits}
 use Rattle.mark_laws.specs.Entered.{Known, found-snoc}
 
@@ -135,7 +135,7 @@ module _ (here : List Declaration) (own room : ℕ) where
   mark-append : (xs ys : List Visit) (m : Marking) (table : List Slot) (l : List ℕ) → markAll (xs ++ ys) m table l ≡ markThen (markAll xs m table l) (λ m′ t l′. markAll ys m′ t l′)
   unfolding markAll markThen
   mark-append [] ys m table l = refl
-  mark-append (x ∷ xs) ys m table l = go (rowT (x .parts) (x .row) (x .walked) m table l) (λ m′ t l′. mark-append xs ys m′ t l′)
+  mark-append (x ∷ xs) ys m table l = go (markRowT (x .parts) (x .row) (x .walked) m table l) (λ m′ t l′. mark-append xs ys m′ t l′)
     where
       go : (o : Step) → ((m′ : Marking) (t : List Slot) (l′ : List ℕ) → markAll (xs ++ ys) m′ t l′ ≡ markThen (markAll xs m′ t l′) (λ m″ t′ l″. markAll ys m″ t′ l″))
           → markThen o (λ m′ t l′. markAll (xs ++ ys) m′ t l′) ≡ markThen (markThen o (λ m′ t l′. markAll xs m′ t l′)) (λ m′ t l′. markAll ys m′ t l′)
@@ -184,8 +184,8 @@ module _ (here : List Declaration) (own room : ℕ) where
   NoRefs rs = All (λ (r : Row). isRef r ≡ false) rs
 
   -- a row that is no REF, whether names are walked or not
-  passed : (r : Row) (p : ℕ) (w : Bool) (m : Marking) (table : List Slot) (l : List ℕ) → isRef r ≡ false → rowT (partsOf (encode r)) p w m table l ≡ (m & table & l)
-  unfolding rowT partsOf encode pick
+  passed : (r : Row) (p : ℕ) (w : Bool) (m : Marking) (table : List Slot) (l : List ℕ) → isRef r ≡ false → markRowT (partsOf (encode r)) p w m table l ≡ (m & table & l)
+  unfolding markRowT partsOf encode pick
   passed r p false m table l e = refl
   passed (Field code builtin z) p true m table l e = refl
   passed (Decl space name z) p true m table l e = refl
@@ -204,7 +204,7 @@ module _ (here : List Declaration) (own room : ℕ) where
 
   -- rows of a field whose names are not walked
   mark-unwalked : (rs : List Row) (p : ℕ) (m : Marking) (table : List Slot) (l : List ℕ) → markAll (visitRows p false rs) m table l ≡ (m & table & l)
-  unfolding visitRows visit markAll markThen rowT pick
+  unfolding visitRows visit markAll markThen markRowT pick
   mark-unwalked [] p m table l = refl
   mark-unwalked (r ∷ rs) p m table l = mark-unwalked rs (p + 1) m table l
 
@@ -231,16 +231,16 @@ module _ (here : List Declaration) (own room : ℕ) where
   -- ---- one reference
 
   -- a row alone
-  one-row : (r : Row) (p : ℕ) (m m′ : Marking) (table t : List Slot) (l l′ : List ℕ) → rowT (partsOf (encode r)) p true m table l ≡ (m′ & t & l′) → markAll (visitRows p true (r ∷ [])) m table l ≡ (m′ & t & l′)
+  one-row : (r : Row) (p : ℕ) (m m′ : Marking) (table t : List Slot) (l l′ : List ℕ) → markRowT (partsOf (encode r)) p true m table l ≡ (m′ & t & l′) → markAll (visitRows p true (r ∷ [])) m table l ≡ (m′ & t & l′)
   unfolding visitRows visit markAll markThen
   one-row r p m m′ table t l l′ e = rw e
 
-  number-row : (space n z p : ℕ) (m : Marking) (table : List Slot) (l : List ℕ) → rowT (partsOf (encode (Ref space (Num n) 0 z))) p true m table l ≡ (m & table & l)
-  unfolding rowT refT partsOf encode flag number pick
+  number-row : (space n z p : ℕ) (m : Marking) (table : List Slot) (l : List ℕ) → markRowT (partsOf (encode (Ref space (Num n) 0 z))) p true m table l ≡ (m & table & l)
+  unfolding markRowT markRefT partsOf encode flag number pick
   number-row space n z p m table l = refl
 
-  name-row : (space name z p : ℕ) (m : Marking) (table : List Slot) (l : List ℕ) → rowT (partsOf (encode (Ref space (Id name) 0 z))) p true m table l ≡ nameT (parts 3 space 1 name 0 z) p m table l
-  unfolding rowT refT partsOf encode flag number pick
+  name-row : (space name z p : ℕ) (m : Marking) (table : List Slot) (l : List ℕ) → markRowT (partsOf (encode (Ref space (Id name) 0 z))) p true m table l ≡ markNameT (parts 3 space 1 name 0 z) p m table l
+  unfolding markRowT markRefT partsOf encode flag number pick
   name-row space name z p m table l = refl
 
   -- the next insertion, where no number wraps
@@ -248,8 +248,8 @@ module _ (here : List Declaration) (own room : ℕ) where
   unfolding fresh
   fresh-on k n h = omega arith
 
-  path-row : (space : ℕ) (at : Index) (n z p : ℕ) (m : Marking) (table : List Slot) (l : List ℕ) → rowT (partsOf (encode (Ref space at (suc n) z))) p true m table l ≡ (marking (m .own) (m .used) ((m .fresh + suc n) % 4294967296) & table & l)
-  unfolding rowT refT partsOf encode pick
+  path-row : (space : ℕ) (at : Index) (n z p : ℕ) (m : Marking) (table : List Slot) (l : List ℕ) → markRowT (partsOf (encode (Ref space at (suc n) z))) p true m table l ≡ (marking (m .own) (m .used) ((m .fresh + suc n) % 4294967296) & table & l)
+  unfolding markRowT markRefT partsOf encode pick
   path-row space at n z p m table l = let q : 0 < suc n = omega arith in rw (lt-ltb _ _ q)
 
   -- ---- a walked name
@@ -293,17 +293,17 @@ module _ (here : List Declaration) (own room : ℕ) where
     abbrev i : ℕ
     i = length pre
 
-    declared-here : isJust (find here space name) ≡ true → nameT p i m table (rowsBytes L) ≡ (m & table & rowsBytes L)
-    unfolding nameT pick
+    declared-here : isJust (find here space name) ≡ true → markNameT p i m table (rowsBytes L) ≡ (m & table & rowsBytes L)
+    unfolding markNameT pick
     declared-here e = rw (s .known space name, e)
 
     module _ (e : isJust (find here space name) ≡ false) where
-      has-alias : (j : ℕ) → servedBy seen space name ≡ some j → nameT p i m table (rowsBytes L) ≡ (m & table & rowsBytes (pre ++ (Ref space (Id (fresh j)) 0 z ∷ post)))
-      unfolding nameT outerT aliasOf pick
+      has-alias : (j : ℕ) → servedBy seen space name ≡ some j → markNameT p i m table (rowsBytes L) ≡ (m & table & rowsBytes (pre ++ (Ref space (Id (fresh j)) 0 z ∷ post)))
+      unfolding markNameT markOuterT aliasOf pick
       has-alias j f = rw (s .known space name, e, s .served space name, f, serve-is p pre post row i (fresh j) refl)
 
-      gets-alias : servedBy seen space name ≡ none → used < room → k + 1 < 2147483648 → nameT p i m table (rowsBytes L) ≡ (marking own (used + 1) (fresh (k + 1)) & set table used (slotOf p (fresh k)) & rowsBytes L)
-      unfolding nameT outerT aliasOf beside insertT insertWith pick
+      gets-alias : servedBy seen space name ≡ none → used < room → k + 1 < 2147483648 → markNameT p i m table (rowsBytes L) ≡ (marking own (used + 1) (fresh (k + 1)) & set table used (slotOf p (fresh k)) & rowsBytes L)
+      unfolding markNameT markOuterT aliasOf beside insertMarkedT insertWith pick
       gets-alias f h g =
           let r : used < length table = omega (arith, s .size) in
           rw (s .known space name, e, s .served space name, f, pushed-room table used (slotOf p (fresh k)) r, fresh-on k 1 g)

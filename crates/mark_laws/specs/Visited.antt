@@ -14,12 +14,12 @@ use Rattle.rules.specs.Tree.{Declaration, Operand, ref, outer, case, Head, Scop
 use Rattle.rules.specs.Shapes.{hereOnly}
 use Rattle.rules.specs.Laws.ToolLaws.{All, done, _&_, all-append, false-not}
 use Rattle.parts.specs.declared.Parts.{Parts}
-use Rattle.parts.specs.Apart.{parts, partsAt}
+use Rattle.parts.specs.PartsAt.{parts, partsAt}
 use Rattle.matched.specs.Counted.{rawOf}
 use Rattle.matched.proofs.Ends.{At, at-first, at-second}
 use Rattle.form.specs.Ends.{Ends}
 use Rattle.mark.specs.declared.Place.{Place}
-use Rattle.mark.specs.Visits.{place, behindT, stepT, Visit, visitsT}
+use Rattle.mark.specs.Visits.{place, visitsBehindT, visitStepT, Visit, visitsT}
 
 -- ---- the parts of a row
 
@@ -123,12 +123,12 @@ module _ (rows ends : List ℕ) where
   count = length rows / 16
 
   -- one row behind a row
-  next-row : (p : ℕ) → p < count → behindT count p ≡ p + 1
-  unfolding behindT pick
+  next-row : (p : ℕ) → p < count → visitsBehindT count p ≡ p + 1
+  unfolding visitsBehindT pick
   next-row p h = rw (lt-ltb _ _ h)
 
-  inner-step : (r : Row) (p e : ℕ) (w : Bool) → isInner r ≡ true → p < count → stepT ends count (partsOf (encode r)) (place p e w) ≡ place (p + 1) e w
-  unfolding stepT partsOf encode pick
+  inner-step : (r : Row) (p e : ℕ) (w : Bool) → isInner r ≡ true → p < count → visitStepT ends count (partsOf (encode r)) (place p e w) ≡ place (p + 1) e w
+  unfolding visitStepT partsOf encode pick
   inner-step (Field code builtin z) p e w i h = false-not i
   inner-step (Decl space name z) p e w i h = rw (next-row p h)
   inner-step (Ref space at paths z) p e w i h = rw (next-row p h)
@@ -153,7 +153,7 @@ module _ (rows ends : List ℕ) where
 
   -- a row that is no CLOSE
   one-row : (r : Row) (turns p e : ℕ) (w : Bool) → eqb (partsOf (encode r) .code) 8 ≡ false → partsAt rows p ≡ partsOf (encode r)
-      → visitsT rows ends (suc turns) (place p e w) ≡ visit p w r ∷ visitsT rows ends turns (stepT ends count (partsOf (encode r)) (place p e w))
+      → visitsT rows ends (suc turns) (place p e w) ≡ visit p w r ∷ visitsT rows ends turns (visitStepT ends count (partsOf (encode r)) (place p e w))
   unfolding visitsT visit pick
   one-row r turns p e w c a = rw (a, c)
 
@@ -169,12 +169,12 @@ module _ (rows ends : List ℕ) where
 
   -- the OPEN of an inner scope, and on behind it
   pass-open : (kind name turns p e : ℕ) (w : Bool) → rawOf (partsAt rows p) ≡ encode (Open kind name) → visitsT rows ends (suc turns) (place p e w) ≡ visit p w (Open kind name) ∷ visitsT rows ends turns (place e e w)
-  unfolding stepT partsOf encode pick
+  unfolding visitStepT partsOf encode pick
   pass-open kind name turns p e w a = one-row (Open kind name) turns p e w refl (parts-there rows p (Open kind name) a)
 
   pass-field : (h : Head) (turns p e : ℕ) (w : Bool) → rawOf (partsAt rows p) ≡ encode (fieldRow h) → p < count
       → visitsT rows ends (suc turns) (place p e w) ≡ visit p w (fieldRow h) ∷ visitsT rows ends turns (place (p + 1) (getD ends p 0) (walks h))
-  unfolding stepT partsOf encode pick
+  unfolding visitStepT partsOf encode pick
   pass-field h turns p e w a b = one-row (fieldRow h) turns p e w refl (parts-there rows p (fieldRow h) a) ∙ rw (next-row p b)
 
   -- at the CLOSE of the scope there is no more

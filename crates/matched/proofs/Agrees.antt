@@ -17,12 +17,12 @@ use Rattle.rules.specs.Answer.{sameNumbers}
 use Rattle.rules.specs.Laws.ToolLaws.{false-not}
 use Rattle.comparing.specs.Compare.{Choice, blur, sixParts, rowsParts, same}
 use Rattle.comparing.specs.Laws.SameRows.{same-equal}
-use Rattle.comparing.specs.Laws.Apart.{itemsRows}
+use Rattle.comparing.specs.Laws.FieldsFromRows.{itemsRows}
 use Rattle.comparing.specs.Laws.Backward.{alikes, common, fitting, backRows, backward}
-use Rattle.parts.specs.Apart.{partsAt}
+use Rattle.parts.specs.PartsAt.{partsAt}
 use Rattle.matched.specs.declared.fields.Rest.{Rest}
 use Rattle.matched.specs.Counted.{rawOf, sameT}
-use Rattle.matched.specs.Alike.{endBehind, runT, fieldT, nextT, frontT, moreT, backT, tailT, restFrom, frontOf, endOf, middleT}
+use Rattle.matched.specs.Alike.{endBehind, sameRunT, sameFieldT, nextT, frontT, moreT, backT, tailT, restFrom, frontOf, endOf, middleT}
 use Rattle.matched.proofs.Rows.{same-row}
 use Rattle.matched.proofs.Ends.{At, Stands, item-at, stands-next, item-long, item-end}
 
@@ -66,13 +66,13 @@ module _ (c : Choice) where
   pick-and true t = refl
   pick-and false t = refl
 
-  run-same : (l r : List ℕ) (xs ys : List Row) (i : ℕ) → At l i xs → At r i ys → length xs ≡ length ys → runT c l r i (length xs) ≡ same c xs ys
-  unfolding runT
+  run-same : (l r : List ℕ) (xs ys : List Row) (i : ℕ) → At l i xs → At r i ys → length xs ≡ length ys → sameRunT c l r i (length xs) ≡ same c xs ys
+  unfolding sameRunT
   run-same l r [] [] i a b e = sym same-none
   run-same l r [] (y ∷ ys) i a b e = absurd (omega arith)
   run-same l r (x ∷ xs) [] i a b e = absurd (omega arith)
   run-same l r (x ∷ xs) (y ∷ ys) i a b e =
-      pick-and (sameT c (partsAt l i) (partsAt r i)) (runT c l r (i + 1) (length xs))
+      pick-and (sameT c (partsAt l i) (partsAt r i)) (sameRunT c l r (i + 1) (length xs))
       ∙ ap₂ (λ (s t : Bool). s && t) (same-row c (partsAt l i) (partsAt r i) x y (a .0) (b .0)) (run-same l r xs ys (i + 1) (a .1) (b .1) (omega arith))
       ∙ sym (same-cons x y xs ys)
 
@@ -122,16 +122,16 @@ module _ (c : Choice) where
   -- ---- from the front
 
   module _ (l r : List ℕ) where
-    field-same : (i : ℕ) (x y : Item) (ls rs : List Item) → Stands l i (x ∷ ls) → Stands r i (y ∷ rs) → fieldT c l r i ≡ same c (itemRows x) (itemRows y)
-    unfolding fieldT pick
+    field-same : (i : ℕ) (x y : Item) (ls rs : List Item) → Stands l i (x ∷ ls) → Stands r i (y ∷ rs) → sameFieldT c l r i ≡ same c (itemRows x) (itemRows y)
+    unfolding sameFieldT pick
     field-same i x y ls rs s t = rw (item-end l i x ls s, item-end r i y rs t) (go (eqb (i + length (itemRows y)) (i + length (itemRows x))) refl)
       where
-        go : (b : Bool) → eqb (i + length (itemRows y)) (i + length (itemRows x)) ≡ b → pick b (runT c l r i (i + length (itemRows x) - i)) false ≡ same c (itemRows x) (itemRows y)
+        go : (b : Bool) → eqb (i + length (itemRows y)) (i + length (itemRows x)) ≡ b → pick b (sameRunT c l r i (i + length (itemRows x) - i)) false ≡ same c (itemRows x) (itemRows y)
         go true e =
             let h = eqb-true (i + length (itemRows y)) (i + length (itemRows x)) e in
             let n : i + length (itemRows x) - i ≡ length (itemRows x) = omega arith in
             let p : length (itemRows x) ≡ length (itemRows y) = omega arith in
-            ap (runT c l r i) n ∙ run-same l r (itemRows x) (itemRows y) i (item-at l i x ls s) (item-at r i y rs t) p
+            ap (sameRunT c l r i) n ∙ run-same l r (itemRows x) (itemRows y) i (item-at l i x ls s) (item-at r i y rs t) p
         go false e =
             let h = eqb-false (i + length (itemRows y)) (i + length (itemRows x)) e in
             sym (never-same (itemRows x) (itemRows y) (λ q. h (omega arith)))

@@ -11,8 +11,8 @@ use borrow.Author.Tests.{eq-eqb, ne-eqb}
 use Rattle.kit.specs.Pick.{pick}
 use Rattle.rules.specs.Rows.{Raw, raw, Index, Num, Id, Row, Field, Decl, Ref, Path, Outer, Case, Open, Close, Export, encode, flag, number}
 use Rattle.rules.specs.Tree.{Declaration, Operand, ref, outer, case, Head, Scope, scope, Fields, end, _▸_, Item, plain, holds, declRows, pathRows, operandRow, operandRows, exportRows, headRows, flatten, fieldsRows, itemRows}
-use Rattle.comparing.specs.Laws.Apart.{itemsRows}
-use Rattle.parts.specs.Apart.{partsAt}
+use Rattle.comparing.specs.Laws.FieldsFromRows.{itemsRows}
+use Rattle.parts.specs.PartsAt.{partsAt}
 use Rattle.parts.specs.declared.Parts.{Parts}
 use Rattle.matched.specs.Counted.{rawOf}
 use Rattle.matched.specs.Alike.{codeOf, isBehind, depthBehind, endT, endBehind}

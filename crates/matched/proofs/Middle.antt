@@ -13,10 +13,10 @@ use Rattle.rules.specs.Tools.{if_then_else_}
 use Rattle.rules.specs.Rows.{Row, Close, encode}
 use Rattle.rules.specs.Tree.{Item, itemRows}
 use Rattle.comparing.specs.Compare.{Choice, same, rest, fieldPairs, entries}
-use Rattle.comparing.specs.Laws.Apart.{itemsRows}
+use Rattle.comparing.specs.Laws.FieldsFromRows.{itemsRows}
 use Rattle.comparing.specs.Laws.Backward.{alikes, common, fitting, backRows, backward}
 use Rattle.comparing.specs.Laws.Middle as rules
-use Rattle.parts.specs.Apart.{partsAt}
+use Rattle.parts.specs.PartsAt.{partsAt}
 use Rattle.matched.specs.declared.fields.Rest.{Rest}
 use Rattle.matched.specs.Counted.{rawOf, sameT}
 use Rattle.matched.specs.Alike.{endBehind, frontT, moreT, backT, tailT, restFrom, frontOf, endOf, middleT}

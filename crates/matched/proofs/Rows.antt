@@ -13,7 +13,7 @@ use Rattle.rules.specs.Rows.{Raw, raw, Row, encode}
 use Rattle.rules.specs.Answer.{sameNumbers}
 use Rattle.comparing.specs.Compare.{Choice, blurPlace, blurName, blur, sixParts, rowsParts, same}
 use Rattle.comparing.specs.Laws.Parts.{isNameX, isNameY, blurParts, blur-parts}
-use Rattle.parts.specs.Apart.{parts, partsAt}
+use Rattle.parts.specs.PartsAt.{parts, partsAt}
 use Rattle.parts.specs.declared.Parts.{Parts}
 use Rattle.matched.specs.Counted.{choiceOf, rawOf, numberT, countedT, allSame, sameT}
 

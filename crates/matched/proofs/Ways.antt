@@ -10,13 +10,13 @@ use borrow.Author.Needs.{needs}
 use borrow.Author.Tests.{leb-false, lt-ltb, le-ltb, le-leb, lt-leb, eq-eqb, ne-eqb}
 use Rattle.kit.specs.Pick.{pick}
 use Rattle.kit.proofs.Laws.{left-suc, down-suc}
-use Rattle.parts.specs.Apart.{partsAt}
+use Rattle.parts.specs.PartsAt.{partsAt}
 use Rattle.parts.specs.declared.Parts.{Parts}
 use Rattle.rules.specs.Laws.ToolLaws.{false-not}
 use Rattle.comparing.specs.Compare.{Choice}
 use Rattle.matched.specs.declared.fields.Rest.{Rest}
 use Rattle.matched.specs.Counted.{sameT}
-use Rattle.matched.specs.Alike.{codeOf, isBehind, depthBehind, endT, endBehind, fieldEnd, runT, fieldT, nextT, frontT, moreT, backT, tailT, restFrom, frontOf, endOf, middleT}
+use Rattle.matched.specs.Alike.{codeOf, isBehind, depthBehind, endT, endBehind, fieldEnd, sameRunT, sameFieldT, nextT, frontT, moreT, backT, tailT, restFrom, frontOf, endOf, middleT}
 
 -- ---- a test that is turned round
 
@@ -86,20 +86,20 @@ end-there l i r h e = rw (lt-leb _ _ h) e
 -- ---- same_run
 
 module _ (c : Choice) (l r : List ℕ) (to : ℕ) (T : Bool) where
-  pub run-other : (i : ℕ) (b : Bool) → runT c l r i (to - i) ≡ T → i < to → b ≡ sameT c (partsAt l i) (partsAt r i) → not b ≡ true → false ≡ T
-  unfolding runT pick
+  pub run-other : (i : ℕ) (b : Bool) → sameRunT c l r i (to - i) ≡ T → i < to → b ≡ sameT c (partsAt l i) (partsAt r i) → not b ≡ true → false ≡ T
+  unfolding sameRunT pick
   run-other i b inv h e f =
       let t : sameT c (partsAt l i) (partsAt r i) ≡ false = sym e ∙ is-false b f in
       rw (left-suc i to h, t) at inv
 
-  pub run-turn : (i : ℕ) (b : Bool) → runT c l r i (to - i) ≡ T → i < to → b ≡ sameT c (partsAt l i) (partsAt r i) → not b ≡ false → runT c l r (i + 1) (to - (i + 1)) ≡ T
-  unfolding runT pick
+  pub run-turn : (i : ℕ) (b : Bool) → sameRunT c l r i (to - i) ≡ T → i < to → b ≡ sameT c (partsAt l i) (partsAt r i) → not b ≡ false → sameRunT c l r (i + 1) (to - (i + 1)) ≡ T
+  unfolding sameRunT pick
   run-turn i b inv h e f =
       let t : sameT c (partsAt l i) (partsAt r i) ≡ true = sym e ∙ is-true b f in
       rw (left-suc i to h, t) at inv
 
-  pub run-done : (i : ℕ) → runT c l r i (to - i) ≡ T → to ≤ i → true ≡ T
-  unfolding runT
+  pub run-done : (i : ℕ) → sameRunT c l r i (to - i) ≡ T → to ≤ i → true ≡ T
+  unfolding sameRunT
   run-done i inv h = let e : to - i ≡ 0 = omega arith in rw e at inv
 
 pub ruleset runs = (run-other, run-turn, run-done, needs)
@@ -107,12 +107,12 @@ pub ruleset runs = (run-other, run-turn, run-done, needs)
 -- ---- same_field
 
 module _ (c : Choice) (l r : List ℕ) (i end e : ℕ) (q : end ≡ endBehind l i) (h : e ≡ endBehind r i) where
-  pub other-end : (e ≡ end → ⊥) → false ≡ fieldT c l r i
-  unfolding fieldT pick
+  pub other-end : (e ≡ end → ⊥) → false ≡ sameFieldT c l r i
+  unfolding sameFieldT pick
   other-end g = rw (← h, ← q, ne-eqb _ _ g)
 
-  pub same-end : (b : Bool) → e ≡ end → b ≡ runT c l r i (end - i) → b ≡ fieldT c l r i
-  unfolding fieldT pick
+  pub same-end : (b : Bool) → e ≡ end → b ≡ sameRunT c l r i (end - i) → b ≡ sameFieldT c l r i
+  unfolding sameFieldT pick
   same-end b g f = rw (← h, ← q, eq-eqb _ _ g) f
 
 -- ---- next
@@ -127,14 +127,14 @@ module _ (c : Choice) (l r : List ℕ) (i : ℕ) where
     unfolding nextT pick
     next-right g = rw (lt-leb _ _ h, le-leb _ _ g)
 
-    module _ (g : i + 1 < length r / 16) (b : Bool) (f : b ≡ fieldT c l r i) where
+    module _ (g : i + 1 < length r / 16) (b : Bool) (f : b ≡ sameFieldT c l r i) where
       pub next-same : (e : ℕ) → e ≡ endBehind l i → b ≡ true → e ≡ nextT c l r i
       unfolding nextT pick
-      next-same e q t = let u : fieldT c l r i ≡ true = sym f ∙ t in rw (lt-leb _ _ h, lt-leb _ _ g, u) q
+      next-same e q t = let u : sameFieldT c l r i ≡ true = sym f ∙ t in rw (lt-leb _ _ h, lt-leb _ _ g, u) q
 
       pub next-other : b ≡ false → i ≡ nextT c l r i
       unfolding nextT pick
-      next-other t = let u : fieldT c l r i ≡ false = sym f ∙ t in rw (lt-leb _ _ h, lt-leb _ _ g, u)
+      next-other t = let u : sameFieldT c l r i ≡ false = sym f ∙ t in rw (lt-leb _ _ h, lt-leb _ _ g, u)
 
 -- ---- front
 

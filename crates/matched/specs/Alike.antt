@@ -5,7 +5,7 @@ use Prim.Native.Nat.{ℕ, zero, suc, _+_, _-_, _/_}
 use lib.Dec.{eqb, leb, ltb}
 use lib.ListN.{length}
 use Rattle.kit.specs.Pick.{pick}
-use Rattle.parts.specs.Apart.{partsAt}
+use Rattle.parts.specs.PartsAt.{partsAt}
 use Rattle.comparing.specs.Compare.{Choice}
 use Rattle.matched.specs.Counted.{sameT}
 use Rattle.matched.specs.declared.fields.Rest.{Rest}
@@ -40,18 +40,18 @@ fieldEnd l i = pick (leb (length l / 16) i) i (endBehind l i)
 -- ---- from the front
 
 -- are this many rows from i on the same?
-unfoldable pub runT : Choice → (l r : List ℕ) (i left : ℕ) → Bool
-runT c l r i zero = true
-runT c l r i (suc left) = pick (sameT c (partsAt l i) (partsAt r i)) (runT c l r (i + 1) left) false
+unfoldable pub sameRunT : Choice → (l r : List ℕ) (i left : ℕ) → Bool
+sameRunT c l r i zero = true
+sameRunT c l r i (suc left) = pick (sameT c (partsAt l i) (partsAt r i)) (sameRunT c l r (i + 1) left) false
 
 -- is the field that begins at i the same?
-unfoldable pub fieldT : Choice → (l r : List ℕ) (i : ℕ) → Bool
-fieldT c l r i = pick (eqb (endBehind r i) (endBehind l i)) (runT c l r i (endBehind l i - i)) false
+unfoldable pub sameFieldT : Choice → (l r : List ℕ) (i : ℕ) → Bool
+sameFieldT c l r i = pick (eqb (endBehind r i) (endBehind l i)) (sameRunT c l r i (endBehind l i - i)) false
 
 -- the row behind the field that begins at i, if both have one there and it is the same; else i
 unfoldable pub nextT : Choice → (l r : List ℕ) (i : ℕ) → ℕ
 nextT c l r i =
-    pick (leb (length l / 16) (i + 1)) i (pick (leb (length r / 16) (i + 1)) i (pick (fieldT c l r i) (endBehind l i) i))
+    pick (leb (length l / 16) (i + 1)) i (pick (leb (length r / 16) (i + 1)) i (pick (sameFieldT c l r i) (endBehind l i) i))
 
 -- field by field from row i on, this many at most
 unfoldable pub frontT : Choice → (l r : List ℕ) (i most : ℕ) → ℕ

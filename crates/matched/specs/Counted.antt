@@ -6,7 +6,7 @@ use Rattle.kit.specs.Pick.{pick}
 use Rattle.rules.specs.Rows.{Raw, raw}
 use Rattle.comparing.specs.Compare.{Choice, blurPlace, blurName}
 use Rattle.comparing.specs.Laws.Parts.{isNameX, isNameY}
-use Rattle.parts.specs.Apart.{parts}
+use Rattle.parts.specs.PartsAt.{parts}
 use Rattle.parts.specs.declared.Parts.{Parts}
 
 -- what a number ignores: bit 0 places, bit 1 fresh names; higher bits are passed over

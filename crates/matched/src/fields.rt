@@ -5,7 +5,7 @@ ghost use mathlib.Core.Path.{_≡_};
 ghost use Prim.Native.Nat.{_+_, _-_, _/_, _≤_, _<_};
 ghost use lib.ListN.{length};
 ghost use Rattle.matched.specs.Counted.{choiceOf};
-ghost use Rattle.matched.specs.Alike.{codeOf, isBehind, depthBehind, endT, endBehind, fieldEnd, runT, fieldT, nextT, frontT, moreT, backT, tailT, restFrom, middleT};
+ghost use Rattle.matched.specs.Alike.{codeOf, isBehind, depthBehind, endT, endBehind, fieldEnd, sameRunT, sameFieldT, nextT, frontT, moreT, backT, tailT, restFrom, middleT};
 
 // What is left of both roots: from this row on, up to that of the left and that of the right.
 pub struct Rest {
@@ -74,7 +74,7 @@ pub fn field_end(rows: &[u8], i: usize) -> usize
 
 // Whether the rows from here up to there are the same in both.
 fn same_run(left: &[u8], right: &[u8], from: usize, to: usize, choice: u32) -> bool
-    ensures { λ r. ⌜ r ≡ runT (choiceOf choice) (now (left .entry)) (now (right .entry)) from (to - from) ⌝ }
+    ensures { λ r. ⌜ r ≡ sameRunT (choiceOf choice) (now (left .entry)) (now (right .entry)) from (to - from) ⌝ }
 {
     let mut i = from;
     while i < to {
@@ -89,7 +89,7 @@ fn same_run(left: &[u8], right: &[u8], from: usize, to: usize, choice: u32) -> b
 // Whether the field that begins at i, and in the left ends there, is the same in the right.
 fn same_field(left: &[u8], right: &[u8], i: usize, end: usize, choice: u32) -> bool
     requires { ⌜ (i + 1 ≤ length (now right) / 16) × (end ≡ endBehind (now left) i) ⌝ }
-    ensures { λ r. ⌜ r ≡ fieldT (choiceOf choice) (now (left .entry)) (now (right .entry)) i ⌝ }
+    ensures { λ r. ⌜ r ≡ sameFieldT (choiceOf choice) (now (left .entry)) (now (right .entry)) i ⌝ }
 {
     if end_from(right, i + 1) != end {
         return false;

@@ -4,7 +4,7 @@ use parts::parts_at;
 ghost use mathlib.Core.Path.{_≡_};
 ghost use Rattle.comparing.specs.Compare.{blurPlace, blurName};
 ghost use Rattle.comparing.specs.Laws.Parts.{isNameX, isNameY};
-ghost use Rattle.parts.specs.Apart.{partsAt};
+ghost use Rattle.parts.specs.PartsAt.{partsAt};
 ghost use Rattle.matched.specs.Counted.{choiceOf, numberT, countedT, allSame, sameT};
 
 // The highest name of an input, and the one that all fresh names count as.

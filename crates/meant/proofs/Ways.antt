@@ -27,7 +27,7 @@ use Rattle.readings.specs.declared.Reading.{Reading}
 use Rattle.readings.specs.declared.Reading.the-variants.{Outward, LookedUp, Counting}
 use Rattle.meant.specs.declared.Declared.{Declared}
 use Rattle.meant.specs.declared.Declared.the-variants.{Member, Prelude, Nowhere as NotDeclared}
-use Rattle.meant.specs.Names.{inMember, rootFound, memberFound, inRoot, scopeMeant, orRoot, walkedT, byReading, refT, outerWantedT, isThere, hasScope, isRootT, behindT, inOuterT, indexT, nameT}
+use Rattle.meant.specs.Names.{inMember, rootFound, memberFound, inRoot, scopeMeant, orRoot, walkedMeantT, byReading, refMeantT, outerWantedT, isThere, hasScope, isRootT, meantBehindT, inOuterT, indexMeantT, nameMeantT}
 use Rattle.meant.specs.Part.{partOf, meantT, rowPart, chosen}
 
 -- ---- in_member, in_root, in_scope
@@ -63,25 +63,25 @@ pub ruleset found-ways = (member-at, member-nowhere, root-found, root-not, scope
 -- ---- walked, ref_meant
 
 module _ (prelude member : List ℕ) (r : ℕ) (m : Meaning) (got : m ≡ meaningOf member r) where
-  pub walked-at : (row number out name : ℕ) → m ≡ MeaningAt row number out name → Member row ≡ walkedT prelude member r
-  unfolding walkedT orRoot
+  pub walked-at : (row number out name : ℕ) → m ≡ MeaningAt row number out name → Member row ≡ walkedMeantT prelude member r
+  unfolding walkedMeantT orRoot
   walked-at row number out name e = rw (← got, e)
 
-  pub walked-root : (b x : ℕ) (d : Declared) → m ≡ Nowhere → b ≡ bAt member r → x ≡ xAt member r → d ≡ inRoot prelude b x → d ≡ walkedT prelude member r
-  unfolding walkedT orRoot
+  pub walked-root : (b x : ℕ) (d : Declared) → m ≡ Nowhere → b ≡ bAt member r → x ≡ xAt member r → d ≡ inRoot prelude b x → d ≡ walkedMeantT prelude member r
+  unfolding walkedMeantT orRoot
   walked-root b x d e f g h = h ∙ rw (← got, e, f, g)
 
 module _ (prelude member : List ℕ) (r : ℕ) (how : Reading) (got : how ≡ readingOf member r) where
-  pub ref-outward : (d : Declared) → how ≡ Outward → d ≡ walkedT prelude member r → d ≡ refT prelude member r
-  unfolding refT byReading
+  pub ref-outward : (d : Declared) → how ≡ Outward → d ≡ walkedMeantT prelude member r → d ≡ refMeantT prelude member r
+  unfolding refMeantT byReading
   ref-outward d e f = f ∙ rw (← got, e)
 
-  pub ref-looked : (d : Declared) (m : Meaning) → how ≡ LookedUp → m ≡ meaningOf member r → d ≡ inMember m → d ≡ refT prelude member r
-  unfolding refT byReading
+  pub ref-looked : (d : Declared) (m : Meaning) → how ≡ LookedUp → m ≡ meaningOf member r → d ≡ inMember m → d ≡ refMeantT prelude member r
+  unfolding refMeantT byReading
   ref-looked d m e f g = g ∙ rw (← got, e, f)
 
-  pub ref-number : how ≡ Counting → NotDeclared ≡ refT prelude member r
-  unfolding refT byReading
+  pub ref-number : how ≡ Counting → NotDeclared ≡ refMeantT prelude member r
+  unfolding refMeantT byReading
   ref-number e = rw (← got, e)
 
 pub ruleset ref-ways = (walked-at, walked-root, ref-outward, ref-looked, ref-number, needs)
@@ -125,12 +125,12 @@ module _ (prelude member : List ℕ) (r : ℕ) (wanted : Wanted) where
 
   -- ---- behind, index_meant
 
-  pub behind-root : (t : Bool) (b y : ℕ) (d : Declared) → t ≡ isRootT prelude member r wanted → t ≡ true → b ≡ bAt member r → y ≡ yAt member r → d ≡ inRoot prelude b y → d ≡ behindT prelude member r wanted
-  unfolding behindT
+  pub behind-root : (t : Bool) (b y : ℕ) (d : Declared) → t ≡ isRootT prelude member r wanted → t ≡ true → b ≡ bAt member r → y ≡ yAt member r → d ≡ inRoot prelude b y → d ≡ meantBehindT prelude member r wanted
+  unfolding meantBehindT
   behind-root t b y d got e f g h = yes! _ (sym got ∙ e) (h ∙ rw (f, g))
 
-  pub behind-not : (t : Bool) → t ≡ isRootT prelude member r wanted → t ≡ false → NotDeclared ≡ behindT prelude member r wanted
-  unfolding behindT
+  pub behind-not : (t : Bool) → t ≡ isRootT prelude member r wanted → t ≡ false → NotDeclared ≡ meantBehindT prelude member r wanted
+  unfolding meantBehindT
   behind-not t got e = no! _ (sym got ∙ e) refl
 
 pub ruleset root-ways = (wanted-named, wanted-out, scope-there, scope-nowhere, root-none, root-out, root-named, root-declaring, behind-root, behind-not, needs)
@@ -145,12 +145,12 @@ module _ (prelude member : List ℕ) (r e x : ℕ) (is-e : e ≡ eAt member r) (
   there : o ≡ scopeOutward member (scopeOf member r) W
   there = got ∙ rw (is-s, same)
 
-  pub index-scope : (scope out b y : ℕ) (d : Declared) → o ≡ OuterAt scope out → b ≡ bAt member r → y ≡ yAt member r → d ≡ scopeMeant member scope b y → d ≡ indexT prelude member r
-  unfolding indexT inOuterT
+  pub index-scope : (scope out b y : ℕ) (d : Declared) → o ≡ OuterAt scope out → b ≡ bAt member r → y ≡ yAt member r → d ≡ scopeMeant member scope b y → d ≡ indexMeantT prelude member r
+  unfolding indexMeantT inOuterT
   index-scope scope out b y d q f g h = h ∙ rw (← there, q, f, g)
 
-  pub index-behind : (d : Declared) → o ≡ NoScope → d ≡ behindT prelude member r wanted → d ≡ indexT prelude member r
-  unfolding indexT inOuterT
+  pub index-behind : (d : Declared) → o ≡ NoScope → d ≡ meantBehindT prelude member r wanted → d ≡ indexMeantT prelude member r
+  unfolding indexMeantT inOuterT
   index-behind d q h = h ∙ rw (← there, q, same)
 
 pub ruleset index-ways = (index-scope, index-behind, needs)
@@ -158,23 +158,23 @@ pub ruleset index-ways = (index-scope, index-behind, needs)
 -- ---- name_meant, meant_at
 
 module _ (prelude member : List ℕ) (r c : ℕ) (is-c : c ≡ codeAt member r) where
-  pub name-number : (e : ℕ) → c ≡ 5 → e ≡ eAt member r → e < 2 → NotDeclared ≡ nameT prelude member r
-  unfolding nameT
+  pub name-number : (e : ℕ) → c ≡ 5 → e ≡ eAt member r → e < 2 → NotDeclared ≡ nameMeantT prelude member r
+  unfolding nameMeantT
   name-number e h f g = yes! _ (rw (← is-c) (omega tests)) (yes! _ (rw (← f) (omega tests)) refl)
 
-  pub name-index : (e : ℕ) (d : Declared) → c ≡ 5 → e ≡ eAt member r → 2 ≤ e → d ≡ indexT prelude member r → d ≡ nameT prelude member r
-  unfolding nameT
+  pub name-index : (e : ℕ) (d : Declared) → c ≡ 5 → e ≡ eAt member r → 2 ≤ e → d ≡ indexMeantT prelude member r → d ≡ nameMeantT prelude member r
+  unfolding nameMeantT
   name-index e d h f g k = yes! _ (rw (← is-c) (omega tests)) (no! _ (rw (← f) (omega tests)) k)
 
-  pub name-ref : (d : Declared) → (c ≡ 5 → ⊥) → c ≡ 3 → d ≡ refT prelude member r → d ≡ nameT prelude member r
-  unfolding nameT
+  pub name-ref : (d : Declared) → (c ≡ 5 → ⊥) → c ≡ 3 → d ≡ refMeantT prelude member r → d ≡ nameMeantT prelude member r
+  unfolding nameMeantT
   name-ref d h g k = no! _ (rw (← is-c) (omega tests)) (yes! _ (rw (← is-c) (omega tests)) k)
 
-  pub name-none : (c ≡ 5 → ⊥) → (c ≡ 3 → ⊥) → NotDeclared ≡ nameT prelude member r
-  unfolding nameT
+  pub name-none : (c ≡ 5 → ⊥) → (c ≡ 3 → ⊥) → NotDeclared ≡ nameMeantT prelude member r
+  unfolding nameMeantT
   name-none h g = no! _ (rw (← is-c) (omega tests)) (no! _ (rw (← is-c) (omega tests)) refl)
 
-pub meant-in : (prelude member P M : List ℕ) (r : ℕ) (d : Declared) → P ≡ partOf prelude → M ≡ partOf member → d ≡ nameT P M r → d ≡ meantT prelude member r
+pub meant-in : (prelude member P M : List ℕ) (r : ℕ) (d : Declared) → P ≡ partOf prelude → M ≡ partOf member → d ≡ nameMeantT P M r → d ≡ meantT prelude member r
 unfolding meantT
 meant-in prelude member P M r d e f g = g ∙ rw (e, f)
 

@@ -52,17 +52,17 @@ orRoot (MeaningAt row number out name′) prelude space name = Member row
 orRoot Nowhere prelude space name = inRoot prelude space name
 
 -- a walked name: outward in the member, and then the prelude's root
-unfoldable pub walkedT : (prelude member : List ℕ) (row : ℕ) → Declared
-walkedT prelude member row = orRoot (meaningOf member row) prelude (bAt member row) (xAt member row)
+unfoldable pub walkedMeantT : (prelude member : List ℕ) (row : ℕ) → Declared
+walkedMeantT prelude member row = orRoot (meaningOf member row) prelude (bAt member row) (xAt member row)
 
 unfoldable pub byReading : Reading → (prelude member : List ℕ) (row : ℕ) → Declared
-byReading Outward prelude member row = walkedT prelude member row
+byReading Outward prelude member row = walkedMeantT prelude member row
 byReading LookedUp prelude member row = inMember (meaningOf member row)
 byReading Counting prelude member row = NotDeclared
 
 -- a REF: a name that is not walked means what its own scope declares, and a number means nothing here
-unfoldable pub refT : (prelude member : List ℕ) (row : ℕ) → Declared
-refT prelude member row = byReading (readingOf member row) prelude member row
+unfoldable pub refMeantT : (prelude member : List ℕ) (row : ℕ) → Declared
+refMeantT prelude member row = byReading (readingOf member row) prelude member row
 
 -- ---- a named index of OUTER
 
@@ -86,23 +86,23 @@ isRootT prelude member row (Named name) = eqb (xAt prelude 0) name
 isRootT prelude member row (Declaring space name) = false
 
 -- a named index where no scope of the member is the one asked for
-unfoldable pub behindT : (prelude member : List ℕ) (row : ℕ) → Wanted → Declared
-behindT prelude member row wanted = pick (isRootT prelude member row wanted) (inRoot prelude (bAt member row) (yAt member row)) NotDeclared
+unfoldable pub meantBehindT : (prelude member : List ℕ) (row : ℕ) → Wanted → Declared
+meantBehindT prelude member row wanted = pick (isRootT prelude member row wanted) (inRoot prelude (bAt member row) (yAt member row)) NotDeclared
 
 unfoldable pub inOuterT : Outer → (prelude member : List ℕ) (row : ℕ) → Wanted → Declared
 inOuterT (OuterAt scope out) prelude member row wanted = scopeMeant member scope (bAt member row) (yAt member row)
-inOuterT NoScope prelude member row wanted = behindT prelude member row wanted
+inOuterT NoScope prelude member row wanted = meantBehindT prelude member row wanted
 
 -- a named index: what the scope declares that is asked for
-unfoldable pub indexT : (prelude member : List ℕ) (row : ℕ) → Declared
-indexT prelude member row =
+unfoldable pub indexMeantT : (prelude member : List ℕ) (row : ℕ) → Declared
+indexMeantT prelude member row =
     let wanted = outerWantedT (eAt member row) (xAt member row) in
     inOuterT (scopeOutward member (scopeOf member row) wanted) prelude member row wanted
 
 -- ---- any row
 
 -- what the name in a row means; rows without one mean nothing, and so does an OUTER whose index is a number
-unfoldable pub nameT : (prelude member : List ℕ) (row : ℕ) → Declared
-nameT prelude member row =
-    pick (eqb (codeAt member row) 5) (pick (ltb (eAt member row) 2) NotDeclared (indexT prelude member row))
-    (pick (eqb (codeAt member row) 3) (refT prelude member row) NotDeclared)
+unfoldable pub nameMeantT : (prelude member : List ℕ) (row : ℕ) → Declared
+nameMeantT prelude member row =
+    pick (eqb (codeAt member row) 5) (pick (ltb (eAt member row) 2) NotDeclared (indexMeantT prelude member row))
+    (pick (eqb (codeAt member row) 3) (refMeantT prelude member row) NotDeclared)

@@ -6,7 +6,7 @@ use lib.ListN.{length, getD, take, drop}
 use Rattle.kit.specs.Pick.{pick}
 use Rattle.meant.specs.declared.Declared.{Declared}
 use Rattle.meant.specs.declared.Declared.the-variants.{Member, Prelude, Nowhere as NotDeclared}
-use Rattle.meant.specs.Names.{nameT}
+use Rattle.meant.specs.Names.{nameMeantT}
 
 -- a form from where its rows stand eight bytes behind: all of it, or from byte 8 on where it is of version 2
 unfoldable pub partOf : List ℕ → List ℕ
@@ -14,7 +14,7 @@ partOf form = pick (ltb (length form) 8) form (pick (eqb (getD form 3 0) 2) (dro
 
 -- which declaration the name in a row of the member means, and in which of the two forms it stands
 unfoldable pub meantT : (prelude member : List ℕ) (row : ℕ) → Declared
-meantT prelude member row = nameT (partOf prelude) (partOf member) row
+meantT prelude member row = nameMeantT (partOf prelude) (partOf member) row
 
 -- the sixteen bytes of a row, if it is there
 unfoldable pub rowPart : (form : List ℕ) (row : ℕ) → List ℕ

@@ -21,7 +21,7 @@ use scopes::find;
 use scopes::scope_of;
 use scopes::scope_outward;
 ghost use mathlib.Core.Path.{_≡_};
-ghost use Rattle.meant.specs.Names.{inMember, inRoot, walkedT, isThere, hasScope, isRootT, outerWantedT, scopeMeant, behindT, indexT, refT, nameT};
+ghost use Rattle.meant.specs.Names.{inMember, inRoot, walkedMeantT, isThere, hasScope, isRootT, outerWantedT, scopeMeant, meantBehindT, indexMeantT, refMeantT, nameMeantT};
 ghost use Rattle.meant.specs.Part.{partOf, rowPart, chosen, meantT};
 
 // A declaration: out of which of the two forms, and its DECL row there.
@@ -65,7 +65,7 @@ fn in_root(prelude: &[u8], space: u8, name: u32) -> Declared
 
 // A walked name: the member's scopes around it, and then the prelude's root.
 fn walked(prelude: &[u8], member: &[u8], row: u16) -> Declared
-    ensures { λ r. ⌜ r ≡ walkedT (now (prelude .entry)) (now (member .entry)) row ⌝ }
+    ensures { λ r. ⌜ r ≡ walkedMeantT (now (prelude .entry)) (now (member .entry)) row ⌝ }
 {
     match meaning_of(member, row) {
         Meaning::At {
@@ -80,7 +80,7 @@ fn walked(prelude: &[u8], member: &[u8], row: u16) -> Declared
 
 // A REF: a name that is not walked means what its own scope declares, and a number means nothing here.
 fn ref_meant(prelude: &[u8], member: &[u8], row: u16) -> Declared
-    ensures { λ r. ⌜ r ≡ refT (now (prelude .entry)) (now (member .entry)) row ⌝ }
+    ensures { λ r. ⌜ r ≡ refMeantT (now (prelude .entry)) (now (member .entry)) row ⌝ }
 {
     match reading_of(member, row) {
         Reading::Outward => walked(prelude, member, row),
@@ -140,7 +140,7 @@ fn in_scope(member: &[u8], scope: u16, space: u8, name: u32) -> Declared
 
 // A named index where no scope of the member is the one asked for.
 fn behind(prelude: &[u8], member: &[u8], row: u16, wanted: Wanted) -> Declared
-    ensures { λ r. ⌜ r ≡ behindT (now (prelude .entry)) (now (member .entry)) row wanted ⌝ }
+    ensures { λ r. ⌜ r ≡ meantBehindT (now (prelude .entry)) (now (member .entry)) row wanted ⌝ }
 {
     if is_root(prelude, member, row, wanted) {
         return in_root(prelude, b_at(member, row), y_at(member, row));
@@ -150,7 +150,7 @@ fn behind(prelude: &[u8], member: &[u8], row: u16, wanted: Wanted) -> Declared
 
 // A named index: what the scope declares that is asked for.
 fn index_meant(prelude: &[u8], member: &[u8], row: u16) -> Declared
-    ensures { λ r. ⌜ r ≡ indexT (now (prelude .entry)) (now (member .entry)) row ⌝ }
+    ensures { λ r. ⌜ r ≡ indexMeantT (now (prelude .entry)) (now (member .entry)) row ⌝ }
 {
     let wanted = outer_wanted(e_at(member, row), x_at(member, row));
     match scope_outward(member, scope_of(member, row), wanted) {
@@ -168,7 +168,7 @@ fn index_meant(prelude: &[u8], member: &[u8], row: u16) -> Declared
 
 // What the name in a row means; rows without one mean nothing, and so does an OUTER whose index is a number.
 fn name_meant(prelude: &[u8], member: &[u8], row: u16) -> Declared
-    ensures { λ r. ⌜ r ≡ nameT (now (prelude .entry)) (now (member .entry)) row ⌝ }
+    ensures { λ r. ⌜ r ≡ nameMeantT (now (prelude .entry)) (now (member .entry)) row ⌝ }
 {
     let code = code_at(member, row);
     if code == OUTER {

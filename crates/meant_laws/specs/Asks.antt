@@ -38,7 +38,7 @@ use Rattle.reading_laws.specs.Meant.{Rows}
 use Rattle.moved_laws.specs.Named.{NamesAre, named-found, named-nowhere}
 use Rattle.meant.specs.declared.Declared.{Declared}
 use Rattle.meant.specs.declared.Declared.the-variants.{Nowhere}
-use Rattle.meant.specs.Names.{inRoot, scopeMeant, outerWantedT, isThere, hasScope, isRootT, behindT, inOuterT, indexT}
+use Rattle.meant.specs.Names.{inRoot, scopeMeant, outerWantedT, isThere, hasScope, isRootT, meantBehindT, inOuterT, indexMeantT}
 use Rattle.meant_laws.specs.Told.{Told, nothing, found-in-member}
 use Rattle.meant_laws.specs.Declares.{declares, root-declares}
 
@@ -179,7 +179,7 @@ module _ (P M : List ℕ) (s m : Scope) (RP : Rows P s) (low : LowScope s)
   found-scope wanted g d k e q = subst (Told s m (out d)) (rw (q, b, y)) (in-member d g e)
 
   no-scope : (wanted : Wanted) (o : Option Meant) → scopeOutward M (scopeOf M r) wanted ≡ NoScope → Told s m o (pick (isRootT P M r wanted) (inRoot P space name) Nowhere) → Told s m o (asked-for wanted)
-  unfolding inOuterT behindT
+  unfolding inOuterT meantBehindT
   no-scope wanted o q t = subst (Told s m o) (rw (q, b, y)) t
 
   by-count : (d : ℕ) → Told s m (out d) (asked-for (Out d))
@@ -217,8 +217,8 @@ module _ (P M : List ℕ) (s m : Scope) (RP : Rows P s) (low : LowScope s)
 
   -- ---- the row of an OUTER
 
-  pub index-told : (up : Index) (z : ℕ) → Is M r (Outer space up (Id name) z) → Told s m (Option·map meantBy (outTo (names ++ (nameOf s ∷ [])) up then λ d. declaredOut all d space name)) (indexT P M r)
-  unfolding indexT outerWantedT outTo _then_ encode flag number pick
+  pub index-told : (up : Index) (z : ℕ) → Is M r (Outer space up (Id name) z) → Told s m (Option·map meantBy (outTo (names ++ (nameOf s ∷ [])) up then λ d. declaredOut all d space name)) (indexMeantT P M r)
+  unfolding indexMeantT outerWantedT outTo _then_ encode flag number pick
   index-told (Num d) z is =
       let e : eAt M r ≡ 2 = ap ePart is in
       let x : xAt M r ≡ d = ap xPart is in

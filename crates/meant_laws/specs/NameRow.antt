@@ -42,7 +42,7 @@ use Rattle.reading_laws.specs.LookedUp.{here-meaning}
 use Rattle.moved_laws.specs.Named.{NamesAre, names-at}
 use Rattle.moved_laws.specs.AtPlace.{instance-space}
 use Rattle.meant.specs.declared.Declared.the-variants.{Nowhere}
-use Rattle.meant.specs.Names.{inRoot, memberFound, orRoot, walkedT, byReading, refT, indexT, nameT}
+use Rattle.meant.specs.Names.{inRoot, memberFound, orRoot, walkedMeantT, byReading, refMeantT, indexMeantT, nameMeantT}
 use Rattle.meant.specs.Names as names-of
 use Rattle.meant_laws.specs.Told.{Told, nothing, in-member, found-in-member}
 use Rattle.meant_laws.specs.Declares.{declares, root-chain, root-declares}
@@ -51,19 +51,19 @@ use Rattle.meant_laws.specs.Asks.{index-told}
 -- ---- rows
 
 module _ (P M : List ℕ) (r : ℕ) where
-  number-row : (space n paths z : ℕ) → Is M r (Ref space (Num n) paths z) → nameT P M r ≡ Nowhere
-  unfolding nameT refT byReading readingOf encode flag pick
+  number-row : (space n paths z : ℕ) → Is M r (Ref space (Num n) paths z) → nameMeantT P M r ≡ Nowhere
+  unfolding nameMeantT refMeantT byReading readingOf encode flag pick
   number-row space n paths z is =
       let c : codeAt M r ≡ 3 = ap codePart is in
       let e : eAt M r ≡ 0 = ap ePart is in
       rw (c, e)
 
-  case-row : (name z : ℕ) → Is M r (Case name z) → nameT P M r ≡ Nowhere
-  unfolding nameT encode pick
+  case-row : (name z : ℕ) → Is M r (Case name z) → nameMeantT P M r ≡ Nowhere
+  unfolding nameMeantT encode pick
   case-row name z is = let c : codeAt M r ≡ 6 = ap codePart is in rw c
 
-  index-number : (space n z : ℕ) (up : Index) → Is M r (Outer space up (Num n) z) → nameT P M r ≡ Nowhere
-  unfolding nameT encode flag pick
+  index-number : (space n z : ℕ) (up : Index) → Is M r (Outer space up (Num n) z) → nameMeantT P M r ≡ Nowhere
+  unfolding nameMeantT encode flag pick
   index-number space n z (Num d) is =
       let c : codeAt M r ≡ 5 = ap codePart is in
       let e : eAt M r ≡ 0 = ap ePart is in
@@ -73,8 +73,8 @@ module _ (P M : List ℕ) (r : ℕ) where
       let e : eAt M r ≡ 1 = ap ePart is in
       rw (c, e)
 
-  index-name : (space name z : ℕ) (up : Index) → Is M r (Outer space up (Id name) z) → nameT P M r ≡ indexT P M r
-  unfolding nameT encode flag pick
+  index-name : (space name z : ℕ) (up : Index) → Is M r (Outer space up (Id name) z) → nameMeantT P M r ≡ indexMeantT P M r
+  unfolding nameMeantT encode flag pick
   index-name space name z (Num d) is =
       let c : codeAt M r ≡ 5 = ap codePart is in
       let e : eAt M r ≡ 2 = ap ePart is in
@@ -85,8 +85,8 @@ module _ (P M : List ℕ) (r : ℕ) where
       rw (c, e)
 
   -- a walked name, and one that is not
-  walked-name : (space name z : ℕ) → Is M r (Ref space (Id name) 0 z) → hereOnly (bAt M (fieldOf M r)) ≡ false → nameT P M r ≡ orRoot (meaningOf M r) P space name
-  unfolding nameT refT byReading walkedT readingOf isWalked encode flag number pick
+  walked-name : (space name z : ℕ) → Is M r (Ref space (Id name) 0 z) → hereOnly (bAt M (fieldOf M r)) ≡ false → nameMeantT P M r ≡ orRoot (meaningOf M r) P space name
+  unfolding nameMeantT refMeantT byReading walkedMeantT readingOf isWalked encode flag number pick
   walked-name space name z is here =
       let c : codeAt M r ≡ 3 = ap codePart is in
       let b : bAt M r ≡ space = ap bPart is in
@@ -95,8 +95,8 @@ module _ (P M : List ℕ) (r : ℕ) where
       let y : yAt M r ≡ 0 = ap yPart is in
       rw (c, e, y, here, b, x)
 
-  looked-up : (space name paths z : ℕ) → Is M r (Ref space (Id name) paths z) → (eqb paths 0 && not (hereOnly (bAt M (fieldOf M r)))) ≡ false → nameT P M r ≡ names-of.inMember (meaningOf M r)
-  unfolding nameT refT byReading readingOf isWalked encode flag pick
+  looked-up : (space name paths z : ℕ) → Is M r (Ref space (Id name) paths z) → (eqb paths 0 && not (hereOnly (bAt M (fieldOf M r)))) ≡ false → nameMeantT P M r ≡ names-of.inMember (meaningOf M r)
+  unfolding nameMeantT refMeantT byReading readingOf isWalked encode flag pick
   looked-up space name paths z is here =
       let c : codeAt M r ≡ 3 = ap codePart is in
       let e : eAt M r ≡ 1 = ap ePart is in
@@ -142,10 +142,10 @@ module _ (P M : List ℕ) (s m : Scope) (RP : Rows P s) (RM : Rows M m) (low-s :
 
   -- in its own scope
   here-told : (space name paths z : ℕ) → Is M r (Ref space (Id name) paths z) → eqb name 0 ≡ false → (eqb paths 0 && not (hereOnly (bAt M (fieldOf M r)))) ≡ false
-      → Told s m (Option·map meantBy (declaredOut all 0 (sought space paths) name)) (nameT P M r)
+      → Told s m (Option·map meantBy (declaredOut all 0 (sought space paths) name)) (nameMeantT P M r)
   unfolding inScope
   here-told space name paths z is is-name here =
-      let found : nameT P M r ≡ memberFound (findIn M (U .f .row) (sought space paths) (Name name)) =
+      let found : nameMeantT P M r ≡ memberFound (findIn M (U .f .row) (sought space paths) (Name name)) =
       looked-up P M r space name paths z is here
       ∙ (ap names-of.inMember (here-meaning M r space name paths z is here ∙ ap (λ (k : ℕ). inScope M k 0 (sought space paths) (Name name)) (U .around)) ∙ found-meant M 0 (findIn M (U .f .row) (sought space paths) (Name name))) in
       subst (Told s m (Option·map meantBy (declaredOut all 0 (sought space paths) name))) (sym found)
@@ -154,7 +154,7 @@ module _ (P M : List ℕ) (s m : Scope) (RP : Rows P s) (RM : Rows M m) (low-s :
 
   -- outward
   outward-told : (space name z : ℕ) → walkedAt m p ≡ some (space, name) → Is M r (Ref space (Id name) 0 z) → eqb name 0 ≡ false → hereOnly (bAt M (fieldOf M r)) ≡ false
-      → outwardReading m p ≡ outward (levels fs) space name → Told s m (Option·map meantBy (outward all space name)) (nameT P M r)
+      → outwardReading m p ≡ outward (levels fs) space name → Told s m (Option·map meantBy (outward all space name)) (nameMeantT P M r)
   unfolding orRoot rowMeant _then_ _orElse_
   outward-told space name z walks is is-name here reads =
       subst (Told s m (Option·map meantBy (outward all space name))) (sym (walked-name P M r space name z is here))
@@ -176,11 +176,11 @@ module _ (P M : List ℕ) (s m : Scope) (RP : Rows P s) (RM : Rows M m) (low-s :
   unfolding Readings.walkedInside Readings.outwardInside walked only _then_
   walks space name z q here = (rw (U .used-as, q, here), rw (U .used-as, q, here))
 
-  bare-told : (space name z : ℕ) → U .operand ≡ ref space (Id name) [] z → Is M r (Ref space (Id name) 0 z) → eqb name 0 ≡ false → Told s m (means (ref space (Id name) [] z)) (nameT P M r)
+  bare-told : (space name z : ℕ) → U .operand ≡ ref space (Id name) [] z → Is M r (Ref space (Id name) 0 z) → eqb name 0 ≡ false → Told s m (means (ref space (Id name) [] z)) (nameMeantT P M r)
   unfolding nameIn sought if_then_else_ pick
   bare-told space name z q is is-name = go (hereOnly code) refl
     where
-      go : (b : Bool) → hereOnly code ≡ b → Told s m (Option·map meantBy (if b then declaredOut all 0 space name else outward all space name)) (nameT P M r)
+      go : (b : Bool) → hereOnly code ≡ b → Told s m (Option·map meantBy (if b then declaredOut all 0 space name else outward all space name)) (nameMeantT P M r)
       go true here = here-told space name 0 z is is-name (ap (λ (c : ℕ). not (hereOnly c)) (U .of-field) ∙ ap not here)
       go false here = let W = walks space name z q here in outward-told space name z (W .0) is is-name (ap hereOnly (U .of-field) ∙ here) (W .1)
 
@@ -190,14 +190,14 @@ module _ (P M : List ℕ) (s m : Scope) (RP : Rows P s) (RM : Rows M m) (low-s :
   low : {o : Operand} → U .operand ≡ o → LowOperand o
   low q = subst LowOperand q (low-use M m RM p r at low-m)
 
-  operand-told : (o : Operand) → U .operand ≡ o → Told s m (means o) (nameT P M r)
+  operand-told : (o : Operand) → U .operand ≡ o → Told s m (means o) (nameMeantT P M r)
   unfolding nameIn
   operand-told (ref space (Num n) paths z) q = subst (Told s m none) (sym (number-row P M r space n (length paths) z (is q))) nothing
   operand-told (ref space (Id name) [] z) q = bare-told space name z q (is q) (let l : LowOperand (ref space (Id name) [] z) = low q in omega (tests, l .0))
   operand-told (ref space (Id name) (x ∷ xs) z) q =
       let with-paths : (eqb (suc (length xs)) 0 && not (hereOnly (bAt M (fieldOf M r)))) ≡ false = (let there : eqb (suc (length xs)) 0 ≡ false = omega tests in ap (λ (b : Bool). b && not (hereOnly (bAt M (fieldOf M r)))) there) in
       let is-name : eqb name 0 ≡ false = (let l : LowOperand (ref space (Id name) (x ∷ xs) z) = low q in omega (tests, l .0)) in
-      subst (λ (k : ℕ). Told s m (Option·map meantBy (declaredOut all 0 k name)) (nameT P M r)) (sought-path space (length xs)) (here-told space name (suc (length xs)) z (is q) is-name with-paths)
+      subst (λ (k : ℕ). Told s m (Option·map meantBy (declaredOut all 0 k name)) (nameMeantT P M r)) (sought-path space (length xs)) (here-told space name (suc (length xs)) z (is q) is-name with-paths)
   operand-told (outer space up (Num n) z) q = subst (Told s m none) (sym (index-number P M r space n z up (is q))) nothing
   operand-told (outer space up (Id name) z) q =
       let is-name : eqb name 0 ≡ false = (let l : LowOperand (outer space up (Id name) z) = low q in omega (tests, l .1 .0)) in
@@ -207,9 +207,9 @@ module _ (P M : List ℕ) (s m : Scope) (RP : Rows P s) (RM : Rows M m) (low-s :
   operand-told (case name z) q = subst (Told s m none) (sym (case-row P M r name z (is q))) nothing
 
   -- THE ROW OF EVERY NAME at a place of the member: that of the declaration that the rules give, in the member or in the prelude.
-  pub name-told : Told s m (memberMeans s m p) (nameT P M r)
-  name-told = subst (λ (o : Option Meant). Told s m o (nameT P M r)) (sym (means-is s m p _ (U .used-as) (known .0) (known .1))) (operand-told (U .operand) refl)
+  pub name-told : Told s m (memberMeans s m p) (nameMeantT P M r)
+  name-told = subst (λ (o : Option Meant). Told s m o (nameMeantT P M r)) (sym (means-is s m p _ (U .used-as) (known .0) (known .1))) (operand-told (U .operand) refl)
 
   -- Of a walked name it is the one that the outward reading gives.
-  pub walked-told : (w : ℕ × ℕ) → walkedAt m p ≡ some w → Told s m (memberOutward s m p) (nameT P M r)
-  walked-told w e = subst (λ (o : Option Meant). Told s m o (nameT P M r)) (means-walked s m p _ (U .used-as) (known .0) (known .1) w e) name-told
+  pub walked-told : (w : ℕ × ℕ) → walkedAt m p ≡ some w → Told s m (memberOutward s m p) (nameMeantT P M r)
+  walked-told w e = subst (λ (o : Option Meant). Told s m o (nameMeantT P M r)) (means-walked s m p _ (U .used-as) (known .0) (known .1) w e) name-told

@@ -20,9 +20,9 @@ use Rattle.rules.specs.Answer
 use Rattle.rules.specs.Answer.{accepted, mark, settingOf, rowCount}
 use Rattle.rules.specs.Laws.ToolLaws.{All, done, _&_, ok-at, and-right, leb-le, eqb-true}
 use Rattle.rules.specs.Laws.Results.{some-same, no-option}
-use Rattle.rules.specs.Laws.Reading.BeginsWritten.{rows-length}
+use Rattle.rules.specs.Laws.Read.BeginsWritten.{rows-length}
 use Rattle.rules.specs.Laws.Meaning.Names.{LowScope}
-use Rattle.rules.specs.Laws.Demand3.{Usual, all-usual, setting-usual, low-read}
+use Rattle.rules.specs.Laws.InputLaws.{Usual, all-usual, setting-usual, low-read}
 use Rattle.headers.specs.Laws.Settings.{headed}
 use Rattle.read_form.specs.ReadForm.{readForm}
 use Rattle.read_form.specs.Laws.ReadFormLaws.{ReadAs, read-exactly, read-read}

@@ -16,20 +16,20 @@ use Rattle.rules.specs.Readings.{fieldsOf}
 use Rattle.rules.specs.Answer as rules
 use Rattle.rules.specs.Answer.{AnswerOf, refused, accepted, mapAnswer, hasHeader, settingOf, rowCount, answer, answerInside, formIn, formBytes, rowsBytes, headerBytes, outputAfter, written, output, outputInside}
 use Rattle.rules.specs.Laws.RowLaws.{Bytes}
-use Rattle.rules.specs.Laws.Demand3.{Accepted, readings}
+use Rattle.rules.specs.Laws.InputLaws.{Accepted, readings}
 use Rattle.rules.specs.Laws.Output.OutBytes.{header-length}
 use Rattle.read_form.specs.ReadForm.{readForm}
 use Rattle.read_form.specs.Laws.ReadFormLaws.{read-exactly, ours-read}
 use Rattle.read_form.specs.Laws.OutputLength.{rows-length}
 use Rattle.batching.specs.Batch.{Prelude, rootOf, preludeIn, preludeOf}
 use Rattle.batching.specs.Laws.InPrelude.{few-declared}
-use Rattle.parts.specs.Apart.{partsAt}
+use Rattle.parts.specs.PartsAt.{partsAt}
 use Rattle.parts.specs.declared.Parts.{Parts}
 use Rattle.claim_rows.specs.Left.{rowsAt}
 use Rattle.claim_laws.specs.RowParts as row-parts
 use Rattle.claim_laws.specs.OnBytes.{rows-are, rows-stand}
-use Rattle.agree.specs.Spaces.{Spaces}
-use Rattle.agree.specs.GoodSpaces.{good-spaces}
+use Rattle.agree.specs.Fit.Spaces.{Spaces}
+use Rattle.agree.specs.Fit.GoodSpaces.{good-spaces}
 use Rattle.resolver.proofs.Root.{Able}
 use Rattle.resolver.proofs.Admits.{output-one}
 use Rattle.inside.specs.Run.{RootIn}

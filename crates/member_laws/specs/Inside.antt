@@ -20,25 +20,25 @@ use Rattle.rules.specs.Rules.{Env, tableOf, find, Result, ok, resolveInside}
 use Rattle.rules.specs.Answer as rules
 use Rattle.rules.specs.Answer.{accepted, mapAnswer, rowCount, rowsOf, resolved, answerInside, outputAfter, outputInside}
 use Rattle.rules.specs.Laws.RowLaws.{Bytes, bytes-drop}
-use Rattle.rules.specs.Laws.Reading.ReadRight.{reads-form}
+use Rattle.rules.specs.Laws.Read.ReadRight.{reads-form}
 use Rattle.rules.specs.Laws.Meaning.Names.{low-scope}
 use Rattle.rules.specs.Laws.Meaning.ReadNames.{read-low}
 use Rattle.read_form.specs.ReadForm.{_andThen_}
 use Rattle.batching.specs.Batch.{insideAnswer, insideOutput}
 use Rattle.refusal.specs.declared.Refusal.{Refusal}
 use Rattle.refusal.specs.Refusals.{untold}
-use Rattle.form.specs.Marked.{endsTo}
+use Rattle.form.specs.MarkEnds.{endsTo}
 use Rattle.form.specs.Ends.{Ends, EndsIn}
 use Rattle.form.proofs.EndsStorey.{ends-to-right}
 use Rattle.names.specs.Table.{Slot, noScope, scopeOf, rowOf, between}
 use Rattle.names.specs.Stands.{foundOf, Stands, entryRows, Envs, Below}
 use Rattle.names.proofs.Storey.{find-stands, envs-push, below-push}
 use Rattle.plan.specs.Enter.{isFound}
-use Rattle.walk.specs.Walk.{startIn}
-use Rattle.agree.specs.Sizes.{most, Sizes, Fits}
-use Rattle.agree.specs.AtLaws.{at-fits, at-form}
-use Rattle.agree.specs.Earlier.{Knows, Come, Earlier}
-use Rattle.agree.specs.RootAgrees.{Begun, inside-agrees}
+use Rattle.walk.specs.Scopes.{startIn}
+use Rattle.agree.specs.Tables.Sizes.{most, Sizes, Fits}
+use Rattle.agree.specs.Rows.AtLaws.{at-fits, at-form}
+use Rattle.agree.specs.Tables.Earlier.{Knows, Come, Earlier}
+use Rattle.agree.specs.Walk.RootAgrees.{Begun, inside-agrees}
 use Rattle.whole_form.specs.Whole.{formOf}
 use Rattle.whole_form.specs.declared.read.Form.the-variants.{Whole, Refused as NotWhole}
 use Rattle.resolver.specs.Meaning.{meaning, ruled}

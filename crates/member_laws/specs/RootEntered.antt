@@ -24,11 +24,11 @@ use Rattle.parts.specs.declared.Parts.{Parts}
 use Rattle.names.specs.Table.{Slot, rowOf, slotOf, between, pushed}
 use Rattle.names.specs.Stands.{count, Stands, entryRows}
 use Rattle.names.proofs.Storey.{count-same, count-other, stands-length, pushed-room, between-push, stands-push}
-use Rattle.claim_numbers.specs.Count.{noCounts, countsAt, moreT, bumpT, countT}
+use Rattle.claim_numbers.specs.Count.{noCounts, countsAt, moreCountT, bumpCountT, countBeforeT}
 use Rattle.claim_laws.specs.RowParts.{asParts, allParts, codeIn, Inner, behindField, inner-behind, decls-size}
-use Rattle.agree.specs.Spaces.{Spaces, SpacesDecls}
-use Rattle.agree.specs.PlanTables.{count-le}
-use Rattle.prelude_root.specs.Root.{depthT, besideT, numberedT, rowT, behindT, turnT, thenT, rowsT, rootT}
+use Rattle.agree.specs.Fit.Spaces.{Spaces, SpacesDecls}
+use Rattle.agree.specs.StepsAB.PlanTables.{count-le}
+use Rattle.prelude_root.specs.Root.{depthT, besideT, numberedT, rootRowT, rootBehindT, turnT, thenT, rootRowsT, rootT}
 use Rattle.prelude_root.specs.declared.Cursor.{Cursor}
 
 -- ---- rows that are passed
@@ -43,19 +43,19 @@ pub record Passed (depth : ℕ) (r : Row) : Type 0 where
   pub no-decl : depth ≡ 1 → codeIn r ≡ 2 → ⊥
 
 module _ (names : List Slot) (counts : List (List ℕ)) (depth used : ℕ) where
-  row-passed : (r : Row) (i : ℕ) → (depth ≡ 1 → codeIn r ≡ 2 → ⊥) → (b c : Bool) → eqb depth 1 ≡ b → eqb (codeIn r) 2 ≡ c → rowT (asParts r) i depth used names counts ≡ (used & names & counts)
-  unfolding rowT pick
+  row-passed : (r : Row) (i : ℕ) → (depth ≡ 1 → codeIn r ≡ 2 → ⊥) → (b c : Bool) → eqb depth 1 ≡ b → eqb (codeIn r) 2 ≡ c → rootRowT (asParts r) i depth used names counts ≡ (used & names & counts)
+  unfolding rootRowT pick
   row-passed r i h false c e f = rw e
   row-passed r i h true false e f = rw (e, f)
   row-passed r i h true true e f = absurd (h (eqb-true depth 1 e) (eqb-true (codeIn r) 2 f))
 
   turn-passed : (r : Row) (i : ℕ) → Passed depth r → turnT (asParts r) i names counts (cursor depth used) ≡ (cursor depth used & names & counts)
-  unfolding turnT behindT depthT pick
+  unfolding turnT rootBehindT depthT pick
   turn-passed r i h = rw (row-passed r i (h .no-decl) (eqb depth 1) (eqb (codeIn r) 2) refl refl, ne-eqb (codeIn r) 7 (h .no-open), ne-eqb (codeIn r) 8 (h .no-close))
 
   -- several of them
-  rows-passed : (rs rest : List Row) (i : ℕ) → All (Passed depth) rs → rowsT i names counts (cursor depth used) (allParts (rs ++ rest)) ≡ rowsT (i + length rs) names counts (cursor depth used) (allParts rest)
-  unfolding rowsT allParts thenT
+  rows-passed : (rs rest : List Row) (i : ℕ) → All (Passed depth) rs → rootRowsT i names counts (cursor depth used) (allParts (rs ++ rest)) ≡ rootRowsT (i + length rs) names counts (cursor depth used) (allParts rest)
+  unfolding rootRowsT allParts thenT
   rows-passed [] rest i h = let e : i + 0 ≡ i = omega arith in rw e
   rows-passed (r ∷ rs) rest i (h ⊕ hs) =
       let e : i + 1 + length rs ≡ i + suc (length rs) = omega arith in
@@ -105,18 +105,18 @@ module _ (depth : ℕ) where
 
 module _ (names : List Slot) (counts : List (List ℕ)) (used : ℕ) where
   opens : (depth kind name i : ℕ) → turnT (asParts (Open kind name)) i names counts (cursor depth used) ≡ (cursor (depth + 1) used & names & counts)
-  unfolding turnT behindT depthT pick asParts encode
+  unfolding turnT rootBehindT depthT pick asParts encode
   opens depth kind name i = rw (row-passed names counts depth used (Open kind name) i (λ h. omega arith) (eqb depth 1) false refl refl)
 
   closes : (depth i : ℕ) → turnT (asParts Close) i names counts (cursor (depth + 1) used) ≡ (cursor depth used & names & counts)
-  unfolding turnT behindT depthT pick asParts encode
+  unfolding turnT rootBehindT depthT pick asParts encode
   closes depth i =
       let e : depth + 1 - 1 ≡ depth = omega arith in
       rw (row-passed names counts (depth + 1) used Close i (λ h. omega arith) (eqb (depth + 1) 1) false refl refl, e)
 
   -- from row i to row k nothing is entered, where this many scopes are open
   abbrev Skips : (depth i k : ℕ) (rs : List Row) → Type 0
-  Skips depth i k rs = (rest : List Row) → rowsT i names counts (cursor depth used) (allParts (rs ++ rest)) ≡ rowsT k names counts (cursor depth used) (allParts rest)
+  Skips depth i k rs = (rest : List Row) → rootRowsT i names counts (cursor depth used) (allParts (rs ++ rest)) ≡ rootRowsT k names counts (cursor depth used) (allParts rest)
 
   skips-then : (depth i : ℕ) (xs ys : List Row) → Skips depth i (i + length xs) xs → Skips depth (i + length xs) (i + length xs + length ys) ys → Skips depth i (i + length (xs ++ ys)) (xs ++ ys)
   skips-then depth i xs ys f g rest =
@@ -124,7 +124,7 @@ module _ (names : List Slot) (counts : List (List ℕ)) (used : ℕ) where
       rw (append-assoc xs ys rest) (f (ys ++ rest) ∙ (g rest ∙ rw e))
 
   scope-skips : (depth kind name i : ℕ) (fs : Fields) → Skips (depth + 1) (i + 1) (i + 1 + length (fieldsRows fs)) (fieldsRows fs) → Skips depth i (i + length (flatten (scope kind name fs))) (flatten (scope kind name fs))
-  unfolding flatten rowsT allParts thenT
+  unfolding flatten rootRowsT allParts thenT
   scope-skips depth kind name i fs inside rest =
       let e : i + 1 + length (fieldsRows fs) + 1 ≡ i + suc (length (fieldsRows fs ++ (Close ∷ []))) = omega (arith, length-append (fieldsRows fs) (Close ∷ [])) in
       rw (opens depth kind name i, append-assoc (fieldsRows fs) (Close ∷ []) rest)
@@ -183,15 +183,15 @@ module _ (room : ℕ) (narrow : room < 65536) (es : List Entry) (names : List Sl
   few : n ≤ used
   few = let l = count-le (d .space) (declsIn es) in let m = length-map es (λ (x : Entry). x .decl) in omega (arith, tab .next)
 
-  numbers : countT counts 1 (asParts (Decl (d .space) (d .name) (d .z))) ≡ (n & counts′)
-  unfolding countT bumpT moreT pick asParts encode
+  numbers : countBeforeT counts 1 (asParts (Decl (d .space) (d .name) (d .z))) ≡ (n & counts′)
+  unfolding countBeforeT bumpCountT moreCountT pick asParts encode
   numbers =
       let f = few in
       let m : n % 65536 ≡ n = omega arith in
       rw (tab .one, lt-leb 13 (d .space) legal, tab .counted (d .space) legal, m)
 
-  enters : rowT (asParts (Decl (d .space) (d .name) (d .z))) i 1 used names counts ≡ (used + 1 & set names used slot & counts′)
-  unfolding rowT pick numberedT besideT asParts encode
+  enters : rootRowT (asParts (Decl (d .space) (d .name) (d .z))) i 1 used names counts ≡ (used + 1 & set names used slot & counts′)
+  unfolding rootRowT pick numberedT besideT asParts encode
   enters =
       let m : i % 4294967296 ≡ i = omega arith in
       rw (numbers, m, pushed-room names used slot (omega (arith, tab .size)))
@@ -206,7 +206,7 @@ module _ (room : ℕ) (narrow : room < 65536) (es : List Entry) (names : List Sl
       go false q = getD-set-other c (d .space) s (n + 1) 0 (not-same (d .space) s q) ∙ tab .counted s h ∙ sym (count-other s (declsIn es) d q)
 
   turn-enters : turnT (asParts (Decl (d .space) (d .name) (d .z))) i names counts (cursor 1 used) ≡ (cursor 1 (used + 1) & set names used slot & counts′)
-  unfolding turnT behindT depthT pick asParts encode
+  unfolding turnT rootBehindT depthT pick asParts encode
   turn-enters = rw enters
 
   tab-next : Tab room (es ++ (e ∷ [])) (set names used slot) counts′ (used + 1)
@@ -228,7 +228,7 @@ pub record Enters (room : ℕ) (es : List Entry) (names : List Slot) (counts : L
   pub names′ : List Slot
   pub counts′ : List (List ℕ)
   pub used′ : ℕ
-  pub goes : rowsT i names counts (cursor 1 used) (allParts (rs ++ rest)) ≡ rowsT k names′ counts′ (cursor 1 used′) (allParts rest)
+  pub goes : rootRowsT i names counts (cursor 1 used) (allParts (rs ++ rest)) ≡ rootRowsT k names′ counts′ (cursor 1 used′) (allParts rest)
   pub tab : Tab room es names′ counts′ used′
 
 entered-length : (row : ℕ) (ds : List Declaration) → length (entered row ds) ≡ length ds
@@ -251,7 +251,7 @@ module _ (room : ℕ) (narrow : room < 65536) where
   -- DECLs, the first of them in row i
   enter-decls : (ds : List Declaration) (es : List Entry) (names : List Slot) (counts : List (List ℕ)) (used i : ℕ) (rest : List Row) → SpacesDecls ds → Tab room es names counts used → used + length ds ≤ room → i + length ds < 4294967296
       → Enters room (es ++ entered i ds) names counts used i (i + length (declRows ds)) (declRows ds) rest
-  unfolding entered declRows allParts rowsT thenT
+  unfolding entered declRows allParts rootRowsT thenT
   enter-decls [] es names counts used i rest s tab r l =
       let e : i + 0 ≡ i = omega arith in
       record { names′ = names; counts′ = counts; used′ = used; goes = rw e; tab = rw (append-nil es) tab }
@@ -368,7 +368,7 @@ pub record Around (t : Scope) (names : List Slot) (o : Out ℕ (List Slot)) : Ty
 
 all-entered : (kind name : ℕ) (fs : Fields) (names : List Slot) → Enters (length names) (enteredFields 1 fs) names (noCounts ∷ []) 0 1 (1 + length (fieldsRows fs)) (fieldsRows fs) (Close ∷ [])
     → Around (scope kind name fs) names (rootT names (allParts (flatten (scope kind name fs))))
-unfolding rootT rootOf flatten rowsT allParts thenT
+unfolding rootT rootOf flatten rootRowsT allParts thenT
 all-entered kind name fs names E =
     record {
       names′ = E .names′;

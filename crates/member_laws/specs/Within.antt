@@ -3,10 +3,10 @@ use mathlib.Core.List.{List}
 use Prim.Native.Nat.{ℕ, _-_}
 use lib.ListN.{set, replicate}
 use Rattle.rules.specs.Versions.{Setting}
-use Rattle.form.specs.Marked.{endsTo}
+use Rattle.form.specs.MarkEnds.{endsTo}
 use Rattle.names.specs.Table.{Slot, noScope, scopeOf}
-use Rattle.write.specs.State.{Wrote}
-use Rattle.walk.specs.Walk.{scopeT, startIn}
+use Rattle.write.specs.WriteState.{Wrote}
+use Rattle.walk.specs.Scopes.{scopeWalkT, startIn}
 use Rattle.resolver.specs.Run.{seenOf}
 
 -- the same with one scope fewer: a form inside a root is held to that
@@ -33,4 +33,4 @@ oneOpen most name used = set (replicate most noScope) 0 (scopeOf name 0 used 0)
 unfoldable pub walkInside : Setting → (name used : ℕ) (rows ends : List ℕ) (entered names : List Slot) (out : List ℕ) → Wrote
 walkInside s name used rows ends entered names out =
     let most = s .version .scopes in
-    seenOf (scopeT rows (endsTo most rows ends) (most - 1) entered names (oneOpen most name used) out (startIn used 1 (s .rules .early)))
+    seenOf (scopeWalkT rows (endsTo most rows ends) (most - 1) entered names (oneOpen most name used) out (startIn used 1 (s .rules .early)))

@@ -14,7 +14,7 @@ use borrow.Author.Needs.{needs}
 use borrow.Author.Tests.{ltb-false}
 use Rattle.kit.proofs.Laws.{lt-or-le}
 use Rattle.rules.specs.Tools.{if_then_else_}
-use Rattle.rules.specs.Versions.{Version, Setting}
+use Rattle.rules.specs.Versions.{Version, Setting, all}
 use Rattle.rules.specs.Answer as rules
 use Rattle.rules.specs.Answer.{answer, output}
 use Rattle.batching.specs.Batch.{preludeIn, preludeOf, memberAnswer, memberOutput}
@@ -25,7 +25,7 @@ use Rattle.limits.specs.Held.{setting}
 use Rattle.names.specs.Table.{Slot, emptySlot}
 use Rattle.resolver.specs.Meaning.{numbers, meaning, ruled}
 use Rattle.resolver.specs.declared.run.Answer.{Answer}
-use Rattle.resolver_with.specs.Served.{served, asked}
+use Rattle.resolver_with.specs.Asked.{asked}
 use Rattle.resolver_with.specs.Areas as areas
 use Rattle.resolver_with.specs.Areas.{slotsFor, linksFor, lentOf, roomy, cleared}
 use Rattle.resolver_with.specs.With.{Ran}
@@ -69,16 +69,16 @@ module _ (i : ℕ) (prelude area : List ℕ) (e n : List Slot) (k c m : List ℕ
   pub lent-stays : (said .number ≡ 0 → ⊥) → (member old : List ℕ) → old ≡ memberOutput (setting i ∷ []) prelude (length area) member old
   lent-stays h member old = told-stays (setting i) prelude area said a told ran-one h member old
 
-  module _ (h : said .number ≡ 0) (all : (j : ℕ) → Fits w8 (getD prelude j 0)) where
+  module _ (h : said .number ≡ 0) (each : (j : ℕ) → Fits w8 (getD prelude j 0)) where
     left-one : area′ ≡ output (setting i ∷ []) prelude area
     left-one = lent-left i prelude area e n k c m suits said a told area′ ran
 
     module _ (root : List ℕ) (rows : root ≡ take (16 * said .place) (drop (setting i .version .header) area′)) (member old new : List ℕ) (r : Answer) (resolves : Resolves (setting i) root member old new r) where
       pub lent-inside : (q : Refusal) → numbers (q .number) (q .place) ≡ meaning r .plain → numbers (q .number) (q .place) ≡ ruled (memberAnswer (setting i ∷ []) prelude (length area) member (length old)) .plain
-      lent-inside = inside-answers (setting i) prelude area said a told ran-one (able-at i) h all area′ left-one root rows member old new r resolves
+      lent-inside = inside-answers (setting i) prelude area said a told ran-one (able-at i) h each area′ left-one root rows member old new r resolves
 
       pub lent-leaves : new ≡ memberOutput (setting i ∷ []) prelude (length area) member old
-      lent-leaves = inside-leaves (setting i) prelude area said a told ran-one (able-at i) h all area′ left-one root rows member old new r resolves
+      lent-leaves = inside-leaves (setting i) prelude area said a told ran-one (able-at i) h each area′ left-one root rows member old new r resolves
 
 -- ---- run_lent
 
@@ -166,11 +166,11 @@ not-small false true size h = absurd (omega arith)
 not-small x false size h = refl
 
 -- a prelude asks for one setting
-one-answer : (prelude : List ℕ) (work : ℕ) (member : List ℕ) (room : ℕ) → memberAnswer served prelude work member room ≡ memberAnswer (asked prelude ∷ []) prelude work member room
+one-answer : (prelude : List ℕ) (work : ℕ) (member : List ℕ) (room : ℕ) → memberAnswer all prelude work member room ≡ memberAnswer (asked prelude ∷ []) prelude work member room
 unfolding memberAnswer
 one-answer prelude work member room = rw (setting-asked prelude)
 
-one-writes : (prelude : List ℕ) (work : ℕ) (member old : List ℕ) → memberOutput served prelude work member old ≡ memberOutput (asked prelude ∷ []) prelude work member old
+one-writes : (prelude : List ℕ) (work : ℕ) (member old : List ℕ) → memberOutput all prelude work member old ≡ memberOutput (asked prelude ∷ []) prelude work member old
 unfolding memberOutput
 one-writes prelude work member old = rw (setting-asked prelude)
 
@@ -190,7 +190,7 @@ module _ (i : ℕ) (prelude : List ℕ) (asks : setting i ≡ asked prelude) (wo
 
   module _ (member old : List ℕ) where
     pub with-answers : (r : Refusal) → numbers (r .number) (r .place) ≡ ruled (memberAnswer (setting i ∷ []) prelude (length (take room work)) member (length old)) .plain
-        → numbers (r .number) (r .place) ≡ ruled (memberAnswer served prelude (roomWith (shortWith prelude (length work) (lentOf e n k c m)) (areaFor (asked prelude .version))) member (length old)) .plain
+        → numbers (r .number) (r .place) ≡ ruled (memberAnswer all prelude (roomWith (shortWith prelude (length work) (lentOf e n k c m)) (areaFor (asked prelude .version))) member (length old)) .plain
     with-answers r q =
         as-answered (setting i ∷ []) prelude member old work room (areaFor (setting i .version)) (ltb (length work) (areaFor (setting i .version)) || small) is less r q
         ∙ ap (λ (x : rules.Answer). ruled x .plain)
@@ -199,7 +199,7 @@ module _ (i : ℕ) (prelude : List ℕ) (asks : setting i ≡ asked prelude) (wo
         ∙ sym (one-answer prelude (roomWith (shortWith prelude (length work) (lentOf e n k c m)) (areaFor (asked prelude .version))) member (length old))))
 
     pub with-leaves : (new : List ℕ) → new ≡ memberOutput (setting i ∷ []) prelude (length (take room work)) member old
-        → new ≡ memberOutput served prelude (roomWith (shortWith prelude (length work) (lentOf e n k c m)) (areaFor (asked prelude .version))) member old
+        → new ≡ memberOutput all prelude (roomWith (shortWith prelude (length work) (lentOf e n k c m)) (areaFor (asked prelude .version))) member old
     with-leaves new q =
         as-left (setting i ∷ []) prelude member old work room (areaFor (setting i .version)) (ltb (length work) (areaFor (setting i .version)) || small) is less new q
         ∙ (ap (λ (x : ℕ). memberOutput (setting i ∷ []) prelude x member old) room-asked

@@ -8,7 +8,7 @@ use lib.ListN.{length}
 use Rattle.rules.specs.Versions.{Version}
 use Rattle.limits.specs.Held.{setting}
 use Rattle.names.specs.Table.{Slot, emptySlot}
-use Rattle.resolver_with.specs.Served.{asked}
+use Rattle.resolver_with.specs.Asked.{asked}
 use Rattle.resolver_with.specs.Areas as areas
 use Rattle.resolver_with.specs.Areas.{slotsFor, linksFor, cleared}
 use Rattle.inside.specs.Areas.{bothFor, chainsFor}

@@ -26,7 +26,8 @@ ghost use Rattle.limits.specs.Held.{setting};
 ghost use Rattle.batching.specs.Batch.{memberAnswer, memberOutput};
 ghost use Rattle.batching.specs.BatchCalls.{roomWith, cleared};
 ghost use Rattle.resolver.specs.Meaning.{numbers, ruled};
-ghost use Rattle.resolver_with.specs.Served.{served, asked};
+ghost use Rattle.rules.specs.Versions.{all};
+ghost use Rattle.resolver_with.specs.Asked.{asked};
 ghost use Rattle.resolver_with.specs.Areas.{lentOf};
 ghost use Rattle.inside.specs.Areas.{SuitsIf, Same};
 ghost use Rattle.member_with.specs.Areas.{areaFor, shortWith, TablesCleared, Large, SameArea};
@@ -126,8 +127,8 @@ pub fn member_with(
     chains: &mut [u16],
     ends: &mut [u32],
 ) -> Refusal
-    ensures { λ r. ⌜ numbers (r .number) (r .place) ≡ ruled (memberAnswer served (now (prelude .entry)) (roomWith (shortWith (now (prelude .entry)) (length (now (work .entry))) (lentOf (now (entered .entry)) (now (names .entry)) (now (known .entry)) (now (chains .entry)) (now (ends .entry)))) (areaFor (asked (now (prelude .entry)) .version))) (now (member .entry)) (length (now (out .entry)))) .plain ⌝ }
-    ensures { λ _. ⌜ now (out .exit) ≡ memberOutput served (now (prelude .entry)) (roomWith (shortWith (now (prelude .entry)) (length (now (work .entry))) (lentOf (now (entered .entry)) (now (names .entry)) (now (known .entry)) (now (chains .entry)) (now (ends .entry)))) (areaFor (asked (now (prelude .entry)) .version))) (now (member .entry)) (now (out .entry)) ⌝ }
+    ensures { λ r. ⌜ numbers (r .number) (r .place) ≡ ruled (memberAnswer all (now (prelude .entry)) (roomWith (shortWith (now (prelude .entry)) (length (now (work .entry))) (lentOf (now (entered .entry)) (now (names .entry)) (now (known .entry)) (now (chains .entry)) (now (ends .entry)))) (areaFor (asked (now (prelude .entry)) .version))) (now (member .entry)) (length (now (out .entry)))) .plain ⌝ }
+    ensures { λ _. ⌜ now (out .exit) ≡ memberOutput all (now (prelude .entry)) (roomWith (shortWith (now (prelude .entry)) (length (now (work .entry))) (lentOf (now (entered .entry)) (now (names .entry)) (now (known .entry)) (now (chains .entry)) (now (ends .entry)))) (areaFor (asked (now (prelude .entry)) .version))) (now (member .entry)) (now (out .entry)) ⌝ }
     ensures { λ _. ⌜ now (work .exit) ≡ cleared 0 (areaFor (asked (now (prelude .entry)) .version)) (now (work .entry)) ⌝ }
     ensures { λ _. ⌜ TablesCleared (asked (now (prelude .entry)) .version) (now (entered .entry)) (now (entered .exit)) (now (names .entry)) (now (names .exit)) (now (known .entry)) (now (known .exit)) (now (chains .entry)) (now (chains .exit)) (now (ends .entry)) (now (ends .exit)) ⌝ }
 {

@@ -17,25 +17,25 @@ use Rattle.kit.proofs.Laws.{tests, lt-or-le, sets-append}
 use Rattle.rules.specs.Tools.{if_then_else_, only, _orElse_, between}
 use Rattle.rules.specs.Versions.{RuleSet, Version, Setting, all}
 use Rattle.rules.specs.Rows.{Row, value, bytes}
-use Rattle.rules.specs.Tree.{Reading, bad, deep, form}
+use Rattle.rules.specs.Tree.{RowsRead, bad, deep, form}
 use Rattle.rules.specs.Begins.{Right}
 use Rattle.rules.specs.Reader.{read}
 use Rattle.rules.specs.Answer.{mark, sameNumbers, hasHeader, rowCount, rowsOf, rowsIn, headerBytes}
 use Rattle.rules.specs.Laws.ToolLaws.{leb-le}
-use Rattle.rules.specs.Laws.Reading.ReadRight.{read-right}
+use Rattle.rules.specs.Laws.Read.ReadRight.{read-right}
 use Rattle.rules.specs.Laws.Output.OutBytes
 use Rattle.headers.specs.Laws.Written.{written-header}
 use Rattle.read_form.specs.ReadForm.{asAnswer, readForm}
 use Rattle.limits.specs.declared.Limits.{Limits}
 use Rattle.limits.specs.Held.{settingIn, limitsOf, setting}
 use Rattle.limits.proofs.Laws.{stand-for}
-use Rattle.reader.specs.Readings.{answerOf, readTo}
+use Rattle.reader.specs.ReadTo.{answerOf, readTo}
 use Rattle.mending.specs.Mend
 use Rattle.mending.specs.Mend.{Change, Mending, refused, mended, afters, changes, listBytes, allRows, behindHeader, headerPieces, formPieces, sized, mendIn, asksFor, settingFor, mendFor, mend, mendBuffer, bufferAfter, listAfter}
 use Rattle.mending.specs.Laws.Pieces.{afters-append, same-lists}
 use Rattle.mending.specs.Laws.SoundStays.{three}
 use Rattle.mend_form.specs.Kept.{keptIn}
-use Rattle.mend_form.specs.Filled.{bodyT}
+use Rattle.mend_form.specs.Filled.{mendedBodyT}
 use Rattle.mend_form.specs.declared.Kept.{Kept}
 use Rattle.mend_form.proofs.Laws.{body-size}
 use Rattle.mend_form.proofs.Right.{body-right}
@@ -179,7 +179,7 @@ module _ (l : Limits) (L : Held l) (old : List ℕ) (asks-it : asksFor (settingI
   total = k .rows + k .scopes
 
   abbrev body : List ℕ
-  body = bodyT (drop (l .header) old) k
+  body = mendedBodyT (drop (l .header) old) k
 
   abbrev new : List ℕ
   new = newT l old k
@@ -305,14 +305,14 @@ module _ (buffer list : List ℕ) (long-is : ℕ) where
     unfolding writeT bufferAfter listAfter
     says-written h g = (refl, placed-right h, listed-right g)
 
-    says-read : (rules : RuleSet) (scopes : ℕ) (r : Reading) (rs : List (Option Row)) → Right rules scopes rs r → length rs ≤ 16383 → length made ≤ length buffer → length (listBytes cs) ≤ length list
+    says-read : (rules : RuleSet) (scopes : ℕ) (r : RowsRead) (rs : List (Option Row)) → Right rules scopes rs r → length rs ≤ 16383 → length made ≤ length buffer → length (listBytes cs) ≤ length list
         → Says (Mend.read (asAnswer r) made cs) (readThen (answerOf r) l buffer long-is list kept)
     unfolding asAnswer answerOf readThen Mend.read
     says-read rules scopes (bad p) rs h few f g = let e : p % 4294967296 ≡ p = omega (arith, h .in-range) in rw e (says-refused 4 p)
     says-read rules scopes (deep p) rs h few f g = let e : p % 4294967296 ≡ p = omega (arith, h .in-range) in rw e (says-refused 5 p)
     says-read rules scopes (form t) rs h few f g = says-written f g
 
-    says-to : (rules : RuleSet) (scopes : ℕ) (r : Reading) (rs : List (Option Row)) → Right rules scopes rs r → length rs ≤ 16383 → readTo l (bodyT (drop (l .header) (take long-is buffer)) kept) ≡ answerOf r → length made ≡ l .header + 16 * (kept .rows + kept .scopes)
+    says-to : (rules : RuleSet) (scopes : ℕ) (r : RowsRead) (rs : List (Option Row)) → Right rules scopes rs r → length rs ≤ 16383 → readTo l (mendedBodyT (drop (l .header) (take long-is buffer)) kept) ≡ answerOf r → length made ≡ l .header + 16 * (kept .rows + kept .scopes)
         → Says (if ltb (length buffer) (length made) || ltb (length list) (length (listBytes cs)) then refused 3 0 else Mend.read (asAnswer r) made cs) (toT l buffer long-is list kept)
     unfolding toT roomT if_then_else_ pick
     says-to rules scopes r rs h few e size = rw (e, ← size) (go (ltb (length buffer) (length made)) (lt-or-le (length list) (length (listBytes cs))) refl)

@@ -15,7 +15,7 @@ use Rattle.rules.specs.Laws.Output.OutBytes
 use Rattle.limits.specs.declared.Limits.{Limits}
 use Rattle.limits.specs.Held.{settingIn}
 use Rattle.mending.specs.Laws.SoundRows.{take-within}
-use Rattle.mend_form.specs.Filled.{rowT, rowsT, bodyT, rowIn, fromT}
+use Rattle.mend_form.specs.Filled.{mendedRowT, mendedRowsT, mendedBodyT, rowIn, fromT}
 use Rattle.mend_form.specs.declared.Kept.{Kept}
 use Rattle.mend_form.proofs.Laws.{body-size}
 use Rattle.mend_form.proofs.Right.{alone}
@@ -37,7 +37,7 @@ pub ruleset zero-ways = (zero-turn, zero-end, needs)
 same-row : (k : Kept) (rows old : List ℕ) (i : ℕ) → length rows ≡ length old → drop (16 * i) rows ≡ drop (16 * i) old → rowIn rows k i ≡ rowIn old k i
 unfolding rowIn
 same-row k rows old i size e =
-    let row : rowT rows (16 * i) 0 16 ≡ rowT old (16 * i) 0 16 = alone rows (16 * i) 0 16 (omega arith) ∙ (ap (λ (l : List ℕ). rowT (take 16 l) 0 0 16) e ∙ sym (alone old (16 * i) 0 16 (omega arith))) in
+    let row : mendedRowT rows (16 * i) 0 16 ≡ mendedRowT old (16 * i) 0 16 = alone rows (16 * i) 0 16 (omega arith) ∙ (ap (λ (l : List ℕ). mendedRowT (take 16 l) 0 0 16) e ∙ sym (alone old (16 * i) 0 16 (omega arith))) in
     rw (size, row)
 
 pub row-put : (k : Kept) (rows row rows′ : List ℕ) (i : ℕ) → row ≡ rowIn rows k i → rows′ ≡ sets rows (16 * i) row → rows′ ≡ sets rows (16 * i) (rowIn rows k i)
@@ -72,7 +72,7 @@ pub put-end : (k : Kept) (old rows T : List ℕ) (i n : ℕ) → sets rows (16 *
 unfolding fromT
 put-end k old rows T i n inv h = let z : n - i ≡ 0 = omega arith in (rw z at inv)
 
-pub put-start : (k : Kept) (old : List ℕ) → 16 * (k .rows + k .scopes) ≤ length old → sets old (16 * 0) (fromT old k 0 (k .rows + k .scopes - 0)) ≡ sets old 0 (bodyT old k)
+pub put-start : (k : Kept) (old : List ℕ) → 16 * (k .rows + k .scopes) ≤ length old → sets old (16 * 0) (fromT old k 0 (k .rows + k .scopes - 0)) ≡ sets old 0 (mendedBodyT old k)
 put-start k old room =
     let z : k .rows + k .scopes - 0 ≡ k .rows + k .scopes = omega arith in
     ap (λ (n : ℕ). sets old 0 (fromT old k 0 n)) z ∙ ap (sets old 0) (from-body old k (omega arith))
@@ -82,12 +82,12 @@ pub ruleset put-ways = (put-size, put-turn, put-behind, put-end, put-start, need
 -- ---- the whole form
 
 -- what lies behind the rows that stay does not matter
-rows-within : (rows : List ℕ) (n i left : ℕ) → 16 * (i + left) ≤ n → rowsT (take n rows) i left ≡ rowsT rows i left
-unfolding rowsT
+rows-within : (rows : List ℕ) (n i left : ℕ) → 16 * (i + left) ≤ n → mendedRowsT (take n rows) i left ≡ mendedRowsT rows i left
+unfolding mendedRowsT
 rows-within rows n i zero h = refl
 rows-within rows n i (suc left) h =
-    let row : rowT (take n rows) (16 * i) 0 16 ≡ rowT rows (16 * i) 0 16 =
-    alone (take n rows) (16 * i) 0 16 (omega arith) ∙ (ap (λ (l : List ℕ). rowT l 0 0 16) (take-within rows (16 * i) 16 n (omega arith)) ∙ sym (alone rows (16 * i) 0 16 (omega arith))) in
+    let row : mendedRowT (take n rows) (16 * i) 0 16 ≡ mendedRowT rows (16 * i) 0 16 =
+    alone (take n rows) (16 * i) 0 16 (omega arith) ∙ (ap (λ (l : List ℕ). mendedRowT l 0 0 16) (take-within rows (16 * i) 16 n (omega arith)) ∙ sym (alone rows (16 * i) 0 16 (omega arith))) in
     ap₂ (λ (p q : List ℕ). p ++ q) row (rows-within rows n (i + 1) left (omega arith))
 
 drop-take : (h n : ℕ) (l : List ℕ) → h ≤ n → drop h (take n l) ≡ take (n - h) (drop h l)
@@ -100,8 +100,8 @@ drop-take (suc h) (suc n) [] e = none (suc n - suc h)
     none (suc m) = refl
 drop-take (suc h) (suc n) (x ∷ l) e = let z : n - h ≡ suc n - suc h = omega arith in drop-take h n l (omega arith) ∙ ap (λ (m : ℕ). take m (drop h l)) z
 
-pub body-within : (b : List ℕ) (long header : ℕ) (k : Kept) → header + 16 * k .rows ≤ long → bodyT (drop header (take long b)) k ≡ bodyT (drop header b) k
-unfolding bodyT
+pub body-within : (b : List ℕ) (long header : ℕ) (k : Kept) → header + 16 * k .rows ≤ long → mendedBodyT (drop header (take long b)) k ≡ mendedBodyT (drop header b) k
+unfolding mendedBodyT
 body-within b long header k h =
     rw (drop-take header long b (omega arith), rows-within (drop header b) (long - header) 0 (k .rows) (omega arith))
 
@@ -114,7 +114,7 @@ module _ (b b₁ body b₂ b₃ : List ℕ) (l : Limits) (k : Kept) (long header
   head-size = OutBytes.header-length (settingIn l) (k .rows + k .scopes) [] fits ∙ sym is
 
   abbrev rest : List ℕ
-  rest = bodyT (drop header b) k
+  rest = mendedBodyT (drop header b) k
 
   rest-size : length rest ≡ 16 * (k .rows + k .scopes)
   rest-size = body-size (drop header b) k
@@ -139,11 +139,11 @@ module _ (b b₁ body b₂ b₃ : List ℕ) (l : Limits) (k : Kept) (long header
     none-behind : drop (length b₁ - header) (drop header b₁) ≡ []
     none-behind = rw (← length-drop header b₁) (drop-length (drop header b₁))
 
-    module _ (f : body ≡ sets (take (length b₁ - header) (drop header b₁)) 0 (bodyT (take (length b₁ - header) (drop header b₁)) k)) (g : b₂ ≡ take header b₁ ++ (body ++ drop (length b₁ - header) (drop header b₁))) where
+    module _ (f : body ≡ sets (take (length b₁ - header) (drop header b₁)) 0 (mendedBodyT (take (length b₁ - header) (drop header b₁)) k)) (g : b₂ ≡ take header b₁ ++ (body ++ drop (length b₁ - header) (drop header b₁))) where
       all-put : b₂ ≡ sets b 0 (H ++ rest)
       all-put =
           let body-is : body ≡ rest ++ drop (16 * (k .rows + k .scopes)) (drop header b) =
-          f ∙ (ap (λ (x : List ℕ). sets x 0 (bodyT x k)) behind-head ∙ (sets-eq rest (drop header b) 0 (omega (arith, rest-size, length-drop header b)) ∙ ap (λ (m : ℕ). rest ++ drop m (drop header b)) (zero-add (length rest) ∙ rest-size))) in
+          f ∙ (ap (λ (x : List ℕ). sets x 0 (mendedBodyT x k)) behind-head ∙ (sets-eq rest (drop header b) 0 (omega (arith, rest-size, length-drop header b)) ∙ ap (λ (m : ℕ). rest ++ drop m (drop header b)) (zero-add (length rest) ∙ rest-size))) in
           let both : length (H ++ rest) ≡ header + 16 * (k .rows + k .scopes) = omega (arith, length-append H rest, head-size, rest-size) in
           let front : take header b₁ ≡ H = ap (take header) headed ∙ take-at H (drop header b) header head-size in
           let tail : drop (16 * (k .rows + k .scopes)) (drop header b) ≡ drop (0 + length (H ++ rest)) b = drop-drop (16 * (k .rows + k .scopes)) header b ∙ ap (λ (m : ℕ). drop m b) (sym (zero-add (length (H ++ rest)) ∙ both)) in

@@ -17,14 +17,14 @@ use Rattle.limits.specs.declared.Limits.{Limits}
 use Rattle.limits.specs.Held.{limitsOf, setting}
 use Rattle.mending.specs.Mend.{listBytes}
 use Rattle.mend_form.specs.Kept.{keptIn}
-use Rattle.mend_form.specs.Filled.{bodyT}
+use Rattle.mend_form.specs.Filled.{mendedBodyT}
 use Rattle.mend_form.specs.declared.Kept.{Kept}
 use Rattle.mend_form.proofs.Right.{rows-split}
 use Rattle.mend_list.specs.Listed.{listed, none, noted, changesIn}
 use Rattle.mend_list.specs.declared.Listed.{Listed}
-use Rattle.reader.specs.Readings.{readTo}
-use Rattle.reader.specs.declared.read.Reading.{Reading}
-use Rattle.reader.specs.declared.read.Reading.the-variants as reading
+use Rattle.reader.specs.ReadTo.{readTo}
+use Rattle.reader.specs.declared.read.RowsRead.{RowsRead}
+use Rattle.reader.specs.declared.read.RowsRead.the-variants as rowsRead
 use Rattle.mend.specs.Run.{Ran, refusedT, lettersT, asksT, placeT, newT, inPlace, writeT, readThen, roomT, toT, madeT}
 use Rattle.mend.specs.declared.run.Answer.{Answer}
 use Rattle.mend.specs.declared.run.Answer.the-variants.{Mended}
@@ -86,8 +86,8 @@ module _ (l : Limits) (old : List ℕ) (header : ℕ) (is : header ≡ l .header
   pub kept-is : (k : Kept) → k ≡ keptIn (take (length old - header) (drop header old)) → k ≡ keptIn (drop (l .header) old)
   kept-is k e = e ∙ ap keptIn behind
 
-  pub read-is : (r : Reading) → r ≡ readTo l (bodyT (take (length old - header) (drop header old)) (keptIn (take (length old - header) (drop header old)))) → r ≡ readTo l (bodyT (drop (l .header) old) (keptIn (drop (l .header) old)))
-  read-is r e = e ∙ ap (λ (b : List ℕ). readTo l (bodyT b (keptIn b))) behind
+  pub read-is : (r : RowsRead) → r ≡ readTo l (mendedBodyT (take (length old - header) (drop header old)) (keptIn (take (length old - header) (drop header old)))) → r ≡ readTo l (mendedBodyT (drop (l .header) old) (keptIn (drop (l .header) old)))
+  read-is r e = e ∙ ap (λ (b : List ℕ). readTo l (mendedBodyT b (keptIn b))) behind
 
 pub fits-first : (b : List ℕ) (n m : ℕ) → n ≤ length b → m ≤ n → m ≤ length (take n b)
 fits-first b n m h g = omega (arith, length-take-le n b h)
@@ -136,19 +136,19 @@ module _ (l : Limits) (buffer list : List ℕ) (long : ℕ) (k : Kept) where
   abbrev body : List ℕ
   body = drop (l .header) (take long buffer)
 
-  module _ (is : k ≡ keptIn body) (r : Reading) (v : r ≡ readTo l (bodyT body (keptIn body))) where
-    is-read : r ≡ readTo l (bodyT body k)
-    is-read = v ∙ ap (λ (x : Kept). readTo l (bodyT body x)) (sym is)
+  module _ (is : k ≡ keptIn body) (r : RowsRead) (v : r ≡ readTo l (mendedBodyT body (keptIn body))) where
+    is-read : r ≡ readTo l (mendedBodyT body k)
+    is-read = v ∙ ap (λ (x : Kept). readTo l (mendedBodyT body x)) (sym is)
 
-    pub read-broken : {a : Answer} (row : ℕ) → r ≡ reading.Broken row → a ≡ refusedT 4 (row % 4294967296) → a & buffer & list ≡ readThen (readTo l (bodyT body k)) l buffer long list k
+    pub read-broken : {a : Answer} (row : ℕ) → r ≡ rowsRead.Broken row → a ≡ refusedT 4 (row % 4294967296) → a & buffer & list ≡ readThen (readTo l (mendedBodyT body k)) l buffer long list k
     unfolding readThen
     read-broken row e f = rw (← is-read, e, f)
 
-    pub read-deep : {a : Answer} (row : ℕ) → r ≡ reading.Deep row → a ≡ refusedT 5 (row % 4294967296) → a & buffer & list ≡ readThen (readTo l (bodyT body k)) l buffer long list k
+    pub read-deep : {a : Answer} (row : ℕ) → r ≡ rowsRead.Deep row → a ≡ refusedT 5 (row % 4294967296) → a & buffer & list ≡ readThen (readTo l (mendedBodyT body k)) l buffer long list k
     unfolding readThen
     read-deep row e f = rw (← is-read, e, f)
 
-    pub read-whole : {a : Answer} {l₁ l₂ : List ℕ} → r ≡ reading.Whole → a & l₁ & l₂ ≡ writeT l buffer long list k → a & l₁ & l₂ ≡ readThen (readTo l (bodyT body k)) l buffer long list k
+    pub read-whole : {a : Answer} {l₁ l₂ : List ℕ} → r ≡ rowsRead.Whole → a & l₁ & l₂ ≡ writeT l buffer long list k → a & l₁ & l₂ ≡ readThen (readTo l (mendedBodyT body k)) l buffer long list k
     unfolding readThen
     read-whole e f = rw (← is-read, e) f
 
@@ -163,7 +163,7 @@ module _ (l : Limits) (buffer list : List ℕ) (long : ℕ) (k : Kept) where
     unfolding toT
     to-short e h = no! _ (asked ∙ not-true t h) (rw e)
 
-    pub to-whole : {x : Ran} → x ≡ readThen (readTo l (bodyT body k)) l buffer long list k → not t ≡ false → x ≡ toT l buffer long list k
+    pub to-whole : {x : Ran} → x ≡ readThen (readTo l (mendedBodyT body k)) l buffer long list k → not t ≡ false → x ≡ toT l buffer long list k
     unfolding toT
     to-whole f h = yes! _ (asked ∙ not-false t h) f
 

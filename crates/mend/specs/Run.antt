@@ -10,12 +10,12 @@ use Rattle.kit.specs.Out.{Out, _&_}
 use Rattle.rules.specs.Answer.{headerBytes}
 use Rattle.limits.specs.declared.Limits.{Limits}
 use Rattle.limits.specs.Held.{settingIn, limitsOf, setting}
-use Rattle.reader.specs.Readings.{readTo}
-use Rattle.reader.specs.declared.read.Reading.{Reading}
-use Rattle.reader.specs.declared.read.Reading.the-variants as reading
+use Rattle.reader.specs.ReadTo.{readTo}
+use Rattle.reader.specs.declared.read.RowsRead.{RowsRead}
+use Rattle.reader.specs.declared.read.RowsRead.the-variants as rowsRead
 use Rattle.mending.specs.Mend.{listBytes}
 use Rattle.mend_form.specs.Kept.{keptIn}
-use Rattle.mend_form.specs.Filled.{bodyT}
+use Rattle.mend_form.specs.Filled.{mendedBodyT}
 use Rattle.mend_form.specs.declared.Kept.{Kept}
 use Rattle.mend_list.specs.Listed.{changesIn}
 use Rattle.mend.specs.declared.run.Answer.{Answer}
@@ -52,7 +52,7 @@ placeT form =
 
 -- the mended form of which these rows stay
 unfoldable pub newT : Limits → (old : List ℕ) → Kept → List ℕ
-newT l old k = headerBytes (settingIn l) (k .rows + k .scopes) ++ bodyT (drop (l .header) old) k
+newT l old k = headerBytes (settingIn l) (k .rows + k .scopes) ++ mendedBodyT (drop (l .header) old) k
 
 -- puts the mended form in place of the first `long` bytes, and zeros where it is shorter
 unfoldable pub inPlace : (buffer : List ℕ) (long : ℕ) (form : List ℕ) → List ℕ
@@ -65,10 +65,10 @@ writeT l buffer long list k =
     Mended (length cs) & inPlace buffer long (newT l (take long buffer) k) & sets list 0 (listBytes cs)
 
 -- refusals 4 and 5 for a mended form that has room; then it is written
-unfoldable pub readThen : Reading → Limits → (buffer : List ℕ) (long : ℕ) (list : List ℕ) → Kept → Ran
-readThen (reading.Broken row) l buffer long list k = refusedT 4 (row % 4294967296) & buffer & list
-readThen (reading.Deep row) l buffer long list k = refusedT 5 (row % 4294967296) & buffer & list
-readThen reading.Whole l buffer long list k = writeT l buffer long list k
+unfoldable pub readThen : RowsRead → Limits → (buffer : List ℕ) (long : ℕ) (list : List ℕ) → Kept → Ran
+readThen (rowsRead.Broken row) l buffer long list k = refusedT 4 (row % 4294967296) & buffer & list
+readThen (rowsRead.Deep row) l buffer long list k = refusedT 5 (row % 4294967296) & buffer & list
+readThen rowsRead.Whole l buffer long list k = writeT l buffer long list k
 
 -- whether a form of this many bytes, and its list, have room
 unfoldable pub roomT : Limits → (old : List ℕ) (size room space : ℕ) → Bool
@@ -78,7 +78,7 @@ roomT l old size room space = pick (ltb room size) false (leb (length (listBytes
 unfoldable pub toT : Limits → (buffer : List ℕ) (long : ℕ) (list : List ℕ) → Kept → Ran
 toT l buffer long list k =
     pick (roomT l (take long buffer) (l .header + 16 * (k .rows + k .scopes)) (length buffer) (length list))
-    (readThen (readTo l (bodyT (drop (l .header) (take long buffer)) k)) l buffer long list k)
+    (readThen (readTo l (mendedBodyT (drop (l .header) (take long buffer)) k)) l buffer long list k)
     (refusedT 3 0 & buffer & list)
 
 -- mends a form that begins as one of these limits does

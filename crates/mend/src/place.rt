@@ -9,7 +9,7 @@ ghost use Prim.Native.Nat.{_+_, _*_, _-_, _/_, _≤_, _<_};
 ghost use lib.ListN.{length, take, drop, replicate};
 ghost use lib.Seq.{sets};
 ghost use Rattle.kit.specs.Pick.{pick};
-ghost use Rattle.mend_form.specs.Filled.{bodyT, rowIn};
+ghost use Rattle.mend_form.specs.Filled.{mendedBodyT, rowIn};
 ghost use Rattle.mend.specs.Run.{newT, inPlace};
 
 // A byte as a number.
@@ -43,7 +43,7 @@ fn put_row(rows: &mut [u8], kept: Kept, i: usize)
 // Mends the rows that stay, and puts the CLOSE rows behind them.
 fn put_rows(rows: &mut [u8], kept: Kept)
     requires { ⌜ 16 * (kept .rows + kept .scopes) ≤ length (now rows) ⌝ }
-    ensures { λ _. ⌜ now (rows .exit) ≡ sets (now (rows .entry)) 0 (bodyT (now (rows .entry)) kept) ⌝ }
+    ensures { λ _. ⌜ now (rows .exit) ≡ sets (now (rows .entry)) 0 (mendedBodyT (now (rows .entry)) kept) ⌝ }
 {
     let count = kept.rows + kept.scopes;
     let mut i = 0;

@@ -8,7 +8,7 @@ use mend_form::Kept;
 use mend_form::kept_in;
 use mend_list::list_changes;
 use mend_read::read_mended;
-use reader::read::Reading;
+use reader::read::RowsRead;
 use refusal::BROKEN;
 use refusal::DEEP;
 use refusal::NOT_A_FORM;
@@ -24,10 +24,10 @@ ghost use Rattle.kit.specs.Out.{_&_};
 ghost use Rattle.kit.specs.Pick.{pick};
 ghost use Rattle.rules.specs.Versions.{all};
 ghost use Rattle.limits.specs.Held.{limitsOf, setting};
-ghost use Rattle.reader.specs.Readings.{readTo};
+ghost use Rattle.reader.specs.ReadTo.{readTo};
 ghost use Rattle.mending.specs.Mend.{listBytes, mendBuffer, bufferAfter, listAfter};
 ghost use Rattle.mend_form.specs.Kept.{keptIn};
-ghost use Rattle.mend_form.specs.Filled.{bodyT};
+ghost use Rattle.mend_form.specs.Filled.{mendedBodyT};
 ghost use Rattle.mend_list.specs.Listed.{changesIn};
 ghost use Rattle.mend.specs.Meaning.{meaning, ruled};
 ghost use Rattle.mend.specs.Run.{refusedT, lettersT, asksT, placeT, writeT, readThen, roomT, toT, madeT};
@@ -100,9 +100,9 @@ fn kept_of(old: &[u8], limits: Limits) -> Kept
 }
 
 // What the rows are, once they are mended.
-fn read_of(old: &[u8], limits: Limits) -> Reading
+fn read_of(old: &[u8], limits: Limits) -> RowsRead
     requires { ⌜ limits .header ≤ length (now old) ⌝ }
-    ensures { λ r. ⌜ r ≡ readTo limits (bodyT (drop (limits .header) (now (old .entry))) (keptIn (drop (limits .header) (now (old .entry))))) ⌝ }
+    ensures { λ r. ⌜ r ≡ readTo limits (mendedBodyT (drop (limits .header) (now (old .entry))) (keptIn (drop (limits .header) (now (old .entry))))) ⌝ }
 {
     let header = wide(limits.header);
     read_mended(&old[header..], limits)
@@ -147,12 +147,12 @@ fn read_and_write(
 ) -> Answer
     requires { ⌜ (6 + pick (limits .wide) 4 2 ≤ limits .header) × (long ≤ length (now buffer)) × (limits .header + 16 * kept .rows ≤ long) × (limits .header + 16 * (kept .rows + kept .scopes) ≤ length (now buffer)) ⌝ }
     requires { ⌜ kept ≡ keptIn (drop (limits .header) (take long (now buffer))) ⌝ }
-    ensures { λ r. ⌜ (r & now (buffer .exit) & now (list .exit)) ≡ readThen (readTo limits (bodyT (drop (limits .header) (take long (now (buffer .entry)))) kept)) limits (now (buffer .entry)) long (now (list .entry)) kept ⌝ }
+    ensures { λ r. ⌜ (r & now (buffer .exit) & now (list .exit)) ≡ readThen (readTo limits (mendedBodyT (drop (limits .header) (take long (now (buffer .entry)))) kept)) limits (now (buffer .entry)) long (now (list .entry)) kept ⌝ }
 {
     match read_of(&buffer[..long], limits) {
-        Reading::Broken(row) => refused(BROKEN, (row % 4294967296) as u32),
-        Reading::Deep(row) => refused(DEEP, (row % 4294967296) as u32),
-        Reading::Whole => write(buffer, long, list, limits, kept),
+        RowsRead::Broken(row) => refused(BROKEN, (row % 4294967296) as u32),
+        RowsRead::Deep(row) => refused(DEEP, (row % 4294967296) as u32),
+        RowsRead::Whole => write(buffer, long, list, limits, kept),
     }
 }
 

@@ -18,7 +18,7 @@ use Rattle.rules.specs.Rows.{Close, encodeRow}
 use Rattle.rules.specs.Rows
 use Rattle.mending.specs.Mend.{closesRoot, depthAfter, closeRows}
 use Rattle.mend_form.specs.Kept.{kept, keptT, keptIn}
-use Rattle.mend_form.specs.Filled.{partAt, staysT, byteT, rowT, rowsT, bodyT, rowIn}
+use Rattle.mend_form.specs.Filled.{partAt, staysT, byteT, mendedRowT, mendedRowsT, mendedBodyT, rowIn}
 use Rattle.mend_form.specs.declared.Kept.{Kept}
 
 -- ---- depth_after
@@ -110,18 +110,18 @@ pub ruleset byte-ways = (byte-code, byte-low, byte-high, byte-outer, byte-stays,
 
 -- ---- the bytes of a row, one behind the other
 
-pub row-start : (rows new : List ℕ) (a : ℕ) → sets new 0 (rowT rows a 0 (16 - 0)) ≡ sets new 0 (rowT rows a 0 16)
+pub row-start : (rows new : List ℕ) (a : ℕ) → sets new 0 (mendedRowT rows a 0 (16 - 0)) ≡ sets new 0 (mendedRowT rows a 0 16)
 row-start rows new a = refl
 
-pub row-turn : (rows new T : List ℕ) (a j v : ℕ) → sets new j (rowT rows a j (16 - j)) ≡ T → j < 16
-    → v ≡ byteT (getD rows a 0) (getD rows (a + 1) 0) j (getD rows (a + j) 0) → sets (set new j v) (j + 1) (rowT rows a (j + 1) (16 - (j + 1))) ≡ T
-unfolding rowT
+pub row-turn : (rows new T : List ℕ) (a j v : ℕ) → sets new j (mendedRowT rows a j (16 - j)) ≡ T → j < 16
+    → v ≡ byteT (getD rows a 0) (getD rows (a + 1) 0) j (getD rows (a + j) 0) → sets (set new j v) (j + 1) (mendedRowT rows a (j + 1) (16 - (j + 1))) ≡ T
+unfolding mendedRowT
 row-turn rows new T a j v inv h e =
-    let next : sets (set new j v) (suc j) (rowT rows a (j + 1) (16 - (j + 1))) ≡ T = rw e (rw (left-suc j 16 h) at inv) in
-    ap (λ (n : ℕ). sets (set new j v) n (rowT rows a (j + 1) (16 - (j + 1)))) (add-one j) ∙ next
+    let next : sets (set new j v) (suc j) (mendedRowT rows a (j + 1) (16 - (j + 1))) ≡ T = rw e (rw (left-suc j 16 h) at inv) in
+    ap (λ (n : ℕ). sets (set new j v) n (mendedRowT rows a (j + 1) (16 - (j + 1)))) (add-one j) ∙ next
 
-pub row-size : (rows : List ℕ) (a j left : ℕ) → length (rowT rows a j left) ≡ left
-unfolding rowT
+pub row-size : (rows : List ℕ) (a j left : ℕ) → length (mendedRowT rows a j left) ≡ left
+unfolding mendedRowT
 row-size rows a j zero = refl
 row-size rows a j (suc left) = ap suc (row-size rows a (j + 1) left)
 
@@ -130,14 +130,14 @@ all-stored start vs size wide =
     let past : drop (0 + length vs) start ≡ [] = ap (λ (n : ℕ). drop n start) (zero-add (length vs) ∙ (wide ∙ sym size)) ∙ drop-length start in
     sets-eq vs start 0 (omega arith) ∙ (ap (λ (l : List ℕ). vs ++ l) past ∙ append-nil vs)
 
-none-left : (rows new T : List ℕ) (a j : ℕ) → sets new j (rowT rows a j 0) ≡ T → new ≡ T
-unfolding rowT
+none-left : (rows new T : List ℕ) (a j : ℕ) → sets new j (mendedRowT rows a j 0) ≡ T → new ≡ T
+unfolding mendedRowT
 none-left rows new T a j e = e
 
-pub row-end : (rows new start : List ℕ) (a j : ℕ) → sets new j (rowT rows a j (16 - j)) ≡ sets start 0 (rowT rows a 0 16) → 16 ≤ j → length start ≡ 16 → new ≡ rowT rows a 0 16
+pub row-end : (rows new start : List ℕ) (a j : ℕ) → sets new j (mendedRowT rows a j (16 - j)) ≡ sets start 0 (mendedRowT rows a 0 16) → 16 ≤ j → length start ≡ 16 → new ≡ mendedRowT rows a 0 16
 row-end rows new start a j inv h size =
     let z : 16 - j ≡ 0 = omega arith in
-    none-left rows new _ a j (rw z at inv) ∙ all-stored start (rowT rows a 0 16) size (row-size rows a 0 16)
+    none-left rows new _ a j (rw z at inv) ∙ all-stored start (mendedRowT rows a 0 16) size (row-size rows a 0 16)
 
 pub ruleset row-ways = (row-start, row-turn, row-end, needs)
 
@@ -157,7 +157,7 @@ module _ (rows : List ℕ) (k : Kept) (i : ℕ) where
     unfolding rowIn
     row-none g = no! _ (omega tests) (yes! _ (omega tests) refl)
 
-    pub row-stays : {r : List ℕ} → r ≡ rowT rows (16 * i) 0 16 → i < length rows / 16 → r ≡ rowIn rows k i
+    pub row-stays : {r : List ℕ} → r ≡ mendedRowT rows (16 * i) 0 16 → i < length rows / 16 → r ≡ rowIn rows k i
     unfolding rowIn
     row-stays e g = no! _ (omega tests) (no! _ (omega tests) e)
 
@@ -165,10 +165,10 @@ pub ruleset of-ways = (row-behind, row-past, row-none, row-stays, needs)
 
 -- ---- how long they are
 
-pub rows-size : (rows : List ℕ) (i left : ℕ) → length (rowsT rows i left) ≡ 16 * left
-unfolding rowsT
+pub rows-size : (rows : List ℕ) (i left : ℕ) → length (mendedRowsT rows i left) ≡ 16 * left
+unfolding mendedRowsT
 rows-size rows i zero = refl
-rows-size rows i (suc left) = omega (arith, row-size rows (16 * i) 0 16, rows-size rows (i + 1) left, length-append (rowT rows (16 * i) 0 16) (rowsT rows (i + 1) left))
+rows-size rows i (suc left) = omega (arith, row-size rows (16 * i) 0 16, rows-size rows (i + 1) left, length-append (mendedRowT rows (16 * i) 0 16) (mendedRowsT rows (i + 1) left))
 
 pub close-size : length (encodeRow Close) ≡ 16
 unfolding Rows.computes
@@ -179,6 +179,6 @@ unfolding closeRows
 close-rows-size zero = refl
 close-rows-size (suc n) = omega (arith, close-size, close-rows-size n, length-append (encodeRow Close) (closeRows n))
 
-pub body-size : (rows : List ℕ) (k : Kept) → length (bodyT rows k) ≡ 16 * (k .rows + k .scopes)
-unfolding bodyT
-body-size rows k = omega (arith, rows-size rows 0 (k .rows), close-rows-size (k .scopes), length-append (rowsT rows 0 (k .rows)) (closeRows (k .scopes)))
+pub body-size : (rows : List ℕ) (k : Kept) → length (mendedBodyT rows k) ≡ 16 * (k .rows + k .scopes)
+unfolding mendedBodyT
+body-size rows k = omega (arith, rows-size rows 0 (k .rows), close-rows-size (k .scopes), length-append (mendedRowsT rows 0 (k .rows)) (closeRows (k .scopes)))

@@ -15,7 +15,7 @@ use Rattle.rules.specs.Rows.{value, bytes}
 use Rattle.mending.specs.Mend.{Piece, piece, afters, Fate, stays, fates, fated, parts, rowPieces, closesRoot, depthAfter, closeRows, allRows}
 use Rattle.mending.specs.Laws.Pieces.{afters-append}
 use Rattle.mend_form.specs.Kept.{kept, keptT, keptIn}
-use Rattle.mend_form.specs.Filled.{partAt, staysT, byteT, rowT, rowsT, bodyT}
+use Rattle.mend_form.specs.Filled.{partAt, staysT, byteT, mendedRowT, mendedRowsT, mendedBodyT}
 use Rattle.mend_form.specs.declared.Kept.{Kept}
 
 -- ---- a row
@@ -29,10 +29,10 @@ widths = 1 ∷ 1 ∷ 2 ∷ 4 ∷ 4 ∷ 4 ∷ []
 
 -- the bytes of a row, by its code
 abbrev Mends : (c b e f x₀ x₁ x₂ x₃ y₀ y₁ y₂ y₃ z₀ z₁ z₂ z₃ : ℕ) → Type 0
-Mends c b e f x₀ x₁ x₂ x₃ y₀ y₁ y₂ y₃ z₀ z₁ z₂ z₃ = rowT (c ∷ b ∷ e ∷ f ∷ x₀ ∷ x₁ ∷ x₂ ∷ x₃ ∷ y₀ ∷ y₁ ∷ y₂ ∷ y₃ ∷ z₀ ∷ z₁ ∷ z₂ ∷ z₃ ∷ []) 0 0 16 ≡ afters (parts widths (stays ∷ fates c b) (c ∷ b ∷ e ∷ f ∷ x₀ ∷ x₁ ∷ x₂ ∷ x₃ ∷ y₀ ∷ y₁ ∷ y₂ ∷ y₃ ∷ z₀ ∷ z₁ ∷ z₂ ∷ z₃ ∷ []))
+Mends c b e f x₀ x₁ x₂ x₃ y₀ y₁ y₂ y₃ z₀ z₁ z₂ z₃ = mendedRowT (c ∷ b ∷ e ∷ f ∷ x₀ ∷ x₁ ∷ x₂ ∷ x₃ ∷ y₀ ∷ y₁ ∷ y₂ ∷ y₃ ∷ z₀ ∷ z₁ ∷ z₂ ∷ z₃ ∷ []) 0 0 16 ≡ afters (parts widths (stays ∷ fates c b) (c ∷ b ∷ e ∷ f ∷ x₀ ∷ x₁ ∷ x₂ ∷ x₃ ∷ y₀ ∷ y₁ ∷ y₂ ∷ y₃ ∷ z₀ ∷ z₁ ∷ z₂ ∷ z₃ ∷ []))
 
 field-row : (b e f x₀ x₁ x₂ x₃ y₀ y₁ y₂ y₃ z₀ z₁ z₂ z₃ : ℕ) (t u : Bool) → eqb b 19 ≡ t → eqb b 22 ≡ u → Mends 1 b e f x₀ x₁ x₂ x₃ y₀ y₁ y₂ y₃ z₀ z₁ z₂ z₃
-unfolding rowT byteT staysT partAt pick fates fated parts afters bytes value if_then_else_
+unfolding mendedRowT byteT staysT partAt pick fates fated parts afters bytes value if_then_else_
 field-row b e f x₀ x₁ x₂ x₃ y₀ y₁ y₂ y₃ z₀ z₁ z₂ z₃ true u p q = rw p
 field-row b e f x₀ x₁ x₂ x₃ y₀ y₁ y₂ y₃ z₀ z₁ z₂ z₃ false true p q = rw (p, q)
 field-row b e f x₀ x₁ x₂ x₃ y₀ y₁ y₂ y₃ z₀ z₁ z₂ z₃ false false p q = rw (p, q)
@@ -45,7 +45,7 @@ two-low e f =
     ap₂ (λ (v w : ℕ). v ∷ w ∷ []) p q
 
 outer-row : (b e f x₀ x₁ x₂ x₃ y₀ y₁ y₂ y₃ z₀ z₁ z₂ z₃ : ℕ) → Mends 5 b e f x₀ x₁ x₂ x₃ y₀ y₁ y₂ y₃ z₀ z₁ z₂ z₃
-unfolding rowT byteT staysT partAt pick fates fated parts afters
+unfolding mendedRowT byteT staysT partAt pick fates fated parts afters
 outer-row b e f x₀ x₁ x₂ x₃ y₀ y₁ y₂ y₃ z₀ z₁ z₂ z₃ =
     ap (λ (l : List ℕ). 5 ∷ b ∷ (l ++ (x₀ ∷ x₁ ∷ x₂ ∷ x₃ ∷ y₀ ∷ y₁ ∷ y₂ ∷ y₃ ∷ z₀ ∷ z₁ ∷ z₂ ∷ z₃ ∷ []))) (two-low e f)
 
@@ -57,7 +57,7 @@ no-fates c b h = past-ten _ _ _ _ _ _ _ _ _ _ c h
     past-ten f₀ f₁ f₂ f₃ f₄ f₅ f₆ f₇ f₈ f₉ n g = List·getD-eq-default (f₀ ∷ f₁ ∷ f₂ ∷ f₃ ∷ f₄ ∷ f₅ ∷ f₆ ∷ f₇ ∷ f₈ ∷ f₉ ∷ []) [] g
 
 other-row : (c b e f x₀ x₁ x₂ x₃ y₀ y₁ y₂ y₃ z₀ z₁ z₂ z₃ : ℕ) → 10 ≤ c → Mends c b e f x₀ x₁ x₂ x₃ y₀ y₁ y₂ y₃ z₀ z₁ z₂ z₃
-unfolding rowT byteT staysT partAt pick fates fated parts afters bytes value if_then_else_
+unfolding mendedRowT byteT staysT partAt pick fates fated parts afters bytes value if_then_else_
 other-row c b e f x₀ x₁ x₂ x₃ y₀ y₁ y₂ y₃ z₀ z₁ z₂ z₃ h =
     let h₁ : eqb c 1 ≡ false = omega tests in
     let h₂ : eqb c 2 ≡ false = omega tests in
@@ -71,7 +71,7 @@ other-row c b e f x₀ x₁ x₂ x₃ y₀ y₁ y₂ y₃ z₀ z₁ z₂ z₃ h 
     rw (none, h₁, h₂, h₄, h₅, h₆, h₇, h₈, h₉)
 
 by-code : (c b e f x₀ x₁ x₂ x₃ y₀ y₁ y₂ y₃ z₀ z₁ z₂ z₃ : ℕ) → Mends c b e f x₀ x₁ x₂ x₃ y₀ y₁ y₂ y₃ z₀ z₁ z₂ z₃
-unfolding rowT byteT staysT partAt pick fates fated parts afters bytes value if_then_else_
+unfolding mendedRowT byteT staysT partAt pick fates fated parts afters bytes value if_then_else_
 by-code zero b e f x₀ x₁ x₂ x₃ y₀ y₁ y₂ y₃ z₀ z₁ z₂ z₃ = refl
 by-code (suc zero) b e f x₀ x₁ x₂ x₃ y₀ y₁ y₂ y₃ z₀ z₁ z₂ z₃ = field-row b e f x₀ x₁ x₂ x₃ y₀ y₁ y₂ y₃ z₀ z₁ z₂ z₃ (eqb b 19) (eqb b 22) refl refl
 by-code (suc (suc zero)) b e f x₀ x₁ x₂ x₃ y₀ y₁ y₂ y₃ z₀ z₁ z₂ z₃ = refl
@@ -84,7 +84,7 @@ by-code (suc (suc (suc (suc (suc (suc (suc (suc zero)))))))) b e f x₀ x₁ x�
 by-code (suc (suc (suc (suc (suc (suc (suc (suc (suc zero))))))))) b e f x₀ x₁ x₂ x₃ y₀ y₁ y₂ y₃ z₀ z₁ z₂ z₃ = refl
 by-code (suc (suc (suc (suc (suc (suc (suc (suc (suc (suc n)))))))))) b e f x₀ x₁ x₂ x₃ y₀ y₁ y₂ y₃ z₀ z₁ z₂ z₃ = other-row (suc (suc (suc (suc (suc (suc (suc (suc (suc (suc n)))))))))) b e f x₀ x₁ x₂ x₃ y₀ y₁ y₂ y₃ z₀ z₁ z₂ z₃ (omega arith)
 
-row-right : (row : List ℕ) → length row ≡ 16 → rowT row 0 0 16 ≡ afters (rowPieces row)
+row-right : (row : List ℕ) → length row ≡ 16 → mendedRowT row 0 0 16 ≡ afters (rowPieces row)
 unfolding rowPieces
 row-right [] h = absurd (omega arith)
 row-right (c ∷ []) h = absurd (omega arith)
@@ -106,8 +106,8 @@ row-right (c ∷ b ∷ e ∷ f ∷ x₀ ∷ x₁ ∷ x₂ ∷ x₃ ∷ y₀ ∷ 
 row-right (c ∷ b ∷ e ∷ f ∷ x₀ ∷ x₁ ∷ x₂ ∷ x₃ ∷ y₀ ∷ y₁ ∷ y₂ ∷ y₃ ∷ z₀ ∷ z₁ ∷ z₂ ∷ z₃ ∷ v ∷ rest) h = absurd (omega arith)
 
 -- the row at byte a
-pub alone : (rows : List ℕ) (a j left : ℕ) → j + left ≤ 16 → rowT rows a j left ≡ rowT (take 16 (drop a rows)) 0 j left
-unfolding rowT
+pub alone : (rows : List ℕ) (a j left : ℕ) → j + left ≤ 16 → mendedRowT rows a j left ≡ mendedRowT (take 16 (drop a rows)) 0 j left
+unfolding mendedRowT
 alone rows a j zero h = refl
 alone rows a j (suc left) h =
     let at : (k : ℕ) → k < 16 → getD rows (a + k) 0 ≡ getD (take 16 (drop a rows)) k 0 = λ k g. sym (getD-take 16 (drop a rows) k 0 g ∙ getD-drop a rows k 0) in
@@ -115,7 +115,7 @@ alone rows a j (suc left) h =
     let zeroth : getD (take 16 (drop a rows)) (0 + j) 0 ≡ getD (take 16 (drop a rows)) j 0 = ap (λ (n : ℕ). getD (take 16 (drop a rows)) n 0) (zero-add j) in
     ap₂ (λ (v : ℕ) (l : List ℕ). v ∷ l) (rw (here, at 1 (omega arith), at j (omega arith), zeroth)) (alone rows a (j + 1) left (omega arith))
 
-pub row-at : (rows : List ℕ) (a : ℕ) → a + 16 ≤ length rows → rowT rows a 0 16 ≡ afters (rowPieces (take 16 (drop a rows)))
+pub row-at : (rows : List ℕ) (a : ℕ) → a + 16 ≤ length rows → mendedRowT rows a 0 16 ≡ afters (rowPieces (take 16 (drop a rows)))
 row-at rows a h = alone rows a 0 16 (omega arith) ∙ row-right (take 16 (drop a rows)) (length-take-le 16 (drop a rows) (omega (arith, length-drop a rows)))
 
 -- ---- the rows that stay
@@ -125,8 +125,8 @@ unfoldable pub keptPieces : (rows : List ℕ) (i left : ℕ) → List Piece
 keptPieces rows i zero = []
 keptPieces rows i (suc left) = rowPieces (take 16 (drop (16 * i) rows)) ++ keptPieces rows (i + 1) left
 
-kept-afters : (rows : List ℕ) (i left : ℕ) → 16 * (i + left) ≤ length rows → afters (keptPieces rows i left) ≡ rowsT rows i left
-unfolding keptPieces rowsT
+kept-afters : (rows : List ℕ) (i left : ℕ) → 16 * (i + left) ≤ length rows → afters (keptPieces rows i left) ≡ mendedRowsT rows i left
+unfolding keptPieces mendedRowsT
 kept-afters rows i zero h = unfold afters in refl
 kept-afters rows i (suc left) h =
     afters-append (rowPieces (take 16 (drop (16 * i) rows))) (keptPieces rows (i + 1) left)
@@ -194,8 +194,8 @@ rows-split rows =
       omega (arith, s .few, e),
     )
 
-pub body-right : (rows : List ℕ) → afters (allRows 0 (length rows / 16) rows) ≡ bodyT rows (keptIn rows)
-unfolding bodyT
+pub body-right : (rows : List ℕ) → afters (allRows 0 (length rows / 16) rows) ≡ mendedBodyT rows (keptIn rows)
+unfolding mendedBodyT
 body-right rows =
     let s = rows-split rows in
     ap afters (s .0) ∙ (afters-append (keptPieces rows 0 (keptIn rows .rows)) _ ∙ ap₂ (λ (p q : List ℕ). p ++ q) (kept-afters rows 0 (keptIn rows .rows) (omega (arith, s .1))) (one _))

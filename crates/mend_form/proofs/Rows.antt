@@ -12,9 +12,9 @@ use lib.Seq.{take-at, drop-at, drop-drop, getD-take, getD-drop}
 use Rattle.kit.specs.Pick.{pick}
 use Rattle.kit.proofs.Laws.{tests, lt-or-le, yes!, no! }
 use Rattle.rules.specs.Rows.{Close, encodeRow}
-use Rattle.parts.specs.Apart.{parts, partsIn, partsAt}
+use Rattle.parts.specs.PartsAt.{parts, partsIn, partsAt}
 use Rattle.mending.specs.Mend.{closeRows}
-use Rattle.mend_form.specs.Filled.{rowT, rowsT, bodyT, rowIn, fromT}
+use Rattle.mend_form.specs.Filled.{mendedRowT, mendedRowsT, mendedBodyT, rowIn, fromT}
 use Rattle.mend_form.specs.declared.Kept.{Kept}
 use Rattle.mend_form.proofs.Laws.{row-behind, row-past, row-stays, row-size, close-size, body-size}
 use Rattle.mend_form.proofs.Right.{alone}
@@ -30,19 +30,19 @@ module _ (rows : List ℕ) (k : Kept) where
   from-closes i (suc left) h e = ap₂ (λ (p q : List ℕ). p ++ q) (closed i h (omega arith)) (from-closes (i + 1) left (omega arith) (omega arith))
 
   module _ (there : k .rows ≤ length rows / 16) where
-    from-rows : (i n : ℕ) → i + n ≡ k .rows → fromT rows k i (n + k .scopes) ≡ rowsT rows i n ++ closeRows (k .scopes)
-    unfolding fromT rowsT
+    from-rows : (i n : ℕ) → i + n ≡ k .rows → fromT rows k i (n + k .scopes) ≡ mendedRowsT rows i n ++ closeRows (k .scopes)
+    unfolding fromT mendedRowsT
     from-rows i zero e = ap (fromT rows k i) (zero-add (k .scopes)) ∙ from-closes i (k .scopes) (omega arith) (omega arith)
     from-rows i (suc n) e =
-        let row : rowIn rows k i ≡ rowT rows (16 * i) 0 16 = sym (row-stays rows k i (omega arith) refl (omega arith)) in
-        ap (fromT rows k i) (suc-plus n) ∙ (unfold fromT in (ap₂ (λ (p q : List ℕ). p ++ q) row (from-rows (i + 1) n (omega arith)) ∙ sym (append-assoc (rowT rows (16 * i) 0 16) (rowsT rows (i + 1) n) (closeRows (k .scopes)))))
+        let row : rowIn rows k i ≡ mendedRowT rows (16 * i) 0 16 = sym (row-stays rows k i (omega arith) refl (omega arith)) in
+        ap (fromT rows k i) (suc-plus n) ∙ (unfold fromT in (ap₂ (λ (p q : List ℕ). p ++ q) row (from-rows (i + 1) n (omega arith)) ∙ sym (append-assoc (mendedRowT rows (16 * i) 0 16) (mendedRowsT rows (i + 1) n) (closeRows (k .scopes)))))
       where
         suc-plus : (m : ℕ) → suc m + k .scopes ≡ suc (m + k .scopes)
         suc-plus m = omega arith
 
     -- the rows one behind the other are all of the mended form
-    pub from-body : fromT rows k 0 (k .rows + k .scopes) ≡ bodyT rows k
-    unfolding bodyT
+    pub from-body : fromT rows k 0 (k .rows + k .scopes) ≡ mendedBodyT rows k
+    unfolding mendedBodyT
     from-body = from-rows 0 (k .rows) (zero-add (k .rows))
 
   pub in-size : (i : ℕ) → length (rowIn rows k i) ≡ 16
@@ -50,7 +50,7 @@ module _ (rows : List ℕ) (k : Kept) where
   in-size i = go (lt-or-le i (k .rows)) (lt-or-le (i - k .rows) (k .scopes)) (lt-or-le i (length rows / 16))
     where
       go : (i < k .rows) ⊎ (k .rows ≤ i) → (i - k .rows < k .scopes) ⊎ (k .scopes ≤ i - k .rows) → (i < length rows / 16) ⊎ (length rows / 16 ≤ i)
-          → length (pick (leb (k .rows) i) (pick (ltb (i - k .rows) (k .scopes)) (encodeRow Close) (replicate 16 0)) (pick (leb (length rows / 16) i) (replicate 16 0) (rowT rows (16 * i) 0 16))) ≡ 16
+          → length (pick (leb (k .rows) i) (pick (ltb (i - k .rows) (k .scopes)) (encodeRow Close) (replicate 16 0)) (pick (leb (length rows / 16) i) (replicate 16 0) (mendedRowT rows (16 * i) 0 16))) ≡ 16
       go (inl a) b (inl c) =
           let t : leb (k .rows) i ≡ false = omega tests in
           let u : leb (length rows / 16) i ≡ false = omega tests in
@@ -81,7 +81,7 @@ module _ (rows : List ℕ) (k : Kept) where
       ap₂ (λ (d m : ℕ). drop d (fromT rows k i m)) far more ∙ (sym (drop-drop (16 * j) 16 (fromT rows k i (suc (j + n)))) ∙ (ap (drop (16 * j)) (behind i (j + n)) ∙ (from-drop (i + 1) j n ∙ ap (λ (m : ℕ). fromT rows k m n) at)))
 
   -- row i of the mended form
-  pub body-row : k .rows ≤ length rows / 16 → (i : ℕ) → i < k .rows + k .scopes → take 16 (drop (16 * i) (bodyT rows k)) ≡ rowIn rows k i
+  pub body-row : k .rows ≤ length rows / 16 → (i : ℕ) → i < k .rows + k .scopes → take 16 (drop (16 * i) (mendedBodyT rows k)) ≡ rowIn rows k i
   unfolding fromT
   body-row there i h =
       let n = k .rows + k .scopes - (i + 1) in
@@ -103,13 +103,13 @@ parts-alone l i h row e size =
     rw (t, u, zeroth, at 1 (omega arith), plus 2 1, plus 4 1, plus 4 2, plus 4 3, plus 8 1, plus 8 2, plus 8 3, plus 12 1, plus 12 2, plus 12 3, at 2 (omega arith), at 3 (omega arith), at 4 (omega arith), at 5 (omega arith), at 6 (omega arith), at 7 (omega arith), at 8 (omega arith), at 9 (omega arith), at 10 (omega arith), at 11 (omega arith), at 12 (omega arith), at 13 (omega arith), at 14 (omega arith), at 15 (omega arith))
 
 -- those of row i of the mended form, also where it has none
-parts-past : (rows : List ℕ) (k : Kept) (i : ℕ) → k .rows + k .scopes ≤ i → partsAt (bodyT rows k) i ≡ partsAt (replicate 16 0) 0
+parts-past : (rows : List ℕ) (k : Kept) (i : ℕ) → k .rows + k .scopes ≤ i → partsAt (mendedBodyT rows k) i ≡ partsAt (replicate 16 0) 0
 unfolding partsAt partsIn pick
-parts-past rows k i h = let t : leb (length (bodyT rows k) / 16) i ≡ true = omega (tests, body-size rows k) in rw t
+parts-past rows k i h = let t : leb (length (mendedBodyT rows k) / 16) i ≡ true = omega (tests, body-size rows k) in rw t
 
-pub parts-body : (rows : List ℕ) (k : Kept) → k .rows ≤ length rows / 16 → (i : ℕ) → partsAt (bodyT rows k) i ≡ partsAt (rowIn rows k i) 0
+pub parts-body : (rows : List ℕ) (k : Kept) → k .rows ≤ length rows / 16 → (i : ℕ) → partsAt (mendedBodyT rows k) i ≡ partsAt (rowIn rows k i) 0
 parts-body rows k there i = go (lt-or-le i (k .rows + k .scopes))
   where
-    go : (i < k .rows + k .scopes) ⊎ (k .rows + k .scopes ≤ i) → partsAt (bodyT rows k) i ≡ partsAt (rowIn rows k i) 0
-    go (inl h) = parts-alone (bodyT rows k) i (omega (arith, body-size rows k)) (rowIn rows k i) (body-row rows k there i h) (in-size rows k i)
+    go : (i < k .rows + k .scopes) ⊎ (k .rows + k .scopes ≤ i) → partsAt (mendedBodyT rows k) i ≡ partsAt (rowIn rows k i) 0
+    go (inl h) = parts-alone (mendedBodyT rows k) i (omega (arith, body-size rows k)) (rowIn rows k i) (body-row rows k there i h) (in-size rows k i)
     go (inr h) = parts-past rows k i h ∙ ap (λ (l : List ℕ). partsAt l 0) (row-past rows k i (omega arith) (omega arith))

@@ -32,24 +32,24 @@ byteT code b j byte =
     (pick (staysT code b (partAt j)) byte 0))
 
 -- `left` bytes from byte j on, of the row at byte a
-unfoldable pub rowT : (rows : List ℕ) (a j left : ℕ) → List ℕ
-rowT rows a j zero = []
-rowT rows a j (suc left) = byteT (getD rows a 0) (getD rows (a + 1) 0) j (getD rows (a + j) 0) ∷ rowT rows a (j + 1) left
+unfoldable pub mendedRowT : (rows : List ℕ) (a j left : ℕ) → List ℕ
+mendedRowT rows a j zero = []
+mendedRowT rows a j (suc left) = byteT (getD rows a 0) (getD rows (a + 1) 0) j (getD rows (a + j) 0) ∷ mendedRowT rows a (j + 1) left
 
 -- `left` rows from row i on
-unfoldable pub rowsT : (rows : List ℕ) (i left : ℕ) → List ℕ
-rowsT rows i zero = []
-rowsT rows i (suc left) = rowT rows (16 * i) 0 16 ++ rowsT rows (i + 1) left
+unfoldable pub mendedRowsT : (rows : List ℕ) (i left : ℕ) → List ℕ
+mendedRowsT rows i zero = []
+mendedRowsT rows i (suc left) = mendedRowT rows (16 * i) 0 16 ++ mendedRowsT rows (i + 1) left
 
 -- all rows of the mended form, of which these stay
-unfoldable pub bodyT : (rows : List ℕ) → Kept → List ℕ
-bodyT rows k = rowsT rows 0 (k .rows) ++ closeRows (k .scopes)
+unfoldable pub mendedBodyT : (rows : List ℕ) → Kept → List ℕ
+mendedBodyT rows k = mendedRowsT rows 0 (k .rows) ++ closeRows (k .scopes)
 
 -- row i of them, all zero where there is none
 unfoldable pub rowIn : (rows : List ℕ) → Kept → (i : ℕ) → List ℕ
 rowIn rows k i =
     pick (leb (k .rows) i) (pick (ltb (i - k .rows) (k .scopes)) (encodeRow Close) (replicate 16 0))
-    (pick (leb (length rows / 16) i) (replicate 16 0) (rowT rows (16 * i) 0 16))
+    (pick (leb (length rows / 16) i) (replicate 16 0) (mendedRowT rows (16 * i) 0 16))
 
 -- `left` of them from row i on
 unfoldable pub fromT : (rows : List ℕ) → Kept → (i left : ℕ) → List ℕ

@@ -6,7 +6,7 @@ ghost use Prim.Native.Nat.{_+_, _*_, _/_, _≤_, _<_};
 ghost use lib.ListN.{length};
 ghost use Rattle.mending.specs.Mend.{closesRoot, depthAfter};
 ghost use Rattle.mend_form.specs.Kept.{keptIn};
-ghost use Rattle.mend_form.specs.Filled.{partAt, staysT, byteT, rowT, rowIn};
+ghost use Rattle.mend_form.specs.Filled.{partAt, staysT, byteT, mendedRowT, rowIn};
 
 // The rows that stay, the first ones, and the scopes that are open behind them.
 pub struct Kept {
@@ -115,7 +115,7 @@ fn mended_byte(code: u8, b: u8, j: usize, byte: u8) -> u8
 // Row i as it is mended.
 fn mended_row(rows: &[u8], i: usize) -> [u8; 16]
     requires { ⌜ 16 * (i + 1) ≤ length (now rows) ⌝ }
-    ensures { λ r. ⌜ r ≡ rowT (now (rows .entry)) (16 * i) 0 16 ⌝ }
+    ensures { λ r. ⌜ r ≡ mendedRowT (now (rows .entry)) (16 * i) 0 16 ⌝ }
 {
     let a = 16 * i;
     let code = rows[a];

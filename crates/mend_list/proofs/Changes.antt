@@ -23,11 +23,11 @@ use Rattle.mending.specs.Mend.{Piece, piece, afters, Change, changes, Fate, sta
 use Rattle.mending.specs.Laws.Pieces.{Stays, lists-same, stays-changes}
 use Rattle.mending.specs.Laws.Undone.{bytes-length}
 use Rattle.mend_form.specs.Kept.{kept, keptT, keptIn}
-use Rattle.mend_form.specs.Filled.{rowT, bodyT, rowIn}
+use Rattle.mend_form.specs.Filled.{mendedRowT, mendedBodyT, rowIn}
 use Rattle.mend_form.specs.declared.Kept.{Kept}
 use Rattle.mend_form.proofs.Laws.{row-size, row-stays, body-size, close-rows-size}
 use Rattle.mend_form.proofs.Right.{keptPieces, row-at, rows-split, body-right}
-use Rattle.mend_list.specs.Listed.{change, pieceChanges, widthT, rowChanges, rowsChanges, headT, headChanges, restChanges, allChanges, changesIn}
+use Rattle.mend_list.specs.Listed.{change, pieceChanges, widthT, rowChanges, rowsChanges, headerOfT, headChanges, restChanges, allChanges, changesIn}
 
 -- ---- pieces one behind the other
 
@@ -132,8 +132,8 @@ module _ (header : ℕ) (old : List ℕ) (k : Kept) (there : header + 16 * k .ro
       let a = header + 16 * i in
       let row = take 16 (drop (16 * i) rows) in
       let here : drop (16 * i) rows ≡ drop a old = drop-drop (16 * i) header old in
-      let made : rowIn rows k i ≡ rowT rows (16 * i) 0 16 = sym (row-stays rows k i (omega arith) refl (omega (arith, length-drop header old))) in
-      let is : rowT rows (16 * i) 0 16 ≡ afters (rowPieces row) = row-at rows (16 * i) (omega (arith, length-drop header old)) in
+      let made : rowIn rows k i ≡ mendedRowT rows (16 * i) 0 16 = sym (row-stays rows k i (omega arith) refl (omega (arith, length-drop header old))) in
+      let is : mendedRowT rows (16 * i) 0 16 ≡ afters (rowPieces row) = row-at rows (16 * i) (omega (arith, length-drop header old)) in
       let wide : length (rowIn rows k i) ≡ 16 = ap length made ∙ row-size rows (16 * i) 0 16 in
       let size : a + length (afters (rowPieces row)) ≡ header + 16 * (i + 1) = omega (arith, sym (ap length is), row-size rows (16 * i) 0 16) in
       let last : i + 1 + left ≡ i + suc left = omega arith in
@@ -264,24 +264,24 @@ module _ (l : Limits) (count : ℕ) (room : 6 + pick (l .wide) 4 2 ≤ l .header
   unfolding headerBytes settingIn mark bytes
   header-size = omega (arith, length-append Bc zeros, bytes-length c count, length-replicate {A = ℕ} w 0)
 
-  head-is : headT l count ≡ headerBytes (settingIn l) count ++ drop (l .header) (replicate 16 0)
-  unfolding headT
+  head-is : headerOfT l count ≡ headerBytes (settingIn l) count ++ drop (l .header) (replicate 16 0)
+  unfolding headerOfT
   head-is = sets-eq (headerBytes (settingIn l) count) (replicate 16 0) 0 (omega (arith, header-size, length-replicate {A = ℕ} 16 0)) ∙ rw (header-size, zero-add)
 
-  byte-five : take 1 (drop 5 (headT l count)) ≡ bytes 1 (l .rules)
+  byte-five : take 1 (drop 5 (headerOfT l count)) ≡ bytes 1 (l .rules)
   unfolding headerBytes settingIn mark bytes
   byte-five = rw head-is
 
-  behind-mark : drop 6 (headT l count) ≡ Bc ++ (zeros ++ drop (l .header) (replicate 16 0))
+  behind-mark : drop 6 (headerOfT l count) ≡ Bc ++ (zeros ++ drop (l .header) (replicate 16 0))
   unfolding headerBytes settingIn mark bytes
   behind-mark = ap (drop 6) head-is ∙ append-assoc Bc zeros _
 
-  the-count : take c (drop 6 (headT l count)) ≡ Bc
+  the-count : take c (drop 6 (headerOfT l count)) ≡ Bc
   the-count = ap (take c) behind-mark ∙ take-at Bc _ c (bytes-length c count)
 
-  the-zeros : take w (drop (6 + c) (headT l count)) ≡ zeros
+  the-zeros : take w (drop (6 + c) (headerOfT l count)) ≡ zeros
   the-zeros =
-      ap (take w) (sym (drop-drop c 6 (headT l count)) ∙ (ap (drop c) behind-mark ∙ drop-at Bc _ c (bytes-length c count)))
+      ap (take w) (sym (drop-drop c 6 (headerOfT l count)) ∙ (ap (drop c) behind-mark ∙ drop-at Bc _ c (bytes-length c count)))
       ∙ take-at zeros _ w (length-replicate {A = ℕ} w 0)
 
   pub header-afters : (old : List ℕ) → 5 ≤ length old → length (afters (headerPieces (settingIn l) count old)) ≡ l .header
@@ -299,10 +299,10 @@ module _ (l : Limits) (count : ℕ) (room : 6 + pick (l .wide) 4 2 ≤ l .header
         length-replicate {A = ℕ} w 0,
       )
 
-  head-changes : (old : List ℕ) → 5 ≤ length old → changes 0 (headerPieces (settingIn l) count old) ≡ headChanges l old (headT l count)
+  head-changes : (old : List ℕ) → 5 ≤ length old → changes 0 (headerPieces (settingIn l) count old) ≡ headChanges l old (headerOfT l count)
   unfolding headerPieces settingIn headChanges
   head-changes old long =
-      let new = headT l count in
+      let new = headerOfT l count in
       let five = take 1 (drop 5 old) in
       let counted = take c (drop 6 old) in
       let last = take w (drop c (drop 6 old)) in
@@ -340,7 +340,7 @@ module _ (l : Limits) (old : List ℕ) (room : 6 + pick (l .wide) 4 2 ≤ l .hea
       let a = l .header + 16 * k .rows in
       let tail = piece (drop (16 * k .rows) (drop (l .header) old)) (closeRows (k .scopes)) ∷ [] in
       let tail-is : drop (16 * k .rows) (drop (l .header) old) ≡ drop a old = drop-drop (16 * k .rows) (l .header) old in
-      let head : changes 0 (headerPieces (settingIn l) count old) ≡ headChanges l old (headT l total) = ap (λ (n : ℕ). changes 0 (headerPieces (settingIn l) n old)) form-counted ∙ head-changes l total room short old (omega arith) in
+      let head : changes 0 (headerPieces (settingIn l) count old) ≡ headChanges l old (headerOfT l total) = ap (λ (n : ℕ). changes 0 (headerPieces (settingIn l) n old)) form-counted ∙ head-changes l total room short old (omega arith) in
       let size : 0 + length (afters (headerPieces (settingIn l) count old)) ≡ l .header = zero-add _ ∙ header-afters l count room short old (omega arith) in
       let start : l .header + 16 * 0 ≡ l .header = omega arith in
       let behind : changes (l .header) rows ≡ rowsChanges (l .header) old k 0 (k .rows) ++ changes a tail =
@@ -348,8 +348,8 @@ module _ (l : Limits) (old : List ℕ) (room : 6 + pick (l .wide) 4 2 ≤ l .hea
       let last : changes a tail ≡ restChanges old a (16 * k .scopes) = ap (λ (b : List ℕ). changes a (piece b (closeRows (k .scopes)) ∷ [])) tail-is ∙ rest-changes (l .header) old long k refl kept-there in
       changes-append 0 (headerPieces (settingIn l) count old) rows
       ∙ (ap₂ (λ (x : List Change) (n : ℕ). x ++ changes n rows) head size
-      ∙ (ap (λ (x : List Change). headChanges l old (headT l total) ++ x) (behind ∙ ap (λ (x : List Change). rowsChanges (l .header) old k 0 (k .rows) ++ x) last)
-      ∙ sym (append-assoc (headChanges l old (headT l total)) (rowsChanges (l .header) old k 0 (k .rows)) _)))
+      ∙ (ap (λ (x : List Change). headChanges l old (headerOfT l total) ++ x) (behind ∙ ap (λ (x : List Change). rowsChanges (l .header) old k 0 (k .rows) ++ x) last)
+      ∙ sym (append-assoc (headChanges l old (headerOfT l total)) (rowsChanges (l .header) old k 0 (k .rows)) _)))
 
   -- THE LIST: what the code lists of a form of which no more rows stay than a form may have
   pub list-right : k .rows ≤ 16383 → changesIn l old ≡ changes 0 (formPieces (settingIn l) old)

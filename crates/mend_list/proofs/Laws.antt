@@ -20,7 +20,7 @@ use Rattle.rules.specs.Answer.{sameNumbers, headerBytes}
 use Rattle.limits.specs.declared.Limits.{Limits}
 use Rattle.limits.specs.Held.{settingIn}
 use Rattle.mending.specs.Mend.{Change, changeBytes, listBytes}
-use Rattle.mend_list.specs.Listed.{listed, none, noted, change, pieceChanges, widthT, rowChanges, rowsChanges, headT, headChanges, restChanges, allChanges, changesIn}
+use Rattle.mend_list.specs.Listed.{listed, none, noted, change, pieceChanges, widthT, rowChanges, rowsChanges, headerOfT, headChanges, restChanges, allChanges, changesIn}
 use Rattle.mend_form.specs.Kept.{keptIn}
 use Rattle.mend_form.specs.Filled.{rowIn}
 use Rattle.mend_form.specs.declared.Kept.{Kept}
@@ -237,12 +237,12 @@ pub ruleset rows-ways = (rows-turn, rows-end, rows-start, needs)
 
 -- ---- the whole form
 
-pub head-made : (l : Limits) (count : ℕ) (head : List ℕ) → head ≡ sets (replicate 16 0) 0 (headerBytes (settingIn l) count) → head ≡ headT l count
-unfolding headT
+pub head-made : (l : Limits) (count : ℕ) (head : List ℕ) → head ≡ sets (replicate 16 0) 0 (headerBytes (settingIn l) count) → head ≡ headerOfT l count
+unfolding headerOfT
 head-made l count head e = e
 
-pub head-wide : (l : Limits) (count : ℕ) (head : List ℕ) → head ≡ headT l count → 16 ≤ length head
-unfolding headT
+pub head-wide : (l : Limits) (count : ℕ) (head : List ℕ) → head ≡ headerOfT l count → 16 ≤ length head
+unfolding headerOfT
 head-wide l count head e = omega (arith, ap length e, length-sets (replicate {A = ℕ} 16 0) 0 (headerBytes (settingIn l) count), length-replicate {A = ℕ} 16 0)
 
 pub head-listed : (lim : Limits) (old new l l₁ l₂ l₃ : List ℕ) (behind header : ℕ) (r₁ r₂ r₃ : Listed) → behind ≡ 6 + pick (lim .wide) 4 2 → header ≡ lim .header → r₁ & l₁ ≡ noted none l (pieceChanges old new 5 5 1)
@@ -264,11 +264,11 @@ module _ (old l : List ℕ) (a m : ℕ) (s : Listed) where
 
 pub ruleset rest-ways = (rest-kept, rest-listed, needs)
 
-pub all-listed : (lim : Limits) (old head l l₁ l₂ l₃ : List ℕ) (k : Kept) (header : ℕ) (r₁ r₂ r₃ : Listed) → head ≡ headT lim (k .rows + k .scopes) → r₁ & l₁ ≡ noted none l (headChanges lim old head) → header ≡ lim .header
+pub all-listed : (lim : Limits) (old head l l₁ l₂ l₃ : List ℕ) (k : Kept) (header : ℕ) (r₁ r₂ r₃ : Listed) → head ≡ headerOfT lim (k .rows + k .scopes) → r₁ & l₁ ≡ noted none l (headChanges lim old head) → header ≡ lim .header
     → r₂ & l₂ ≡ noted r₁ l₁ (rowsChanges header old k 0 (k .rows)) → r₃ & l₃ ≡ noted r₂ l₂ (restChanges old (header + 16 * k .rows) (16 * k .scopes)) → r₃ & l₃ ≡ noted none l (allChanges lim old k)
 unfolding allChanges
 all-listed lim old head l l₁ l₂ l₃ k header r₁ r₂ r₃ q e h f g =
-    let front = headChanges lim old (headT lim (k .rows + k .scopes)) in
+    let front = headChanges lim old (headerOfT lim (k .rows + k .scopes)) in
     let rows = rowsChanges (lim .header) old k 0 (k .rows) in
     let e′ : r₁ & l₁ ≡ noted none l front = e ∙ ap (λ (x : List ℕ). noted none l (headChanges lim old x)) q in
     let f′ : r₂ & l₂ ≡ noted r₁ l₁ rows = f ∙ ap (λ (n : ℕ). noted r₁ l₁ (rowsChanges n old k 0 (k .rows))) h in

@@ -50,8 +50,8 @@ rowsChanges header old k i zero = []
 rowsChanges header old k i (suc left) = rowChanges old (rowIn (drop header old) k i) (header + 16 * i) 0 16 ++ rowsChanges header old k (i + 1) left
 
 -- the header, in as many bytes as the longest has
-unfoldable pub headT : Limits → (count : ℕ) → List ℕ
-headT l count = sets (replicate 16 0) 0 (headerBytes (settingIn l) count)
+unfoldable pub headerOfT : Limits → (count : ℕ) → List ℕ
+headerOfT l count = sets (replicate 16 0) 0 (headerBytes (settingIn l) count)
 
 -- byte 5, the row count, and the zeros behind it
 unfoldable pub headChanges : Limits → (old new : List ℕ) → List Change
@@ -67,7 +67,7 @@ restChanges old a m = pick (eqb (length old - a) m) [] (change old a (length old
 unfoldable pub allChanges : Limits → (old : List ℕ) → Kept → List Change
 allChanges l old k =
     let a = l .header + 16 * k .rows in
-    (headChanges l old (headT l (k .rows + k .scopes)) ++ rowsChanges (l .header) old k 0 (k .rows)) ++ restChanges old a (16 * k .scopes)
+    (headChanges l old (headerOfT l (k .rows + k .scopes)) ++ rowsChanges (l .header) old k 0 (k .rows)) ++ restChanges old a (16 * k .scopes)
 
 -- nothing, where there is no such header, or more rows stay than a form may have
 unfoldable pub changesIn : Limits → (old : List ℕ) → List Change

@@ -19,7 +19,7 @@ ghost use Rattle.rules.specs.Answer.{sameNumbers};
 ghost use Rattle.kit.specs.Pick.{pick};
 ghost use Rattle.mending.specs.Mend.{changeBytes};
 ghost use Rattle.mend_form.specs.Filled.{rowIn};
-ghost use Rattle.mend_list.specs.Listed.{change, noted, pieceChanges, widthT, rowChanges, rowsChanges, headT, headChanges, restChanges, allChanges, changesIn, none};
+ghost use Rattle.mend_list.specs.Listed.{change, noted, pieceChanges, widthT, rowChanges, rowsChanges, headerOfT, headChanges, restChanges, allChanges, changesIn, none};
 
 // How many bytes and how many changes there are.
 pub struct Listed {
@@ -214,7 +214,7 @@ fn wide(byte: u8) -> usize
 
 // The header of a form of this many rows, in as many bytes as the longest has.
 fn header_of(limits: Limits, count: usize) -> [u8; 16]
-    ensures { λ r. ⌜ r ≡ headT limits count ⌝ }
+    ensures { λ r. ⌜ r ≡ headerOfT limits count ⌝ }
 {
     let mut head = [0u8; 16];
     put_header(&mut head, limits, count);

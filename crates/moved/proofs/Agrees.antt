@@ -16,7 +16,7 @@ use Rattle.kit.proofs.Laws.{tests}
 use Rattle.rules.specs.Tools.{if_then_else_, between}
 use Rattle.rules.specs.Versions.{RuleSet, Setting}
 use Rattle.rules.specs.Rows.{Row}
-use Rattle.rules.specs.Tree.{Scope, flatten, Reading, bad, deep, form as tree}
+use Rattle.rules.specs.Tree.{Scope, flatten, RowsRead, bad, deep, form as tree}
 use Rattle.rules.specs.Reader.{read}
 use Rattle.rules.specs.Rules
 use Rattle.rules.specs.Rules.{Refusal, numberOf, Result, ok, resolve}
@@ -24,7 +24,7 @@ use Rattle.rules.specs.Answer
 use Rattle.rules.specs.Answer.{AnswerOf, refused, accepted, mapAnswer, settingOf, rowCount, rowsIn, answer, formIn, output, written, outputAfter}
 use Rattle.rules.specs.Laws.ToolLaws.{and-right, leb-le, or-true, false-not}
 use Rattle.rules.specs.Laws.RowLaws.{Bytes}
-use Rattle.rules.specs.Laws.Demand3.{AllUsual, Accepted}
+use Rattle.rules.specs.Laws.InputLaws.{AllUsual, Accepted}
 use Rattle.moving.specs.Moved.{MovedNumber, NoItem}
 use Rattle.moving.specs.MovedAnswer
 use Rattle.moving.specs.MovedAnswer.{WithLists, MovedAnswer, listed, Rooms, tooShort, movedIn, movedAnswer, plainly, counts, movedBytes, apartBytes, movedAfter, apartAfter, Buffers, roomsOf, buffersAfter, buffersFor, buffers}
@@ -74,7 +74,7 @@ unfolding if_then_else_
 if-counted true x y p q = p
 if-counted false x y p q = q
 
-reading-counted : (rules : RuleSet) (r : Reading) → Counted (Answer.afterReading [] rules r)
+reading-counted : (rules : RuleSet) (r : RowsRead) → Counted (Answer.afterReading [] rules r)
 unfolding Answer.afterReading
 reading-counted rules (bad p) = omega arith
 reading-counted rules (deep p) = omega arith

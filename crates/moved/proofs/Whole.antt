@@ -20,7 +20,7 @@ use Rattle.rules.specs.Answer
 use Rattle.rules.specs.Answer.{AnswerOf, refused, accepted, settingOf, hasHeader, answer, output}
 use Rattle.rules.specs.Laws.ToolLaws.{or-true}
 use Rattle.rules.specs.Laws.Results.{some-same, no-option}
-use Rattle.rules.specs.Laws.Demand3.{base-usual}
+use Rattle.rules.specs.Laws.InputLaws.{base-usual}
 use Rattle.moving.specs.MovedAnswer.{MovedAnswer, movedAnswer, roomsOf, buffers}
 use Rattle.refusal.specs.declared.Refusal.{Refusal}
 use Rattle.limits.specs.Held.{settingIn}

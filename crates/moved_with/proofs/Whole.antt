@@ -13,11 +13,11 @@ use mir.Syntax.{w8}
 use mir.Val.{Fits}
 use Rattle.kit.specs.Out.{_&_}
 use Rattle.rules.specs.Tools.{if_then_else_}
-use Rattle.rules.specs.Versions.{Setting}
+use Rattle.rules.specs.Versions.{Setting, all}
 use Rattle.rules.specs.Rows.{Row}
 use Rattle.rules.specs.Answer.{AnswerOf, refused, accepted, settingOf, answer, output}
 use Rattle.rules.specs.Laws.RowLaws.{Bytes}
-use Rattle.rules.specs.Laws.Demand3.{all-usual}
+use Rattle.rules.specs.Laws.InputLaws.{all-usual}
 use Rattle.moving.specs.MovedAnswer.{MovedAnswer, movedAnswer, roomsOf, Buffers, buffers}
 use Rattle.limits.specs.Held.{setting}
 use Rattle.refusal.specs.declared.Refusal.{Refusal}
@@ -27,8 +27,7 @@ use Rattle.resolver.specs.declared.run.Answer.{Answer as Resolved}
 use Rattle.resolver.proofs.Bytes.{all-bytes}
 use Rattle.names.specs.Table.{Slot}
 use Rattle.resolver_with.specs.Areas.{Lent, roomy, Cleared}
-use Rattle.resolver_with.specs.Served.{served}
-use Rattle.resolver_with.specs.Served as by
+use Rattle.resolver_with.specs.Asked as by
 use Rattle.resolver_with.specs.With.{answerWith, outputWith}
 use Rattle.lent_areas.proofs.InForce.{asked-is, header-asked}
 use Rattle.moved_list.specs.declared.Listed.{Listed}
@@ -51,20 +50,20 @@ module _ (form o m a : List ℕ) (lent : Lent) (i rows : ℕ) (asks : setting i 
   abbrev leaves : Buffers
   leaves = buffersWith form (held o m a) lent
 
-  rows-asked : asked served form ≡ rows
+  rows-asked : asked all form ≡ rows
   unfolding rowsAsked
   rows-asked = sym (are ∙ ap rowsOf (header-asked i form asks))
 
   -- what is answered where the areas are large enough, and where they are not
-  answers-roomy : enough ≡ true → answers ≡ movedAnswer served form (roomsOf (held o m a))
+  answers-roomy : enough ≡ true → answers ≡ movedAnswer all form (roomsOf (held o m a))
   unfolding movedWith if_then_else_ roomsOf
   answers-roomy e = rw e
 
-  answers-small : enough ≡ false → answers ≡ movedAnswer served form (roomsOf (held [] m a))
+  answers-small : enough ≡ false → answers ≡ movedAnswer all form (roomsOf (held [] m a))
   unfolding movedWith if_then_else_ roomsOf
   answers-small e = rw e
 
-  leaves-roomy : enough ≡ true → leaves ≡ buffers served form (held o m a)
+  leaves-roomy : enough ≡ true → leaves ≡ buffers all form (held o m a)
   unfolding buffersWith if_then_else_
   leaves-roomy e = rw e
 
@@ -72,18 +71,18 @@ module _ (form o m a : List ℕ) (lent : Lent) (i rows : ℕ) (asks : setting i 
   unfolding buffersWith if_then_else_
   leaves-small e = rw e
 
-  resolved-roomy : enough ≡ true → answerWith form (length o) lent ≡ answer served form (length o)
+  resolved-roomy : enough ≡ true → answerWith form (length o) lent ≡ answer all form (length o)
   unfolding answerWith if_then_else_
   resolved-roomy e = rw e
 
-  resolved-small : enough ≡ false → answerWith form (length o) lent ≡ answer served form (length {A = ℕ} [])
+  resolved-small : enough ≡ false → answerWith form (length o) lent ≡ answer all form (length {A = ℕ} [])
   unfolding answerWith if_then_else_
   resolved-small e = rw e
 
   -- the lists have no room
   module _ (b : Bool) (is : b ≡ (ltb (length m) (16 * rows) || ltb (length a) (12 * rows))) (e : b ≡ true) where
-    none-fit : (o : List ℕ) → Short served form o m a
-    none-fit o = short served form o m a (subst (λ (k : ℕ). is-short served form o m a k ≡ true) (sym rows-asked) (sym is ∙ e))
+    none-fit : (o : List ℕ) → Short all form o m a
+    none-fit o = short all form o m a (subst (λ (k : ℕ). is-short all form o m a k ≡ true) (sym rows-asked) (sym is ∙ e))
 
     pub short-answers : meaning (Refused (record { number = 3; place = 0 })) ≡ ruled answers
     short-answers = go enough refl
@@ -114,17 +113,17 @@ module _ (form o m a : List ℕ) (lent : Lent) (i rows : ℕ) (asks : setting i 
         right true e = let no-way : _≡_ {A = ℕ} 0 1 = cc in absurd (omega arith)
         right false e = e
 
-    long : (o : List ℕ) → is-short served form o m a (asked served form) ≡ false
-    long o = subst (λ (k : ℕ). is-short served form o m a k ≡ false) (sym rows-asked) (sym is ∙ fit)
+    long : (o : List ℕ) → is-short all form o m a (asked all form) ≡ false
+    long o = subst (λ (k : ℕ). is-short all form o m a k ≡ false) (sym rows-asked) (sym is ∙ fit)
 
     module _ (x : Resolved) (o′ : List ℕ) (said : resolved.meaning x ≡ resolved.ruled (answerWith form (length o) lent)) (left : o′ ≡ outputWith form o lent) (r : Refusal) (told : numbers (r .number) (r .place) ≡ resolved.meaning x .plain) where
-      told-roomy : enough ≡ true → numbers (r .number) (r .place) ≡ resolved.ruled (answer served form (length o)) .plain
+      told-roomy : enough ≡ true → numbers (r .number) (r .place) ≡ resolved.ruled (answer all form (length o)) .plain
       told-roomy e = told ∙ ap (λ (s : Said). s .plain) (said ∙ ap resolved.ruled (resolved-roomy e))
 
-      told-small : enough ≡ false → numbers (r .number) (r .place) ≡ resolved.ruled (answer served form (length {A = ℕ} [])) .plain
+      told-small : enough ≡ false → numbers (r .number) (r .place) ≡ resolved.ruled (answer all form (length {A = ℕ} [])) .plain
       told-small e = told ∙ ap (λ (s : Said). s .plain) (said ∙ ap resolved.ruled (resolved-small e))
 
-      left-roomy : enough ≡ true → o′ ≡ output served form o
+      left-roomy : enough ≡ true → o′ ≡ output all form o
       unfolding outputWith if_then_else_
       left-roomy e = rw e at left
 
@@ -138,10 +137,10 @@ module _ (form o m a : List ℕ) (lent : Lent) (i rows : ℕ) (asks : setting i 
         where
           go : (x : Bool) → enough ≡ x → (meaning (Refused r) ≡ ruled answers) × (held o′ m a ≡ leaves)
           go true q =
-              let R = refuses served form o m a (long o) (r .number) (r .place) o′ (told-roomy q) (left-roomy q) n in
+              let R = refuses all form o m a (long o) (r .number) (r .place) o′ (told-roomy q) (left-roomy q) n in
               (R .0 ∙ ap ruled (sym (answers-roomy q)), R .1 ∙ sym (leaves-roomy q))
           go false q =
-              let R = refuses served form [] m a (long []) (r .number) (r .place) (output served form []) (told-small q) refl n in
+              let R = refuses all form [] m a (long []) (r .number) (r .place) (output all form []) (told-small q) refl n in
               (R .0 ∙ ap ruled (sym (answers-small q)), ap (λ (z : List ℕ). held z m a) (left-small q) ∙ sym (leaves-small q))
 
       pub refused-answers : (r .number ≡ 0 → ⊥) → meaning (Refused r) ≡ ruled answers
@@ -151,22 +150,22 @@ module _ (form o m a : List ℕ) (lent : Lent) (i rows : ℕ) (asks : setting i 
       refused-leaves n = refused-returns n .1
 
       -- it accepts
-      module _ (all : (i : ℕ) → Fits w8 (getD form i 0)) (n : r .number ≡ 0) (l : Listed) (m′ a′ : List ℕ) (lists : (l & m′ & a′) ≡ frontsT (body (setting i) form) (body (setting i) o′) m a rows) where
+      module _ (each : (i : ℕ) → Fits w8 (getD form i 0)) (n : r .number ≡ 0) (l : Listed) (m′ a′ : List ℕ) (lists : (l & m′ & a′) ≡ frontsT (body (setting i) form) (body (setting i) o′) m a rows) where
         pub listed-returns : (meaning (ListedAnswer l) ≡ ruled answers) × (held o′ m′ a′ ≡ leaves)
         listed-returns = go enough refl
           where
             go : (x : Bool) → enough ≡ x → (meaning (ListedAnswer l) ≡ ruled answers) × (held o′ m′ a′ ≡ leaves)
             go true q =
-                let Y = is-accepted (answer served form (length o)) (r .number) (r .place) (answer-counted served form (length o)) (told-roomy q) n in
-                let bs = all-bytes form all in
-                let T = OnBytes.trees served all-usual all-within form o bs (Y .0) (Y .1) in
+                let Y = is-accepted (answer all form (length o)) (r .number) (r .place) (answer-counted all form (length o)) (told-roomy q) n in
+                let bs = all-bytes form each in
+                let T = OnBytes.trees all all-usual all-within form o bs (Y .0) (Y .1) in
                 let same : setting i ≡ T .setting = asks ∙ asked-is form (T .setting) (T .asked-for) in
-                let made = accepts served form o m a all-usual all-within bs (long o) (Y .0) (Y .1) l m′ a′
-                (lists ∙ (ap (λ (s : Setting). frontsT (body s form) (body s o′) m a rows) same ∙ (ap (λ (z : List ℕ). frontsT (body (T .setting) form) (body (T .setting) z) m a rows) (left-roomy q) ∙ ap (λ (k : ℕ). frontsT (body (T .setting) form) (body (T .setting) (output served form o)) m a k) (sym rows-asked)))) in
+                let made = accepts all form o m a all-usual all-within bs (long o) (Y .0) (Y .1) l m′ a′
+                (lists ∙ (ap (λ (s : Setting). frontsT (body s form) (body s o′) m a rows) same ∙ (ap (λ (z : List ℕ). frontsT (body (T .setting) form) (body (T .setting) z) m a rows) (left-roomy q) ∙ ap (λ (k : ℕ). frontsT (body (T .setting) form) (body (T .setting) (output all form o)) m a k) (sym rows-asked)))) in
                 (made .0 ∙ ap ruled (sym (answers-roomy q)), ap (λ (z : List ℕ). held z m′ a′) (left-roomy q) ∙ (made .1 ∙ sym (leaves-roomy q)))
             go false q =
-                let Y = is-accepted (answer served form (length {A = ℕ} [])) (r .number) (r .place) (answer-counted served form 0) (told-small q) n in
-                no-room-refuses served all-usual all-within form (all-bytes form all) (Y .0) (Y .1)
+                let Y = is-accepted (answer all form (length {A = ℕ} [])) (r .number) (r .place) (answer-counted all form 0) (told-small q) n in
+                no-room-refuses all all-usual all-within form (all-bytes form each) (Y .0) (Y .1)
 
 -- the areas, by the setting that the code goes by
 pub cleared-asked : (form : List ℕ) (s : Setting) → s ≡ by.asked form → (e e′ n n′ : List Slot) (k k′ c c′ l l′ : List ℕ) → Cleared (s .version) e e′ n n′ k k′ c c′ l l′ → Cleared (by.asked form .version) e e′ n n′ k k′ c c′ l l′

@@ -22,7 +22,7 @@ ghost use Rattle.kit.specs.Out.{_&_};
 ghost use Rattle.limits.specs.Held.{setting};
 ghost use Rattle.moving.specs.MovedAnswer.{roomsOf};
 ghost use Rattle.reading_laws.specs.OnBytes.{body};
-ghost use Rattle.resolver_with.specs.Served.{asked};
+ghost use Rattle.resolver_with.specs.Asked.{asked};
 ghost use Rattle.resolver_with.specs.Areas.{lentOf, Cleared};
 ghost use Rattle.moved.specs.Meaning.{meaning, ruled, held};
 ghost use Rattle.moved.specs.Run.{frontsT};

@@ -8,7 +8,7 @@ use lib.ListN.{length}
 use Rattle.rules.specs.Tools.{if_then_else_, between}
 use Rattle.rules.specs.Versions.{RuleSet, Setting}
 use Rattle.rules.specs.Rows.{bytes, Row}
-use Rattle.rules.specs.Tree.{Scope, flatten, Reading, bad, deep, form}
+use Rattle.rules.specs.Tree.{Scope, flatten, RowsRead, bad, deep, form}
 use Rattle.rules.specs.Reader.{read}
 use Rattle.rules.specs.Rules.{resolve}
 use Rattle.rules.specs.Answer.{AnswerOf, refused, accepted, mapAnswer, Answer, settingOf, rowCount, rowsIn, resolved, written, outputAfter}
@@ -28,7 +28,7 @@ MovedAnswer = AnswerOf WithLists
 unfoldable pub listed : (before after : Scope) → WithLists
 listed before after = record { rows = flatten after; moved = moved before after; apart = apart before }
 
-unfoldable pub ofReading : RuleSet → Reading → MovedAnswer
+unfoldable pub ofReading : RuleSet → RowsRead → MovedAnswer
 ofReading rules (bad place) = refused 4 place []
 ofReading rules (deep place) = refused 5 place []
 ofReading rules (form s) = mapAnswer (listed s) (resolved (resolve rules s))

@@ -9,7 +9,7 @@ use Rattle.rules.specs.Versions.{RuleSet, Setting, version1, version2, today, n
 use Rattle.rules.specs.Rows
 use Rattle.rules.specs.Rows.{Raw, raw, decode}
 use Rattle.rules.specs.Tree
-use Rattle.rules.specs.Tree.{Scope, Reading, bad, deep, form}
+use Rattle.rules.specs.Tree.{Scope, RowsRead, bad, deep, form}
 use Rattle.rules.specs.Shapes
 use Rattle.rules.specs.Reader
 use Rattle.rules.specs.Reader.{read}
@@ -31,7 +31,7 @@ resolved : Scope → Result (Scope × ℕ) → Option (List MovedNumber × List 
 resolved s (refused why place) = none
 resolved s (ok r) = some (moved s (r .0), apart s)
 
-ofForm : Reading → Option (List MovedNumber × List NoItem)
+ofForm : RowsRead → Option (List MovedNumber × List NoItem)
 ofForm (bad place) = none
 ofForm (deep place) = none
 ofForm (form s) = resolved s (resolve today s)

@@ -1,2 +1,2 @@
 -- What the contracts cite.
-pub mod Apart
+pub mod PartsAt

@@ -4,7 +4,7 @@
 ghost use mathlib.Core.Path.{_≡_};
 ghost use Prim.Native.Nat.{_+_, _/_, _≤_, _<_};
 ghost use lib.ListN.{length};
-ghost use Rattle.parts.specs.Apart.{two, four, partsIn, partsAt};
+ghost use Rattle.parts.specs.PartsAt.{two, four, partsIn, partsAt};
 
 // The six parts of a row.
 pub struct Parts {

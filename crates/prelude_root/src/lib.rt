@@ -13,10 +13,10 @@ ghost use mathlib.Core.Path.{_≡_};
 ghost use Prim.Native.Nat.{_+_, _/_, _≤_, _<_};
 ghost use lib.ListN.{length};
 ghost use Rattle.kit.specs.Out.{_&_};
-ghost use Rattle.parts.specs.Apart.{partsAt};
+ghost use Rattle.parts.specs.PartsAt.{partsAt};
 ghost use Rattle.index.specs.Indexed.{Holds};
 ghost use Rattle.claim_rows.specs.Left.{rowsAt};
-ghost use Rattle.prelude_root.specs.Root.{depthT, rowT, turnT, rootT};
+ghost use Rattle.prelude_root.specs.Root.{depthT, rootRowT, turnT, rootT};
 
 // How many scopes are open behind a row of this code.
 fn behind(depth: usize, code: u8) -> usize
@@ -43,7 +43,7 @@ fn enter_row(
     used: usize,
 ) -> usize
     requires { ⌜ Holds (now names) (now chains) used ⌝ }
-    ensures { λ r. ⌜ ((r & now (names .exit) & now (counts .exit)) ≡ rowT p i depth used (now (names .entry)) (now (counts .entry))) × Holds (now (names .exit)) (now (chains .exit)) r ⌝ }
+    ensures { λ r. ⌜ ((r & now (names .exit) & now (counts .exit)) ≡ rootRowT p i depth used (now (names .entry)) (now (counts .entry))) × Holds (now (names .exit)) (now (chains .exit)) r ⌝ }
 {
     if depth != 1 {
         return used;

@@ -6,7 +6,7 @@ use lib.Dec.{eqb}
 use lib.ListN.{length}
 use Rattle.rules.specs.Tools.{if_then_else_, between}
 use Rattle.rules.specs.Versions.{Setting}
-use Rattle.rules.specs.Tree.{Scope, Reading, bad, deep, form}
+use Rattle.rules.specs.Tree.{Scope, RowsRead, bad, deep, form}
 use Rattle.rules.specs.Reader.{read}
 use Rattle.rules.specs.Answer.{AnswerOf, refused, accepted, hasHeader, rowCount, rowsIn}
 
@@ -16,7 +16,7 @@ unfoldable pub _andThen_ : {A B : Type 0} → AnswerOf A → (A → AnswerOf B) 
 refused number place carried andThen f = refused number place carried
 accepted a andThen f = f a
 
-unfoldable pub asAnswer : Reading → AnswerOf Scope
+unfoldable pub asAnswer : RowsRead → AnswerOf Scope
 asAnswer (bad place) = refused 4 place []
 asAnswer (deep place) = refused 5 place []
 asAnswer (form t) = accepted t

@@ -18,7 +18,7 @@ use Rattle.rules.specs.Versions.{RuleSet}
 use Rattle.rules.specs.Shapes.{Want, Part, Declares, nothing, single, several, declares, opens, allowed, builtinOk, exports, fitsRef, fitsOuter, isCase, next, complete, mayDeclare}
 use Rattle.rules.specs.Reader.{isComplete, isNone, sameKind}
 use Rattle.rules.specs.Laws.ToolLaws.{false-not}
-use Rattle.rows.specs.Apart.{isSound, rowOf}
+use Rattle.rows.specs.FromParts.{isSound, rowOf}
 use Rattle.rows.proofs.Laws.{unsound, no-such-row, sound-field, sound-decl, sound-ref, sound-path, sound-outer, sound-case, sound-open, sound-close, sound-export}
 use Rattle.codes.specs.Values.{asOption, inRows, Allows}
 use Rattle.kit.proofs.Tables.{same-at}
@@ -34,35 +34,35 @@ use Rattle.rows.specs.declared.row.Row.{Row}
 use Rattle.rows.specs.declared.row.Row.the-variants as row
 use Rattle.parts.specs.declared.Parts.{Parts}
 use Rattle.limits.specs.Held.{rulesOf}
-use Rattle.read_row.specs.Machine.{declaring, wanting, pathing, exported, between-fields, within, Place, place, Outcome, on, whole, wrong, deep, standingOf, currentIn, placeOf, outcomeOf, newField, declaredT, declaredLeft, wantedT, isExported, settledT, mayEndT, fieldT, declT, pathedT, stays, operandT, refT, outerT, caseT, pathT, mayExportT, exportT, mayOpenT, betweenT, openT, closeT, stepT, inRoot}
+use Rattle.read_row.specs.Machine.{declaring, wanting, pathing, exported, between-fields, within, Position, position, Outcome, on, whole, wrong, deep, standingOf, currentIn, positionOf, outcomeOf, newField, declaredT, declaredLeft, wantedT, isExported, settledT, mayEndT, onFieldT, onDeclT, pathedT, stays, onOperandT, onRefT, onOuterT, onCaseT, onPathT, mayExportT, onExportT, mayOpenT, betweenT, onOpenT, onCloseT, readStepT, inRoot}
 use Rattle.read_row.specs.declared.Field.{Field}
-use Rattle.read_row.specs.declared.State.{State}
+use Rattle.read_row.specs.declared.ReadState.{ReadState}
 
 -- ---- how far the rows are read
 
 -- what a state is made of
 module _ (d k n m : ℕ) (f : Field) where
-  abbrev made : (stage : ℕ) → State
+  abbrev made : (stage : ℕ) → ReadState
   made stage = record { depth = d; kind = k; stage = stage; left = n; paths = m; field = f }
 
-  made-declaring : outcomeOf (made 0) ≡ on (place d k (within f (declaring (leftOf n))))
-  unfolding outcomeOf placeOf currentIn standingOf pick
+  made-declaring : outcomeOf (made 0) ≡ on (position d k (within f (declaring (leftOf n))))
+  unfolding outcomeOf positionOf currentIn standingOf pick
   made-declaring = refl
 
-  made-wanting : outcomeOf (made 1) ≡ on (place d k (within f (wanting (leftOf n))))
-  unfolding outcomeOf placeOf currentIn standingOf pick
+  made-wanting : outcomeOf (made 1) ≡ on (position d k (within f (wanting (leftOf n))))
+  unfolding outcomeOf positionOf currentIn standingOf pick
   made-wanting = refl
 
-  made-pathing : outcomeOf (made 2) ≡ on (place d k (within f (pathing m (leftOf n))))
-  unfolding outcomeOf placeOf currentIn standingOf pick
+  made-pathing : outcomeOf (made 2) ≡ on (position d k (within f (pathing m (leftOf n))))
+  unfolding outcomeOf positionOf currentIn standingOf pick
   made-pathing = refl
 
-  made-exported : outcomeOf (made 3) ≡ on (place d k (within f exported))
-  unfolding outcomeOf placeOf currentIn standingOf pick
+  made-exported : outcomeOf (made 3) ≡ on (position d k (within f exported))
+  unfolding outcomeOf positionOf currentIn standingOf pick
   made-exported = refl
 
   pub made-between : outcomeOf (made 4) ≡ betweenT d k
-  unfolding outcomeOf placeOf currentIn betweenT pick
+  unfolding outcomeOf positionOf currentIn betweenT pick
   made-between = refl
 
   pub made-whole : outcomeOf (made 5) ≡ whole
@@ -78,7 +78,7 @@ module _ (d k n m : ℕ) (f : Field) where
   made-deep = refl
 
 pub root-placed : (f : Field) (n m : ℕ) → outcomeOf (made 1 0 n m f 4) ≡ on inRoot
-unfolding outcomeOf placeOf currentIn pick
+unfolding outcomeOf positionOf currentIn pick
 root-placed f n m = refl
 
 module _ (stage paths : ℕ) (o : Option (List Part)) where
@@ -110,7 +110,7 @@ module _ (stage paths : ℕ) (o : Option (List Part)) where
   unfolding isExported
   not-exported h = ⊎-elim (λ g. ⊎-elim (λ e. rw (is-declaring (omega arith))) (λ e. rw (is-wanting (omega arith))) (lt-or-le stage 1)) (λ g. rw (is-pathing (omega arith))) (lt-or-le stage 2)
 
-module _ (s : State) where
+module _ (s : ReadState) where
   inside : s .stage ≤ 3 → currentIn s ≡ within (s .field) (standingOf (s .stage) (s .paths) (leftOf (s .left)))
   unfolding currentIn
   inside h = sym (yes! _ (omega tests) refl)
@@ -138,7 +138,7 @@ complete-some (some ps) = here (complete ps)
     here true = unfold only in refl
     here false = unfold only in refl
 
-module _ (s : State) where
+module _ (s : ReadState) where
   pub operands-none : 1 < s .stage → false ≡ isComplete (wantedT (currentIn s))
   operands-none h = sym (ap isComplete (wanted-none s h) ∙ (unfold isComplete in refl))
 
@@ -211,15 +211,15 @@ module _ (code : ℕ) (i : Inner) (o : asOption i ≡ opens code) where
 
 -- ---- what a row leads to
 
-module _ (s : State) (code builtin : ℕ) (m a b : Bool) (p : m ≡ mayEndT (currentIn s)) (rows : List (List ℕ)) (allows : Allows rows) (q : a ≡ inRows rows (s .kind) code) (e : b ≡ builtinOk code builtin) where
-  field-as : fieldT (placeOf s) code builtin ≡ pick (m && (a && b)) (on (place (s .depth) (s .kind) (within (newField code builtin) (declaring (bareParts code))))) wrong
-  unfolding placeOf fieldT
+module _ (s : ReadState) (code builtin : ℕ) (m a b : Bool) (p : m ≡ mayEndT (currentIn s)) (rows : List (List ℕ)) (allows : Allows rows) (q : a ≡ inRows rows (s .kind) code) (e : b ≡ builtinOk code builtin) where
+  field-as : onFieldT (positionOf s) code builtin ≡ pick (m && (a && b)) (on (position (s .depth) (s .kind) (within (newField code builtin) (declaring (bareParts code))))) wrong
+  unfolding positionOf onFieldT
   field-as = let g : a ≡ allowed (s .kind) code = q ∙ (unfold Allows in allows (s .kind) code) in rw (← p, ← g, ← e)
 
-  pub field-begins : (m && (a && b)) ≡ true → (n : ℕ) → leftOf n ≡ bareParts code → (paths : ℕ) → outcomeOf (made (s .depth) (s .kind) n paths (record { code = code; builtin = builtin; decls = 0; name = 0 }) 0) ≡ fieldT (placeOf s) code builtin
+  pub field-begins : (m && (a && b)) ≡ true → (n : ℕ) → leftOf n ≡ bareParts code → (paths : ℕ) → outcomeOf (made (s .depth) (s .kind) n paths (record { code = code; builtin = builtin; decls = 0; name = 0 }) 0) ≡ onFieldT (positionOf s) code builtin
   field-begins h n l paths = made-declaring _ _ n paths _ ∙ sym (field-as ∙ rw (h, ← l) (unfold pick newField in refl))
 
-  pub field-not : (m && (a && b)) ≡ false → (r : State) → outcomeOf r ≡ wrong → outcomeOf r ≡ fieldT (placeOf s) code builtin
+  pub field-not : (m && (a && b)) ≡ false → (r : ReadState) → outcomeOf r ≡ wrong → outcomeOf r ≡ onFieldT (positionOf s) code builtin
   field-not h r w = w ∙ sym (field-as ∙ rw h (unfold pick in refl))
 
 -- the spaces that a field may declare are 0 to 12
@@ -248,28 +248,28 @@ pub still-wanted : (rules : RuleSet) (f : Field) (o : Option (List Part)) (space
 unfolding declaredLeft
 still-wanted rules f o space h = no! _ (omega tests) refl
 
-module _ (rules : RuleSet) (s : State) (space name : ℕ) where
-  pub decl-else : (s .stage ≡ 0 → ⊥) → (r : State) → outcomeOf r ≡ wrong → outcomeOf r ≡ declT rules (placeOf s) space name
-  unfolding placeOf
-  decl-else h r w = w ∙ sym (⊎-elim low (λ g. rw (outside s g) (unfold declT in refl)) (lt-or-le (s .stage) 4))
+module _ (rules : RuleSet) (s : ReadState) (space name : ℕ) where
+  pub decl-else : (s .stage ≡ 0 → ⊥) → (r : ReadState) → outcomeOf r ≡ wrong → outcomeOf r ≡ onDeclT rules (positionOf s) space name
+  unfolding positionOf
+  decl-else h r w = w ∙ sym (⊎-elim low (λ g. rw (outside s g) (unfold onDeclT in refl)) (lt-or-le (s .stage) 4))
     where
-      low : s .stage < 4 → declT rules (place (s .depth) (s .kind) (currentIn s)) space name ≡ wrong
+      low : s .stage < 4 → onDeclT rules (position (s .depth) (s .kind) (currentIn s)) space name ≡ wrong
       low g =
           ⊎-elim
-          (λ e. ⊎-elim (λ f. rw (inside s (omega arith), is-wanting (s .stage) (s .paths) (leftOf (s .left)) (omega arith)) (unfold declT in refl))
-          (λ f. rw (inside s (omega arith), is-pathing (s .stage) (s .paths) (leftOf (s .left)) (omega arith)) (unfold declT in refl)) (lt-or-le (s .stage) 2))
-          (λ e. rw (inside s (omega arith), is-exported (s .stage) (s .paths) (leftOf (s .left)) e) (unfold declT in refl))
+          (λ e. ⊎-elim (λ f. rw (inside s (omega arith), is-wanting (s .stage) (s .paths) (leftOf (s .left)) (omega arith)) (unfold onDeclT in refl))
+          (λ f. rw (inside s (omega arith), is-pathing (s .stage) (s .paths) (leftOf (s .left)) (omega arith)) (unfold onDeclT in refl)) (lt-or-le (s .stage) 2))
+          (λ e. rw (inside s (omega arith), is-exported (s .stage) (s .paths) (leftOf (s .left)) e) (unfold onDeclT in refl))
           (lt-or-le (s .stage) 3)
 
   module _ (h : s .stage ≡ 0) (m : Bool) (p : m ≡ mayDeclare (declares (s .field .code)) (s .field .decls) space) where
-    decl-as : declT rules (placeOf s) space name ≡ pick m (on (place (s .depth) (s .kind) (within (declaredT (s .field) name) (declaring (declaredLeft rules (s .field) (leftOf (s .left)) space))))) wrong
-    unfolding placeOf
-    decl-as = rw (inside s (omega arith), is-declaring (s .stage) (s .paths) (leftOf (s .left)) h) (unfold declT in rw (← p))
+    decl-as : onDeclT rules (positionOf s) space name ≡ pick m (on (position (s .depth) (s .kind) (within (declaredT (s .field) name) (declaring (declaredLeft rules (s .field) (leftOf (s .left)) space))))) wrong
+    unfolding positionOf
+    decl-as = rw (inside s (omega arith), is-declaring (s .stage) (s .paths) (leftOf (s .left)) h) (unfold onDeclT in rw (← p))
 
-    pub decl-not : not m ≡ true → (r : State) → outcomeOf r ≡ wrong → outcomeOf r ≡ declT rules (placeOf s) space name
+    pub decl-not : not m ≡ true → (r : ReadState) → outcomeOf r ≡ wrong → outcomeOf r ≡ onDeclT rules (positionOf s) space name
     decl-not g r w = w ∙ sym (decl-as ∙ rw (not-true m g) (unfold pick in refl))
 
-    pub decl-more : not m ≡ false → (wide : ℕ) → wide ≡ space → (n : ℕ) → leftOf n ≡ declaredLeft rules (s .field) (leftOf (s .left)) (known wide) → (f : Field) → f ≡ declaredT (s .field) name → (paths : ℕ) → outcomeOf (made (s .depth) (s .kind) n paths f 0) ≡ declT rules (placeOf s) space name
+    pub decl-more : not m ≡ false → (wide : ℕ) → wide ≡ space → (n : ℕ) → leftOf n ≡ declaredLeft rules (s .field) (leftOf (s .left)) (known wide) → (f : Field) → f ≡ declaredT (s .field) name → (paths : ℕ) → outcomeOf (made (s .depth) (s .kind) n paths f 0) ≡ onDeclT rules (positionOf s) space name
     decl-more g wide v n l f e paths =
         let t = not-false m g in
         let k = declared-known (s .field .code) (s .field .decls) space (sym p ∙ t) in
@@ -277,7 +277,7 @@ module _ (rules : RuleSet) (s : State) (space name : ℕ) where
 
 -- an operand
 module _ (d k paths left : ℕ) (f : Field) where
-  pub want-not : left < 48 → (r : State) → outcomeOf r ≡ wrong → outcomeOf r ≡ stays (leftOf left) (pathedT d k f paths)
+  pub want-not : left < 48 → (r : ReadState) → outcomeOf r ≡ wrong → outcomeOf r ≡ stays (leftOf left) (pathedT d k f paths)
   want-not h r w = w ∙ rw (left-before left h) (unfold stays in refl)
 
   pub want-done : 48 ≤ left → paths ≡ 0 → outcomeOf (made d k left paths f 1) ≡ stays (leftOf left) (pathedT d k f paths)
@@ -286,151 +286,151 @@ module _ (d k paths left : ℕ) (f : Field) where
   pub want-paths : 48 ≤ left → (paths ≡ 0 → ⊥) → outcomeOf (made d k left paths f 2) ≡ stays (leftOf left) (pathedT d k f paths)
   want-paths h e = made-pathing d k left paths f ∙ rw (left-at left h) (unfold stays pathedT in no! _ (omega tests) refl)
 
-module _ (s : State) (fits : Want → Bool) (go : Field → List Part → Outcome) where
-  operand-none : 1 < s .stage → wrong ≡ operandT (currentIn s) fits go
-  operand-none h = ⊎-elim (λ g. rw (inside s (omega arith)) (unfold operandT in rw (wants-none (s .stage) (s .paths) (leftOf (s .left)) (s .field) h) (unfold stays _then_ in refl))) (λ g. rw (outside s g) (unfold operandT in refl)) (lt-or-le (s .stage) 4)
+module _ (s : ReadState) (fits : Want → Bool) (go : Field → List Part → Outcome) where
+  operand-none : 1 < s .stage → wrong ≡ onOperandT (currentIn s) fits go
+  operand-none h = ⊎-elim (λ g. rw (inside s (omega arith)) (unfold onOperandT in rw (wants-none (s .stage) (s .paths) (leftOf (s .left)) (s .field) h) (unfold stays _then_ in refl))) (λ g. rw (outside s g) (unfold onOperandT in refl)) (lt-or-le (s .stage) 4)
 
-  operand-on : s .stage ≤ 1 → (n : ℕ) → leftOf n ≡ (leftOf (s .left) then λ ps. next fits ps) → stays (leftOf n) (go (s .field)) ≡ operandT (currentIn s) fits go
-  operand-on h n e = rw (inside s (omega arith)) (unfold operandT in rw (wants-low (s .stage) (s .paths) (leftOf (s .left)) (s .field) h, e))
+  operand-on : s .stage ≤ 1 → (n : ℕ) → leftOf n ≡ (leftOf (s .left) then λ ps. next fits ps) → stays (leftOf n) (go (s .field)) ≡ onOperandT (currentIn s) fits go
+  operand-on h n e = rw (inside s (omega arith)) (unfold onOperandT in rw (wants-low (s .stage) (s .paths) (leftOf (s .left)) (s .field) h, e))
 
-module _ (s : State) (r : State) where
+module _ (s : ReadState) (r : ReadState) where
   module _ (h : 1 < s .stage) (w : outcomeOf r ≡ wrong) where
-    pub ref-not : (space paths : ℕ) → outcomeOf r ≡ refT (placeOf s) space paths
-    unfolding placeOf refT
+    pub ref-not : (space paths : ℕ) → outcomeOf r ≡ onRefT (positionOf s) space paths
+    unfolding positionOf onRefT
     ref-not space paths = w ∙ operand-none s _ _ h
 
-    pub outer-not : (space : ℕ) → outcomeOf r ≡ outerT (placeOf s) space
-    unfolding placeOf outerT
+    pub outer-not : (space : ℕ) → outcomeOf r ≡ onOuterT (positionOf s) space
+    unfolding positionOf onOuterT
     outer-not space = w ∙ operand-none s _ _ h
 
-    pub case-not : outcomeOf r ≡ caseT (placeOf s)
-    unfolding placeOf caseT
+    pub case-not : outcomeOf r ≡ onCaseT (positionOf s)
+    unfolding positionOf onCaseT
     case-not = w ∙ operand-none s _ _ h
 
   module _ (h : s .stage ≤ 1) (table : List (List ℕ)) (right : Right table) (n : ℕ) where
-    pub ref-on : (space paths : ℕ) → n ≡ refEntry table (s .left) space paths → outcomeOf r ≡ stays (leftOf n) (pathedT (s .depth) (s .kind) (s .field) paths) → outcomeOf r ≡ refT (placeOf s) space paths
-    unfolding placeOf refT
+    pub ref-on : (space paths : ℕ) → n ≡ refEntry table (s .left) space paths → outcomeOf r ≡ stays (leftOf n) (pathedT (s .depth) (s .kind) (s .field) paths) → outcomeOf r ≡ onRefT (positionOf s) space paths
+    unfolding positionOf onRefT
     ref-on space paths e w = w ∙ operand-on s (λ v. fitsRef v space paths) (λ f. pathedT (s .depth) (s .kind) f paths) h n (ap leftOf e ∙ right-ref table right (s .left) space paths)
 
-    pub outer-on : (space : ℕ) → n ≡ outerEntry table (s .left) space → outcomeOf r ≡ stays (leftOf n) (pathedT (s .depth) (s .kind) (s .field) 0) → outcomeOf r ≡ outerT (placeOf s) space
-    unfolding placeOf outerT
+    pub outer-on : (space : ℕ) → n ≡ outerEntry table (s .left) space → outcomeOf r ≡ stays (leftOf n) (pathedT (s .depth) (s .kind) (s .field) 0) → outcomeOf r ≡ onOuterT (positionOf s) space
+    unfolding positionOf onOuterT
     outer-on space e w = w ∙ operand-on s (λ v. fitsOuter v space) (λ f. pathedT (s .depth) (s .kind) f 0) h n (ap leftOf e ∙ right-outer table right (s .left) space)
 
-    pub case-on : n ≡ entry table (s .left) 26 → outcomeOf r ≡ stays (leftOf n) (pathedT (s .depth) (s .kind) (s .field) 0) → outcomeOf r ≡ caseT (placeOf s)
-    unfolding placeOf caseT
+    pub case-on : n ≡ entry table (s .left) 26 → outcomeOf r ≡ stays (leftOf n) (pathedT (s .depth) (s .kind) (s .field) 0) → outcomeOf r ≡ onCaseT (positionOf s)
+    unfolding positionOf onCaseT
     case-on e w = w ∙ operand-on s isCase (λ f. pathedT (s .depth) (s .kind) f 0) h n (ap leftOf e ∙ right-case table right (s .left))
 
-  pub path-else : (s .stage ≡ 2 → ⊥) → outcomeOf r ≡ wrong → outcomeOf r ≡ pathT (placeOf s)
-  unfolding placeOf
-  path-else h w = w ∙ sym (⊎-elim low (λ g. rw (outside s g) (unfold pathT in refl)) (lt-or-le (s .stage) 4))
+  pub path-else : (s .stage ≡ 2 → ⊥) → outcomeOf r ≡ wrong → outcomeOf r ≡ onPathT (positionOf s)
+  unfolding positionOf
+  path-else h w = w ∙ sym (⊎-elim low (λ g. rw (outside s g) (unfold onPathT in refl)) (lt-or-le (s .stage) 4))
     where
-      low : s .stage < 4 → pathT (place (s .depth) (s .kind) (currentIn s)) ≡ wrong
+      low : s .stage < 4 → onPathT (position (s .depth) (s .kind) (currentIn s)) ≡ wrong
       low g =
           ⊎-elim
-          (λ e. ⊎-elim (λ f. rw (inside s (omega arith), is-declaring (s .stage) (s .paths) (leftOf (s .left)) (omega arith)) (unfold pathT in refl))
-          (λ f. rw (inside s (omega arith), is-wanting (s .stage) (s .paths) (leftOf (s .left)) (omega arith)) (unfold pathT in refl)) (lt-or-le (s .stage) 1))
-          (λ e. rw (inside s (omega arith), is-exported (s .stage) (s .paths) (leftOf (s .left)) (omega arith)) (unfold pathT in refl))
+          (λ e. ⊎-elim (λ f. rw (inside s (omega arith), is-declaring (s .stage) (s .paths) (leftOf (s .left)) (omega arith)) (unfold onPathT in refl))
+          (λ f. rw (inside s (omega arith), is-wanting (s .stage) (s .paths) (leftOf (s .left)) (omega arith)) (unfold onPathT in refl)) (lt-or-le (s .stage) 1))
+          (λ e. rw (inside s (omega arith), is-exported (s .stage) (s .paths) (leftOf (s .left)) (omega arith)) (unfold onPathT in refl))
           (lt-or-le (s .stage) 2)
 
   module _ (h : s .stage ≡ 2) where
-    path-as : pathT (placeOf s) ≡ pick (eqb (s .paths) 0) wrong (stays (leftOf (s .left)) (pathedT (s .depth) (s .kind) (s .field) (s .paths - 1)))
-    unfolding placeOf
-    path-as = rw (inside s (omega arith), is-pathing (s .stage) (s .paths) (leftOf (s .left)) h) (unfold pathT in refl)
+    path-as : onPathT (positionOf s) ≡ pick (eqb (s .paths) 0) wrong (stays (leftOf (s .left)) (pathedT (s .depth) (s .kind) (s .field) (s .paths - 1)))
+    unfolding positionOf
+    path-as = rw (inside s (omega arith), is-pathing (s .stage) (s .paths) (leftOf (s .left)) h) (unfold onPathT in refl)
 
-    pub path-none : s .paths ≡ 0 → outcomeOf r ≡ wrong → outcomeOf r ≡ pathT (placeOf s)
+    pub path-none : s .paths ≡ 0 → outcomeOf r ≡ wrong → outcomeOf r ≡ onPathT (positionOf s)
     path-none g w = w ∙ yes! _ (omega tests) refl ∙ sym path-as
 
-    pub path-on : (s .paths ≡ 0 → ⊥) → outcomeOf r ≡ stays (leftOf (s .left)) (pathedT (s .depth) (s .kind) (s .field) (s .paths - 1)) → outcomeOf r ≡ pathT (placeOf s)
+    pub path-on : (s .paths ≡ 0 → ⊥) → outcomeOf r ≡ stays (leftOf (s .left)) (pathedT (s .depth) (s .kind) (s .field) (s .paths - 1)) → outcomeOf r ≡ onPathT (positionOf s)
     path-on g w = w ∙ no! _ (omega tests) refl ∙ sym path-as
 
-module _ (s : State) (m e : Bool) (p : m ≡ isComplete (wantedT (currentIn s))) (x : e ≡ exports (s .field .code)) where
-  export-as : exportT (placeOf s) ≡ pick (m && e) (on (place (s .depth) (s .kind) (within (s .field) exported))) wrong
-  unfolding placeOf
-  export-as = rw (p, x) (⊎-elim (λ g. rw (inside s (omega arith)) (unfold exportT mayExportT in refl)) (λ g. rw (outside s g) (unfold exportT wantedT isComplete pick in refl)) (lt-or-le (s .stage) 4))
+module _ (s : ReadState) (m e : Bool) (p : m ≡ isComplete (wantedT (currentIn s))) (x : e ≡ exports (s .field .code)) where
+  export-as : onExportT (positionOf s) ≡ pick (m && e) (on (position (s .depth) (s .kind) (within (s .field) exported))) wrong
+  unfolding positionOf
+  export-as = rw (p, x) (⊎-elim (λ g. rw (inside s (omega arith)) (unfold onExportT mayExportT in refl)) (λ g. rw (outside s g) (unfold onExportT wantedT isComplete pick in refl)) (lt-or-le (s .stage) 4))
 
-  pub export-done : (m && e) ≡ true → (n paths : ℕ) → outcomeOf (made (s .depth) (s .kind) n paths (s .field) 3) ≡ exportT (placeOf s)
+  pub export-done : (m && e) ≡ true → (n paths : ℕ) → outcomeOf (made (s .depth) (s .kind) n paths (s .field) 3) ≡ onExportT (positionOf s)
   export-done h n paths = made-exported _ _ n paths _ ∙ sym (export-as ∙ rw h (unfold pick in refl))
 
-  pub export-not : (m && e) ≡ false → (r : State) → outcomeOf r ≡ wrong → outcomeOf r ≡ exportT (placeOf s)
+  pub export-not : (m && e) ≡ false → (r : ReadState) → outcomeOf r ≡ wrong → outcomeOf r ≡ onExportT (positionOf s)
   export-not h r w = w ∙ sym (export-as ∙ rw h (unfold pick in refl))
 
-module _ (s : State) (kinds : List ℕ) (kind name : ℕ) (m : Bool) (p : m ≡ mayOpenT (currentIn s) kind name) (r : State) where
-  pub open-not : not m ≡ true → outcomeOf r ≡ wrong → (outcomeOf r & kinds) ≡ openT (placeOf s) kinds kind name
-  unfolding placeOf openT pick
+module _ (s : ReadState) (kinds : List ℕ) (kind name : ℕ) (m : Bool) (p : m ≡ mayOpenT (currentIn s) kind name) (r : ReadState) where
+  pub open-not : not m ≡ true → outcomeOf r ≡ wrong → (outcomeOf r & kinds) ≡ onOpenT (positionOf s) kinds kind name
+  unfolding positionOf onOpenT pick
   open-not h w = rw (← p, not-true m h, w)
 
   module _ (h : not m ≡ false) where
-    pub open-deep : length kinds ≤ s .depth → outcomeOf r ≡ deep → (outcomeOf r & kinds) ≡ openT (placeOf s) kinds kind name
-    unfolding placeOf openT pick
+    pub open-deep : length kinds ≤ s .depth → outcomeOf r ≡ deep → (outcomeOf r & kinds) ≡ onOpenT (positionOf s) kinds kind name
+    unfolding positionOf onOpenT pick
     open-deep g w = let t : leb (length kinds) (s .depth) ≡ true = omega tests in rw (← p, not-false m h, t, w)
 
-    pub open-on : s .depth < length kinds → outcomeOf r ≡ betweenT (s .depth + 1) kind → (outcomeOf r & set kinds (s .depth) (s .kind)) ≡ openT (placeOf s) kinds kind name
-    unfolding placeOf openT pick
+    pub open-on : s .depth < length kinds → outcomeOf r ≡ betweenT (s .depth + 1) kind → (outcomeOf r & set kinds (s .depth) (s .kind)) ≡ onOpenT (positionOf s) kinds kind name
+    unfolding positionOf onOpenT pick
     open-on g e = let t : leb (length kinds) (s .depth) ≡ false = omega tests in rw (← p, not-false m h, t, e)
 
-module _ (s : State) (kinds : List ℕ) (m : Bool) (p : m ≡ mayEndT (currentIn s)) (r : State) where
-  pub close-not : not m ≡ true → outcomeOf r ≡ wrong → outcomeOf r ≡ closeT (placeOf s) kinds
-  unfolding placeOf closeT pick
+module _ (s : ReadState) (kinds : List ℕ) (m : Bool) (p : m ≡ mayEndT (currentIn s)) (r : ReadState) where
+  pub close-not : not m ≡ true → outcomeOf r ≡ wrong → outcomeOf r ≡ onCloseT (positionOf s) kinds
+  unfolding positionOf onCloseT pick
   close-not h w = rw (← p, not-true m h, w)
 
   module _ (h : not m ≡ false) where
-    pub close-whole : s .depth ≤ 1 → outcomeOf r ≡ whole → outcomeOf r ≡ closeT (placeOf s) kinds
-    unfolding placeOf closeT pick
+    pub close-whole : s .depth ≤ 1 → outcomeOf r ≡ whole → outcomeOf r ≡ onCloseT (positionOf s) kinds
+    unfolding positionOf onCloseT pick
     close-whole g w = let t : leb (s .depth) 1 ≡ true = omega tests in rw (← p, not-false m h, t, w)
 
-    pub close-on : 1 < s .depth → (k : ℕ) → k ≡ getD kinds (s .depth - 1) 0 → outcomeOf r ≡ betweenT (s .depth - 1) k → outcomeOf r ≡ closeT (placeOf s) kinds
-    unfolding placeOf closeT pick
+    pub close-on : 1 < s .depth → (k : ℕ) → k ≡ getD kinds (s .depth - 1) 0 → outcomeOf r ≡ betweenT (s .depth - 1) k → outcomeOf r ≡ onCloseT (positionOf s) kinds
+    unfolding positionOf onCloseT pick
     close-on g k q e = let t : leb (s .depth) 1 ≡ false = omega tests in rw (← p, not-false m h, t, ← q) e
 
 -- ---- any row
 
-module _ (rules : RuleSet) (P : Place) (kinds : List ℕ) (r : State) (top : ℕ) (p : Parts) (m : Bool) (q : m ≡ isSound top p) where
-  pub step-unsound : not m ≡ true → outcomeOf r ≡ wrong → (outcomeOf r & kinds) ≡ stepT rules P kinds (rowOf top p)
-  unfolding stepT
+module _ (rules : RuleSet) (P : Position) (kinds : List ℕ) (r : ReadState) (top : ℕ) (p : Parts) (m : Bool) (q : m ≡ isSound top p) where
+  pub step-unsound : not m ≡ true → outcomeOf r ≡ wrong → (outcomeOf r & kinds) ≡ readStepT rules P kinds (rowOf top p)
+  unfolding readStepT
   step-unsound h w = rw (unsound top p (sym q ∙ not-true m h), w)
 
   module _ (h : not m ≡ false) where
     sound : isSound top p ≡ true
     sound = sym q ∙ not-false m h
 
-    pub step-field : p .code ≡ 1 → (code builtin : ℕ) → code ≡ p .b → builtin ≡ p .e → outcomeOf r ≡ fieldT P code builtin → (outcomeOf r & kinds) ≡ stepT rules P kinds (rowOf top p)
-    unfolding stepT
+    pub step-field : p .code ≡ 1 → (code builtin : ℕ) → code ≡ p .b → builtin ≡ p .e → outcomeOf r ≡ onFieldT P code builtin → (outcomeOf r & kinds) ≡ readStepT rules P kinds (rowOf top p)
+    unfolding readStepT
     step-field e code builtin c b w = rw (sound-field top p sound e, w, c, b)
 
-    pub step-decl : p .code ≡ 2 → (name : ℕ) → name ≡ p .x → outcomeOf r ≡ declT rules P (p .b) name → (outcomeOf r & kinds) ≡ stepT rules P kinds (rowOf top p)
-    unfolding stepT
+    pub step-decl : p .code ≡ 2 → (name : ℕ) → name ≡ p .x → outcomeOf r ≡ onDeclT rules P (p .b) name → (outcomeOf r & kinds) ≡ readStepT rules P kinds (rowOf top p)
+    unfolding readStepT
     step-decl e name n w = rw (sound-decl top p sound e, w, n)
 
-    pub step-ref : p .code ≡ 3 → (space paths : ℕ) → space ≡ p .b → paths ≡ p .y → outcomeOf r ≡ refT P space paths → (outcomeOf r & kinds) ≡ stepT rules P kinds (rowOf top p)
-    unfolding stepT
+    pub step-ref : p .code ≡ 3 → (space paths : ℕ) → space ≡ p .b → paths ≡ p .y → outcomeOf r ≡ onRefT P space paths → (outcomeOf r & kinds) ≡ readStepT rules P kinds (rowOf top p)
+    unfolding readStepT
     step-ref e space paths s n w = rw (sound-ref top p sound e, w, s, n)
 
-    pub step-path : p .code ≡ 4 → outcomeOf r ≡ pathT P → (outcomeOf r & kinds) ≡ stepT rules P kinds (rowOf top p)
-    unfolding stepT
+    pub step-path : p .code ≡ 4 → outcomeOf r ≡ onPathT P → (outcomeOf r & kinds) ≡ readStepT rules P kinds (rowOf top p)
+    unfolding readStepT
     step-path e w = rw (sound-path top p sound e, w)
 
-    pub step-outer : p .code ≡ 5 → (space : ℕ) → space ≡ p .b → outcomeOf r ≡ outerT P space → (outcomeOf r & kinds) ≡ stepT rules P kinds (rowOf top p)
-    unfolding stepT
+    pub step-outer : p .code ≡ 5 → (space : ℕ) → space ≡ p .b → outcomeOf r ≡ onOuterT P space → (outcomeOf r & kinds) ≡ readStepT rules P kinds (rowOf top p)
+    unfolding readStepT
     step-outer e space s w = rw (sound-outer top p sound e, w, s)
 
-    pub step-case : p .code ≡ 6 → outcomeOf r ≡ caseT P → (outcomeOf r & kinds) ≡ stepT rules P kinds (rowOf top p)
-    unfolding stepT
+    pub step-case : p .code ≡ 6 → outcomeOf r ≡ onCaseT P → (outcomeOf r & kinds) ≡ readStepT rules P kinds (rowOf top p)
+    unfolding readStepT
     step-case e w = rw (sound-case top p sound e, w)
 
-    pub step-open : p .code ≡ 7 → (kind name : ℕ) → kind ≡ p .b → name ≡ p .x → (kinds′ : List ℕ) → (outcomeOf r & kinds′) ≡ openT P kinds kind name → (outcomeOf r & kinds′) ≡ stepT rules P kinds (rowOf top p)
-    unfolding stepT
+    pub step-open : p .code ≡ 7 → (kind name : ℕ) → kind ≡ p .b → name ≡ p .x → (kinds′ : List ℕ) → (outcomeOf r & kinds′) ≡ onOpenT P kinds kind name → (outcomeOf r & kinds′) ≡ readStepT rules P kinds (rowOf top p)
+    unfolding readStepT
     step-open e kind name k n kinds′ w = w ∙ rw (sound-open top p sound e, k, n)
 
-    pub step-close : p .code ≡ 8 → outcomeOf r ≡ closeT P kinds → (outcomeOf r & kinds) ≡ stepT rules P kinds (rowOf top p)
-    unfolding stepT
+    pub step-close : p .code ≡ 8 → outcomeOf r ≡ onCloseT P kinds → (outcomeOf r & kinds) ≡ readStepT rules P kinds (rowOf top p)
+    unfolding readStepT
     step-close e w = rw (sound-close top p sound e, w)
 
-    pub step-export : p .code ≡ 9 → outcomeOf r ≡ exportT P → (outcomeOf r & kinds) ≡ stepT rules P kinds (rowOf top p)
-    unfolding stepT
+    pub step-export : p .code ≡ 9 → outcomeOf r ≡ onExportT P → (outcomeOf r & kinds) ≡ readStepT rules P kinds (rowOf top p)
+    unfolding readStepT
     step-export e w = rw (sound-export top p sound e, w)
 
-pub step-none : (rules : RuleSet) (P : Place) (kinds : List ℕ) (r : State) (top : ℕ) (p : Parts) → (p .code ≡ 1 → ⊥) → (p .code ≡ 2 → ⊥) → (p .code ≡ 3 → ⊥) → (p .code ≡ 4 → ⊥) → (p .code ≡ 5 → ⊥) → (p .code ≡ 6 → ⊥) → (p .code ≡ 7 → ⊥) → (p .code ≡ 8 → ⊥) → (p .code ≡ 9 → ⊥) → outcomeOf r ≡ wrong → (outcomeOf r & kinds) ≡ stepT rules P kinds (rowOf top p)
-unfolding stepT
+pub step-none : (rules : RuleSet) (P : Position) (kinds : List ℕ) (r : ReadState) (top : ℕ) (p : Parts) → (p .code ≡ 1 → ⊥) → (p .code ≡ 2 → ⊥) → (p .code ≡ 3 → ⊥) → (p .code ≡ 4 → ⊥) → (p .code ≡ 5 → ⊥) → (p .code ≡ 6 → ⊥) → (p .code ≡ 7 → ⊥) → (p .code ≡ 8 → ⊥) → (p .code ≡ 9 → ⊥) → outcomeOf r ≡ wrong → (outcomeOf r & kinds) ≡ readStepT rules P kinds (rowOf top p)
+unfolding readStepT
 step-none rules P kinds r top p a b c d e f g h i w = rw (no-such-row top p a b c d e f g h i, w)
 
 pub ruleset step-ways = (step-unsound, step-field, step-decl, step-ref, step-path, step-outer, step-case, step-open, step-close, step-export, step-none, needs)

@@ -16,7 +16,7 @@ use Rattle.shapes.specs.Starts.{partsBy, bareParts}
 use Rattle.rows.specs.declared.row.Row.{Row}
 use Rattle.rows.specs.declared.row.Row.the-variants as row
 use Rattle.read_row.specs.declared.Field.{Field}
-use Rattle.read_row.specs.declared.State.{State}
+use Rattle.read_row.specs.declared.ReadState.{ReadState}
 
 -- ---- how far the rows are read
 
@@ -33,12 +33,12 @@ pub data Current : Type 0 where
   within : Field → Standing → Current
 
 -- how far the rows are read: how many scopes are open, the kind of the innermost, and the field there
-pub data Place : Type 0 where
-  place : (depth kind : ℕ) → Current → Place
+pub data Position : Type 0 where
+  position : (depth kind : ℕ) → Current → Position
 
 -- what a row leads to: on from a position, or the end, which is a form, a wrong row or a scope too many
 pub data Outcome : Type 0 where
-  on : Place → Outcome
+  on : Position → Outcome
   whole : Outcome
   wrong : Outcome
   deep : Outcome
@@ -50,16 +50,16 @@ unfoldable pub standingOf : (stage paths : ℕ) → Option (List Part) → Stand
 standingOf stage paths o = pick (eqb stage 0) (declaring o) (pick (eqb stage 1) (wanting o) (pick (eqb stage 2) (pathing paths o) exported))
 
 -- the field of a state
-unfoldable pub currentIn : State → Current
+unfoldable pub currentIn : ReadState → Current
 currentIn s = pick (leb (s .stage) 3) (within (s .field) (standingOf (s .stage) (s .paths) (leftOf (s .left)))) between-fields
 
 -- the position of a state that is not at its end
-unfoldable pub placeOf : State → Place
-placeOf s = place (s .depth) (s .kind) (currentIn s)
+unfoldable pub positionOf : ReadState → Position
+positionOf s = position (s .depth) (s .kind) (currentIn s)
 
 -- what a state stands for
-unfoldable pub outcomeOf : State → Outcome
-outcomeOf s = pick (ltb (s .stage) 5) (on (placeOf s)) (pick (eqb (s .stage) 5) whole (pick (eqb (s .stage) 7) deep wrong))
+unfoldable pub outcomeOf : ReadState → Outcome
+outcomeOf s = pick (ltb (s .stage) 5) (on (positionOf s)) (pick (eqb (s .stage) 5) whole (pick (eqb (s .stage) 7) deep wrong))
 
 -- ---- a field
 
@@ -68,15 +68,15 @@ unfoldable pub newField : (code builtin : ℕ) → Field
 newField code builtin = record { code = code; builtin = builtin; decls = 0; name = 0 }
 
 -- one DECL more; 2 stands for all that are more
-unfoldable pub moreT : ℕ → ℕ
-moreT decls = pick (ltb decls 2) (decls + 1) decls
+unfoldable pub moreDeclsT : ℕ → ℕ
+moreDeclsT decls = pick (ltb decls 2) (decls + 1) decls
 
 -- the field with one DECL more; its first DECL gives it its name
 unfoldable pub declaredT : Field → (name : ℕ) → Field
 declaredT f name =
     pick (eqb (f .decls) 0)
     (record { code = f .code; builtin = f .builtin; decls = 1; name = name })
-    (record { code = f .code; builtin = f .builtin; decls = moreT (f .decls); name = f .name })
+    (record { code = f .code; builtin = f .builtin; decls = moreDeclsT (f .decls); name = f .name })
 
 -- what it wants with a DECL of this space more
 unfoldable pub declaredLeft : RuleSet → Field → Option (List Part) → (space : ℕ) → Option (List Part)
@@ -109,22 +109,22 @@ mayEndT (within f stage) = settledT (within f stage) && isNone (opens (f .code))
 -- ---- what a row leads to
 
 -- a FIELD: the field before it may end, and the scope allows this one
-unfoldable pub fieldT : Place → (code builtin : ℕ) → Outcome
-fieldT (place d k c) code builtin =
-    pick (mayEndT c && (allowed k code && builtinOk code builtin)) (on (place d k (within (newField code builtin) (declaring (bareParts code))))) wrong
+unfoldable pub onFieldT : Position → (code builtin : ℕ) → Outcome
+onFieldT (position d k c) code builtin =
+    pick (mayEndT c && (allowed k code && builtinOk code builtin)) (on (position d k (within (newField code builtin) (declaring (bareParts code))))) wrong
 
 -- a DECL: it stands before the operands, and the field may declare it
-unfoldable pub declT : RuleSet → Place → (space name : ℕ) → Outcome
-declT rules (place d k between-fields) space name = wrong
-declT rules (place d k (within f (declaring o))) space name =
-    pick (mayDeclare (declares (f .code)) (f .decls) space) (on (place d k (within (declaredT f name) (declaring (declaredLeft rules f o space))))) wrong
-declT rules (place d k (within f (wanting o))) space name = wrong
-declT rules (place d k (within f (pathing left o))) space name = wrong
-declT rules (place d k (within f exported)) space name = wrong
+unfoldable pub onDeclT : RuleSet → Position → (space name : ℕ) → Outcome
+onDeclT rules (position d k between-fields) space name = wrong
+onDeclT rules (position d k (within f (declaring o))) space name =
+    pick (mayDeclare (declares (f .code)) (f .decls) space) (on (position d k (within (declaredT f name) (declaring (declaredLeft rules f o space))))) wrong
+onDeclT rules (position d k (within f (wanting o))) space name = wrong
+onDeclT rules (position d k (within f (pathing left o))) space name = wrong
+onDeclT rules (position d k (within f exported)) space name = wrong
 
 -- a REF of which `paths` PATHs are still to come
 unfoldable pub pathedT : (depth kind : ℕ) → Field → (paths : ℕ) → List Part → Outcome
-pathedT d k f paths ps = pick (eqb paths 0) (on (place d k (within f (wanting (some ps))))) (on (place d k (within f (pathing paths (some ps)))))
+pathedT d k f paths ps = pick (eqb paths 0) (on (position d k (within f (wanting (some ps))))) (on (position d k (within f (pathing paths (some ps)))))
 
 -- on with what the field then wants, if the row was one that it wants
 unfoldable pub stays : Option (List Part) → (List Part → Outcome) → Outcome
@@ -132,29 +132,29 @@ stays none go = wrong
 stays (some ps) go = go ps
 
 -- a row among the operands: what it `fits`, and what comes of it
-unfoldable pub operandT : Current → (fits : Want → Bool) → (Field → List Part → Outcome) → Outcome
-operandT between-fields fits go = wrong
-operandT (within f stage) fits go = stays (wantedT (within f stage) then λ ps. next fits ps) (go f)
+unfoldable pub onOperandT : Current → (fits : Want → Bool) → (Field → List Part → Outcome) → Outcome
+onOperandT between-fields fits go = wrong
+onOperandT (within f stage) fits go = stays (wantedT (within f stage) then λ ps. next fits ps) (go f)
 
 -- a REF, which the field wants
-unfoldable pub refT : Place → (space paths : ℕ) → Outcome
-refT (place d k c) space paths = operandT c (λ w. fitsRef w space paths) (λ f. pathedT d k f paths)
+unfoldable pub onRefT : Position → (space paths : ℕ) → Outcome
+onRefT (position d k c) space paths = onOperandT c (λ w. fitsRef w space paths) (λ f. pathedT d k f paths)
 
 -- an OUTER, which the field wants
-unfoldable pub outerT : Place → (space : ℕ) → Outcome
-outerT (place d k c) space = operandT c (λ w. fitsOuter w space) (λ f. pathedT d k f 0)
+unfoldable pub onOuterT : Position → (space : ℕ) → Outcome
+onOuterT (position d k c) space = onOperandT c (λ w. fitsOuter w space) (λ f. pathedT d k f 0)
 
 -- a CASE, which the field wants
-unfoldable pub caseT : Place → Outcome
-caseT (place d k c) = operandT c isCase (λ f. pathedT d k f 0)
+unfoldable pub onCaseT : Position → Outcome
+onCaseT (position d k c) = onOperandT c isCase (λ f. pathedT d k f 0)
 
 -- a PATH: the REF before it has one more to come
-unfoldable pub pathT : Place → Outcome
-pathT (place d k between-fields) = wrong
-pathT (place d k (within f (declaring o))) = wrong
-pathT (place d k (within f (wanting o))) = wrong
-pathT (place d k (within f (pathing left o))) = pick (eqb left 0) wrong (stays o (pathedT d k f (left - 1)))
-pathT (place d k (within f exported)) = wrong
+unfoldable pub onPathT : Position → Outcome
+onPathT (position d k between-fields) = wrong
+onPathT (position d k (within f (declaring o))) = wrong
+onPathT (position d k (within f (wanting o))) = wrong
+onPathT (position d k (within f (pathing left o))) = pick (eqb left 0) wrong (stays o (pathedT d k f (left - 1)))
+onPathT (position d k (within f exported)) = wrong
 
 -- may the field's EXPORT stand here?
 unfoldable pub mayExportT : Current → Bool
@@ -162,9 +162,9 @@ mayExportT between-fields = false
 mayExportT (within f stage) = isComplete (wantedT (within f stage)) && exports (f .code)
 
 -- the EXPORT of a field that has all its operands
-unfoldable pub exportT : Place → Outcome
-exportT (place d k between-fields) = wrong
-exportT (place d k (within f stage)) = pick (mayExportT (within f stage)) (on (place d k (within f exported))) wrong
+unfoldable pub onExportT : Position → Outcome
+onExportT (position d k between-fields) = wrong
+onExportT (position d k (within f stage)) = pick (mayExportT (within f stage)) (on (position d k (within f exported))) wrong
 
 -- may a scope of this kind and name be opened here?
 unfoldable pub mayOpenT : Current → (kind name : ℕ) → Bool
@@ -173,33 +173,33 @@ mayOpenT (within f stage) kind name = settledT (within f stage) && sameKind (ope
 
 -- between two fields of a scope
 unfoldable pub betweenT : (depth kind : ℕ) → Outcome
-betweenT d k = on (place d k between-fields)
+betweenT d k = on (position d k between-fields)
 
 -- `kinds` holds the kind of each scope around the one at hand
-unfoldable pub openT : Place → (kinds : List ℕ) (kind name : ℕ) → Out Outcome (List ℕ)
-openT (place d k c) kinds kind name =
+unfoldable pub onOpenT : Position → (kinds : List ℕ) (kind name : ℕ) → Out Outcome (List ℕ)
+onOpenT (position d k c) kinds kind name =
     pick (mayOpenT c kind name)
     (pick (leb (length kinds) d) (deep & kinds) (betweenT (d + 1) kind & set kinds d k))
     (wrong & kinds)
 
 -- a CLOSE: of the root it ends the form, of any other scope the field that holds it
-unfoldable pub closeT : Place → (kinds : List ℕ) → Outcome
-closeT (place d k c) kinds =
+unfoldable pub onCloseT : Position → (kinds : List ℕ) → Outcome
+onCloseT (position d k c) kinds =
     pick (mayEndT c) (pick (leb d 1) whole (betweenT (d - 1) (getD kinds (d - 1) 0))) wrong
 
 -- what each kind of row leads to
-unfoldable pub stepT : RuleSet → Place → (kinds : List ℕ) → Row → Out Outcome (List ℕ)
-stepT rules p kinds (row.Field code builtin z) = fieldT p code builtin & kinds
-stepT rules p kinds (row.Decl space name z) = declT rules p space name & kinds
-stepT rules p kinds (row.Ref space at paths z) = refT p space paths & kinds
-stepT rules p kinds (row.Path name) = pathT p & kinds
-stepT rules p kinds (row.Outer space up at z) = outerT p space & kinds
-stepT rules p kinds (row.Case name z) = caseT p & kinds
-stepT rules p kinds (row.Open kind name) = openT p kinds kind name
-stepT rules p kinds row.Close = closeT p kinds & kinds
-stepT rules p kinds (row.Export name) = exportT p & kinds
-stepT rules p kinds row.Broken = wrong & kinds
+unfoldable pub readStepT : RuleSet → Position → (kinds : List ℕ) → Row → Out Outcome (List ℕ)
+readStepT rules p kinds (row.Field code builtin z) = onFieldT p code builtin & kinds
+readStepT rules p kinds (row.Decl space name z) = onDeclT rules p space name & kinds
+readStepT rules p kinds (row.Ref space at paths z) = onRefT p space paths & kinds
+readStepT rules p kinds (row.Path name) = onPathT p & kinds
+readStepT rules p kinds (row.Outer space up at z) = onOuterT p space & kinds
+readStepT rules p kinds (row.Case name z) = onCaseT p & kinds
+readStepT rules p kinds (row.Open kind name) = onOpenT p kinds kind name
+readStepT rules p kinds row.Close = onCloseT p kinds & kinds
+readStepT rules p kinds (row.Export name) = onExportT p & kinds
+readStepT rules p kinds row.Broken = wrong & kinds
 
 -- the root is open, and nothing in it is read
-abbrev pub inRoot : Place
-inRoot = place 1 0 between-fields
+abbrev pub inRoot : Position
+inRoot = position 1 0 between-fields

@@ -20,12 +20,12 @@ ghost use lib.ListN.{getD};
 ghost use Rattle.kit.specs.Out.{_&_};
 ghost use Rattle.rules.specs.Shapes as rules;
 ghost use Rattle.rules.specs.Reader.{isComplete, isNone, sameKind};
-ghost use Rattle.rows.specs.Apart.{rowOf};
+ghost use Rattle.rows.specs.FromParts.{rowOf};
 ghost use Rattle.limits.specs.Held.{rulesOf};
 ghost use Rattle.codes.specs.Values.{Allows};
 ghost use Rattle.wants.specs.States.{leftOf, Right};
 ghost use Rattle.shapes.specs.Starts.{known};
-ghost use Rattle.read_row.specs.Machine.{on, wrong, whole, deep, currentIn, placeOf, outcomeOf, moreT, declaredT, declaredLeft, wantedT, settledT, mayEndT, fieldT, declT, betweenT, pathedT, stays, refT, outerT, caseT, pathT, exportT, mayOpenT, openT, closeT, stepT, inRoot};
+ghost use Rattle.read_row.specs.Machine.{on, wrong, whole, deep, currentIn, positionOf, outcomeOf, moreDeclsT, declaredT, declaredLeft, wantedT, settledT, mayEndT, onFieldT, onDeclT, betweenT, pathedT, stays, onRefT, onOuterT, onCaseT, onPathT, onExportT, mayOpenT, onOpenT, onCloseT, readStepT, inRoot};
 
 // ---- how far the rows are read
 
@@ -61,7 +61,7 @@ pub struct Field {
 }
 
 // How far the rows are read. All are whole words, so that they stay in registers.
-pub struct State {
+pub struct ReadState {
     // How many scopes are open.
     pub depth: usize,
     // The kind of the innermost of them.
@@ -95,11 +95,11 @@ fn wider(word: u32) -> usize
 // ---- where it ends
 
 // The form is whole.
-fn ended(s: State) -> State
+fn ended(s: ReadState) -> ReadState
     ensures { λ r. ⌜ outcomeOf r ≡ whole ⌝ }
 {
     let field = s.field;
-    State {
+    ReadState {
         depth: s.depth,
         kind: s.kind,
         stage: WHOLE,
@@ -110,11 +110,11 @@ fn ended(s: State) -> State
 }
 
 // The row is wrong.
-fn fault(s: State) -> State
+fn fault(s: ReadState) -> ReadState
     ensures { λ r. ⌜ outcomeOf r ≡ wrong ⌝ }
 {
     let field = s.field;
-    State {
+    ReadState {
         depth: s.depth,
         kind: s.kind,
         stage: WRONG,
@@ -125,11 +125,11 @@ fn fault(s: State) -> State
 }
 
 // The scope is one too many.
-fn too_deep(s: State) -> State
+fn too_deep(s: ReadState) -> ReadState
     ensures { λ r. ⌜ outcomeOf r ≡ deep ⌝ }
 {
     let field = s.field;
-    State {
+    ReadState {
         depth: s.depth,
         kind: s.kind,
         stage: DEEP,
@@ -143,7 +143,7 @@ fn too_deep(s: State) -> State
 
 // One DECL more.
 fn more(decls: usize) -> usize
-    ensures { λ r. ⌜ r ≡ moreT decls ⌝ }
+    ensures { λ r. ⌜ r ≡ moreDeclsT decls ⌝ }
 {
     if decls < 2 { decls + 1 } else { decls }
 }
@@ -179,7 +179,7 @@ fn with_operands(f: Field, rules: u8, left: usize, space: usize) -> usize
 }
 
 // Whether the field has all its operands.
-fn has_operands(s: State, table: &[[u8; 41]; 67]) -> bool
+fn has_operands(s: ReadState, table: &[[u8; 41]; 67]) -> bool
     requires { ⌜ Right (now table) ⌝ }
     ensures { λ r. ⌜ r ≡ isComplete (wantedT (currentIn s)) ⌝ }
 {
@@ -190,7 +190,7 @@ fn has_operands(s: State, table: &[[u8; 41]; 67]) -> bool
 }
 
 // Whether the field has all that it wants.
-fn is_settled(s: State, table: &[[u8; 41]; 67]) -> bool
+fn is_settled(s: ReadState, table: &[[u8; 41]; 67]) -> bool
     requires { ⌜ Right (now table) ⌝ }
     ensures { λ r. ⌜ r ≡ settledT (currentIn s) ⌝ }
 {
@@ -224,7 +224,7 @@ fn opens_kind(code: usize, kind: usize) -> bool
 }
 
 // Whether a field may end here without a scope of its own.
-fn may_end(s: State, table: &[[u8; 41]; 67]) -> bool
+fn may_end(s: ReadState, table: &[[u8; 41]; 67]) -> bool
     requires { ⌜ Right (now table) ⌝ }
     ensures { λ r. ⌜ r ≡ mayEndT (currentIn s) ⌝ }
 {
@@ -238,7 +238,7 @@ fn may_end(s: State, table: &[[u8; 41]; 67]) -> bool
 }
 
 // Whether a scope of this kind and name may be opened here.
-fn may_open(s: State, table: &[[u8; 41]; 67], kind: usize, name: usize) -> bool
+fn may_open(s: ReadState, table: &[[u8; 41]; 67], kind: usize, name: usize) -> bool
     requires { ⌜ Right (now table) ⌝ }
     ensures { λ r. ⌜ r ≡ mayOpenT (currentIn s) kind name ⌝ }
 {
@@ -255,18 +255,18 @@ fn may_open(s: State, table: &[[u8; 41]; 67], kind: usize, name: usize) -> bool
 
 // A FIELD, which ends the field before it.
 fn on_field(
-    s: State,
+    s: ReadState,
     table: &[[u8; 41]; 67],
     allowed: &[[u8; 26]; 4],
     code: usize,
     builtin: usize,
-) -> State
+) -> ReadState
     requires { ⌜ Right (now table) ⌝ }
     requires { ⌜ Allows (now allowed) ⌝ }
-    ensures { λ r. ⌜ outcomeOf r ≡ fieldT (placeOf s) code builtin ⌝ }
+    ensures { λ r. ⌜ outcomeOf r ≡ onFieldT (positionOf s) code builtin ⌝ }
 {
     if may_end(s, table) & (allows(allowed, s.kind, code) & builtin_ok(code, builtin)) {
-        return State {
+        return ReadState {
             depth: s.depth,
             kind: s.kind,
             stage: DECLARING,
@@ -284,8 +284,8 @@ fn on_field(
 }
 
 // A DECL.
-fn on_decl(s: State, rules: u8, space: u8, name: usize) -> State
-    ensures { λ r. ⌜ outcomeOf r ≡ declT (rulesOf rules) (placeOf s) space name ⌝ }
+fn on_decl(s: ReadState, rules: u8, space: u8, name: usize) -> ReadState
+    ensures { λ r. ⌜ outcomeOf r ≡ onDeclT (rulesOf rules) (positionOf s) space name ⌝ }
 {
     if s.stage != DECLARING {
         return fault(s);
@@ -294,7 +294,7 @@ fn on_decl(s: State, rules: u8, space: u8, name: usize) -> State
     if !may_declare(f.code, f.decls, space) {
         return fault(s);
     }
-    State {
+    ReadState {
         depth: s.depth,
         kind: s.kind,
         stage: DECLARING,
@@ -305,7 +305,7 @@ fn on_decl(s: State, rules: u8, space: u8, name: usize) -> State
 }
 
 // An operand after which `left` is wanted, and `paths` PATHs are still to come.
-fn wanting(s: State, paths: usize, left: usize) -> State
+fn wanting(s: ReadState, paths: usize, left: usize) -> ReadState
     ensures { λ r. ⌜ outcomeOf r ≡ stays (leftOf left) (pathedT (s .depth) (s .kind) (s .field) paths) ⌝ }
 {
     if left < NOTHING {
@@ -313,7 +313,7 @@ fn wanting(s: State, paths: usize, left: usize) -> State
     }
     let field = s.field;
     if paths == 0 {
-        return State {
+        return ReadState {
             depth: s.depth,
             kind: s.kind,
             stage: WANTING,
@@ -322,7 +322,7 @@ fn wanting(s: State, paths: usize, left: usize) -> State
             field,
         };
     }
-    State {
+    ReadState {
         depth: s.depth,
         kind: s.kind,
         stage: PATHING,
@@ -333,9 +333,9 @@ fn wanting(s: State, paths: usize, left: usize) -> State
 }
 
 // A REF.
-fn on_ref(s: State, table: &[[u8; 41]; 67], space: usize, paths: usize) -> State
+fn on_ref(s: ReadState, table: &[[u8; 41]; 67], space: usize, paths: usize) -> ReadState
     requires { ⌜ Right (now table) ⌝ }
-    ensures { λ r. ⌜ outcomeOf r ≡ refT (placeOf s) space paths ⌝ }
+    ensures { λ r. ⌜ outcomeOf r ≡ onRefT (positionOf s) space paths ⌝ }
 {
     if WANTING < s.stage {
         return fault(s);
@@ -344,9 +344,9 @@ fn on_ref(s: State, table: &[[u8; 41]; 67], space: usize, paths: usize) -> State
 }
 
 // An OUTER.
-fn on_outer(s: State, table: &[[u8; 41]; 67], space: usize) -> State
+fn on_outer(s: ReadState, table: &[[u8; 41]; 67], space: usize) -> ReadState
     requires { ⌜ Right (now table) ⌝ }
-    ensures { λ r. ⌜ outcomeOf r ≡ outerT (placeOf s) space ⌝ }
+    ensures { λ r. ⌜ outcomeOf r ≡ onOuterT (positionOf s) space ⌝ }
 {
     if WANTING < s.stage {
         return fault(s);
@@ -355,9 +355,9 @@ fn on_outer(s: State, table: &[[u8; 41]; 67], space: usize) -> State
 }
 
 // A CASE.
-fn on_case(s: State, table: &[[u8; 41]; 67]) -> State
+fn on_case(s: ReadState, table: &[[u8; 41]; 67]) -> ReadState
     requires { ⌜ Right (now table) ⌝ }
-    ensures { λ r. ⌜ outcomeOf r ≡ caseT (placeOf s) ⌝ }
+    ensures { λ r. ⌜ outcomeOf r ≡ onCaseT (positionOf s) ⌝ }
 {
     if WANTING < s.stage {
         return fault(s);
@@ -366,8 +366,8 @@ fn on_case(s: State, table: &[[u8; 41]; 67]) -> State
 }
 
 // A PATH of the REF that is at hand.
-fn on_path(s: State) -> State
-    ensures { λ r. ⌜ outcomeOf r ≡ pathT (placeOf s) ⌝ }
+fn on_path(s: ReadState) -> ReadState
+    ensures { λ r. ⌜ outcomeOf r ≡ onPathT (positionOf s) ⌝ }
 {
     if s.stage != PATHING {
         return fault(s);
@@ -380,13 +380,13 @@ fn on_path(s: State) -> State
 }
 
 // An EXPORT.
-fn on_export(s: State, table: &[[u8; 41]; 67]) -> State
+fn on_export(s: ReadState, table: &[[u8; 41]; 67]) -> ReadState
     requires { ⌜ Right (now table) ⌝ }
-    ensures { λ r. ⌜ outcomeOf r ≡ exportT (placeOf s) ⌝ }
+    ensures { λ r. ⌜ outcomeOf r ≡ onExportT (positionOf s) ⌝ }
 {
     if has_operands(s, table) & exports(s.field.code) {
         let field = s.field;
-        return State {
+        return ReadState {
             depth: s.depth,
             kind: s.kind,
             stage: EXPORTED,
@@ -399,11 +399,11 @@ fn on_export(s: State, table: &[[u8; 41]; 67]) -> State
 }
 
 // On between two fields of a scope.
-fn between(s: State, depth: usize, kind: usize) -> State
+fn between(s: ReadState, depth: usize, kind: usize) -> ReadState
     ensures { λ r. ⌜ outcomeOf r ≡ betweenT depth kind ⌝ }
 {
     let field = s.field;
-    State {
+    ReadState {
         depth,
         kind,
         stage: BETWEEN,
@@ -414,9 +414,15 @@ fn between(s: State, depth: usize, kind: usize) -> State
 }
 
 // An OPEN: `kinds` holds the kind of each scope around the one at hand, and has no place for one too many.
-fn on_open(s: State, kinds: &mut [usize], table: &[[u8; 41]; 67], kind: usize, name: usize) -> State
+fn on_open(
+    s: ReadState,
+    kinds: &mut [usize],
+    table: &[[u8; 41]; 67],
+    kind: usize,
+    name: usize,
+) -> ReadState
     requires { ⌜ Right (now table) ⌝ }
-    ensures { λ r. ⌜ (outcomeOf r & now (kinds .exit)) ≡ openT (placeOf s) (now (kinds .entry)) kind name ⌝ }
+    ensures { λ r. ⌜ (outcomeOf r & now (kinds .exit)) ≡ onOpenT (positionOf s) (now (kinds .entry)) kind name ⌝ }
 {
     if !may_open(s, table, kind, name) {
         return fault(s);
@@ -437,9 +443,9 @@ fn kind_at(kinds: &[usize], depth: usize) -> usize
 }
 
 // A CLOSE, which ends the field before it too.
-fn on_close(s: State, kinds: &[usize], table: &[[u8; 41]; 67]) -> State
+fn on_close(s: ReadState, kinds: &[usize], table: &[[u8; 41]; 67]) -> ReadState
     requires { ⌜ Right (now table) ⌝ }
-    ensures { λ r. ⌜ outcomeOf r ≡ closeT (placeOf s) (now (kinds .entry)) ⌝ }
+    ensures { λ r. ⌜ outcomeOf r ≡ onCloseT (positionOf s) (now (kinds .entry)) ⌝ }
 {
     if !may_end(s, table) {
         return fault(s);
@@ -453,17 +459,17 @@ fn on_close(s: State, kinds: &[usize], table: &[[u8; 41]; 67]) -> State
 
 // A row of a form, by its parts; names reach to `top`.
 pub fn step(
-    s: State,
+    s: ReadState,
     kinds: &mut [usize],
     table: &[[u8; 41]; 67],
     allowed: &[[u8; 26]; 4],
     p: Parts,
     top: u32,
     rules: u8,
-) -> State
+) -> ReadState
     requires { ⌜ Right (now table) ⌝ }
     requires { ⌜ Allows (now allowed) ⌝ }
-    ensures { λ r. ⌜ (outcomeOf r & now (kinds .exit)) ≡ stepT (rulesOf rules) (placeOf s) (now (kinds .entry)) (rowOf top p) ⌝ }
+    ensures { λ r. ⌜ (outcomeOf r & now (kinds .exit)) ≡ readStepT (rulesOf rules) (positionOf s) (now (kinds .entry)) (rowOf top p) ⌝ }
 {
     if !is_sound(p, top) {
         return fault(s);
@@ -486,10 +492,10 @@ pub fn step(
 // ---- the first row
 
 // In the root, before its first field.
-pub fn root() -> State
+pub fn root() -> ReadState
     ensures { λ r. ⌜ outcomeOf r ≡ on inRoot ⌝ }
 {
-    State {
+    ReadState {
         depth: 1,
         kind: 0,
         stage: BETWEEN,

@@ -34,7 +34,7 @@ use Rattle.reading_laws.specs.Said.{said, saidIn, saidOut, saidBehind, s
 use Rattle.reading_laws.specs.Declared.{Declared, declared-at, inserted-at, Agree, a-place, an-inserted, nothing, the-place}
 use Rattle.reading_laws.specs.Meant.{first-of, Rows, use-there, around, around-are, none-inserted-around}
 use Rattle.reading_laws.specs.Whole.{named, ref-row}
-use Rattle.reading_laws.specs.Apart.{exactly}
+use Rattle.reading_laws.specs.PlacesOriginal.{exactly}
 
 -- ---- inserted outer aliases count
 

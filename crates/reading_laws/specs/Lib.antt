@@ -18,7 +18,7 @@ pub mod Said
 -- The readings on rows are those of the rules.
 pub mod Meant
 pub mod Whole
-pub mod Apart
+pub mod PlacesOriginal
 pub mod Counted
 -- Names in one scope.
 pub mod LookedUp

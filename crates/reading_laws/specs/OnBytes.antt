@@ -21,10 +21,10 @@ use Rattle.rules.specs.Answer
 use Rattle.rules.specs.Answer.{AnswerOf, refused, accepted, mapAnswer, answer, answerIn, formIn, output, rowCount, rowsIn, rowsBytes, formBytes, written, settingOf}
 use Rattle.rules.specs.Laws.ToolLaws.{Ok, ok-at, eqb-true}
 use Rattle.rules.specs.Laws.RowLaws.{Bytes}
-use Rattle.rules.specs.Laws.Reading.BeginsWritten.{rows-length}
-use Rattle.rules.specs.Laws.Reading.ReadRight.{read-right}
+use Rattle.rules.specs.Laws.Read.BeginsWritten.{rows-length}
+use Rattle.rules.specs.Laws.Read.ReadRight.{read-right}
 use Rattle.rules.specs.Laws.Output.OutBytes.{header-length, out-rows}
-use Rattle.rules.specs.Laws.Demand3.{AllUsual, Accepted, readings}
+use Rattle.rules.specs.Laws.InputLaws.{AllUsual, Accepted, readings}
 use Rattle.row_parts.specs.Parts as parts
 use Rattle.reading_laws.specs.Stand.{At, rows-stand}
 use Rattle.reading_laws.specs.Meant.{Rows}

@@ -18,7 +18,7 @@ use Rattle.rules.specs.Readings.{originals, Place, Level, Use, useIn, useInside
 use Rattle.rules.specs.Laws.ToolLaws.{then-some}
 use Rattle.rules.specs.Laws.RowLaws.{Bytes}
 use Rattle.rules.specs.Laws.Results.{some-same, no-option}
-use Rattle.rules.specs.Laws.Demand3.{base-usual, Accepted}
+use Rattle.rules.specs.Laws.InputLaws.{base-usual, Accepted}
 use Rattle.places.specs.PlaceRows.{Placed, originalsFrom, Floor, floorsAt, fieldIn, fieldAt, rowOfDecl, rowOfOperand, operandRowAt}
 use Rattle.places.specs.Counting.{levels, originals-from, elem-map, floors-at}
 use Rattle.readings.specs.Meaning.{readingOf, isOutward, meaningOf, finalMeaning}

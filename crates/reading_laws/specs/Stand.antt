@@ -12,7 +12,7 @@ use Rattle.rules.specs.Answer.{rowsOf}
 use Rattle.rules.specs.Laws.ToolLaws.{ok-at}
 use Rattle.rules.specs.Laws.RowLaws.{decode-parts}
 use Rattle.rules.specs.Laws.Results.{some-same, no-option}
-use Rattle.rows.specs.Apart.{two, four}
+use Rattle.rows.specs.FromParts.{two, four}
 use Rattle.rows.proofs.Laws.{value-four}
 use Rattle.row_parts.specs.Parts.{startOf, codeAt, bAt, eAt, xAt, yAt, zAt}
 

@@ -8,7 +8,7 @@ use lib.Dec.{eqb, ltb}
 use lib.ListN.{length, take, drop}
 use Rattle.rules.specs.Tools.{if_then_else_, between}
 use Rattle.rules.specs.Versions.{Setting}
-use Rattle.rules.specs.Tree.{Reading, bad, deep, form}
+use Rattle.rules.specs.Tree.{RowsRead, bad, deep, form}
 use Rattle.rules.specs.Reader.{read}
 use Rattle.rules.specs.Answer.{AnswerOf, refused, accepted, settingOf, rowCount, rowsIn}
 use Rattle.renaming.specs.Renaming.{renamedBytes, namesOf, firsts, placeOf}
@@ -18,7 +18,7 @@ unfoldable pub keyIn : Setting → List ℕ → List ℕ
 keyIn s input = firsts [] (namesOf (rowsIn s input))
 
 -- refusals 4 and 5; of a form the key
-unfoldable pub afterReading : Reading → (key : List ℕ) → AnswerOf (List ℕ)
+unfoldable pub afterReading : RowsRead → (key : List ℕ) → AnswerOf (List ℕ)
 afterReading (bad place) key = refused 4 place []
 afterReading (deep place) key = refused 5 place []
 afterReading (form s) key = accepted key

@@ -5,7 +5,7 @@ use Rattle.kit.specs.Out.{_&_}
 use Rattle.rules.specs.Tree.{Scope}
 use Rattle.rules.specs.Rules.{numberOf, Result, ok}
 use Rattle.refusal.specs.Refusals.{refusalAt}
-use Rattle.write.specs.State.{Wrote}
+use Rattle.write.specs.WriteState.{Wrote}
 use Rattle.write.specs.declared.alias.Walked.the-variants as walked
 use Rattle.resolver.specs.Run.{walkT}
 use Rattle.resolver.specs.declared.steps.Steps.{Steps}

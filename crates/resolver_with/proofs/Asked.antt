@@ -9,7 +9,7 @@ use lib.Dec.{eqb}
 use lib.ListN.{length, drop}
 use borrow.Author.Needs.{needs}
 use Rattle.rules.specs.Tools.{if_then_else_, between, only, _orElse_}
-use Rattle.rules.specs.Versions.{Setting}
+use Rattle.rules.specs.Versions.{Setting, all}
 use Rattle.rules.specs.Answer.{hasHeader, settingOf, rowCount, answerInside, answer, outputInside, output}
 use Rattle.limits.specs.declared.Limits.{Limits}
 use Rattle.limits.specs.Held.{settingIn, limitsOf, setting}
@@ -17,7 +17,7 @@ use Rattle.limits.proofs.Laws.{stand-for}
 use Rattle.form.specs.Header.{headerIn, headerFor, headerTo}
 use Rattle.form.specs.declared.header.Header.{Header}
 use Rattle.form.specs.declared.header.Header.the-variants.{Rows, Wrong, Count}
-use Rattle.resolver_with.specs.Served.{first, served, askedIn, asked}
+use Rattle.resolver_with.specs.Asked.{first, askedIn, asked}
 
 -- ---- asked_for
 
@@ -44,19 +44,19 @@ no-header s input true e =
 no-header s input false e = refl
 
 -- the setting at place i is the next one
-next-of : (i : ℕ) → i < 3 → drop i served ≡ setting i ∷ drop (i + 1) served
+next-of : (i : ℕ) → i < 3 → drop i all ≡ setting i ∷ drop (i + 1) all
 next-of zero h = refl
 next-of (suc zero) h = refl
 next-of (suc (suc zero)) h = refl
 next-of (suc (suc (suc i))) h = absurd (omega arith)
 
-module _ (input : List ℕ) (i : ℕ) (T : Setting) (inv : askedIn (drop i served) input ≡ T) where
+module _ (input : List ℕ) (i : ℕ) (T : Setting) (inv : askedIn (drop i all) input ≡ T) where
   module _ (h : i < 3) (l : Limits) (limits : l ≡ limitsOf (setting i)) (said : Header) (got : said ≡ headerTo l input) where
     of-setting : said ≡ headerFor (only (hasHeader (setting i) input) (setting i)) input
     unfolding headerTo
     of-setting = rw (limits, stand-for i) at got
 
-    turn : (if hasHeader (setting i) input then setting i else askedIn (drop (i + 1) served) input) ≡ T
+    turn : (if hasHeader (setting i) input then setting i else askedIn (drop (i + 1) all) input) ≡ T
     unfolding askedIn
     turn = sym (ap (λ (ss : List Setting). askedIn ss input) (next-of i h)) ∙ inv
 
@@ -70,15 +70,15 @@ module _ (input : List ℕ) (i : ℕ) (T : Setting) (inv : askedIn (drop i serve
     pub asked-count : said ≡ Count → setting i ≡ T
     asked-count e = hit (some-count (setting i) input (hasHeader (setting i) input) (sym e ∙ of-setting))
 
-    pub asked-on : said ≡ Wrong → askedIn (drop (i + 1) served) input ≡ T
+    pub asked-on : said ≡ Wrong → askedIn (drop (i + 1) all) input ≡ T
     unfolding if_then_else_
     asked-on e = rw (no-header (setting i) input (hasHeader (setting i) input) (sym e ∙ of-setting)) at turn
 
   pub asked-end : 3 ≤ i → i ≤ 3 → setting 0 ≡ T
   unfolding askedIn
-  asked-end h g = let e : i ≡ 3 = omega arith in sym (ap (λ (n : ℕ). askedIn (drop n served) input) e) ∙ inv
+  asked-end h g = let e : i ≡ 3 = omega arith in sym (ap (λ (n : ℕ). askedIn (drop n all) input) e) ∙ inv
 
-pub asked-first : (input : List ℕ) → askedIn (drop 0 served) input ≡ asked input
+pub asked-first : (input : List ℕ) → askedIn (drop 0 all) input ≡ asked input
 unfolding asked
 asked-first input = refl
 
@@ -103,14 +103,14 @@ first-unasked true others e = let z : _≡_ {A = ℕ} 0 1 = cc in absurd (omega 
 first-unasked false others e = refl
 
 module _ (input : List ℕ) where
-  pub setting-asked : settingOf served input ≡ settingOf (asked input ∷ []) input
+  pub setting-asked : settingOf all input ≡ settingOf (asked input ∷ []) input
   unfolding asked settingOf
-  setting-asked = asked-same served input (λ e. first-unasked (hasHeader first input) _ e)
+  setting-asked = asked-same all input (λ e. first-unasked (hasHeader first input) _ e)
 
-  pub answer-asked : (room : ℕ) → answer served input room ≡ answer (asked input ∷ []) input room
+  pub answer-asked : (room : ℕ) → answer all input room ≡ answer (asked input ∷ []) input room
   unfolding answer answerInside
   answer-asked room = rw setting-asked
 
-  pub output-asked : (old : List ℕ) → output served input old ≡ output (asked input ∷ []) input old
+  pub output-asked : (old : List ℕ) → output all input old ≡ output (asked input ∷ []) input old
   unfolding output outputInside
   output-asked old = rw setting-asked

@@ -20,12 +20,12 @@ use Rattle.refusal.specs.declared.Refusal.{Refusal}
 use Rattle.limits.specs.declared.Limits.{Limits}
 use Rattle.limits.specs.Held.{limitsOf, setting}
 use Rattle.limits.proofs.Laws.{few-rows}
-use Rattle.form.specs.Marked.{endsTo}
+use Rattle.form.specs.MarkEnds.{endsTo}
 use Rattle.names.specs.Table.{Slot, emptySlot, noScope}
-use Rattle.write.specs.State.{Wrote}
-use Rattle.write.specs.declared.alias.State.{State}
+use Rattle.write.specs.WriteState.{Wrote}
+use Rattle.write.specs.declared.alias.WriteState.{WriteState}
 use Rattle.write.specs.declared.alias.Walked.{Walked}
-use Rattle.walk.specs.Walk.{scopeT, startIn}
+use Rattle.walk.specs.Scopes.{scopeWalkT, startIn}
 use Rattle.walk.specs.Open.{Served, Stacked}
 use Rattle.whole_form.specs.Whole.{formOf}
 use Rattle.whole_form.specs.declared.read.Form.{Form}
@@ -42,7 +42,7 @@ use Rattle.resolver.proofs.Root.{Able, able-1, able-2, Rooms}
 use Rattle.resolver.proofs.Agrees.{answers-early, leaves-early, run-agrees}
 use Rattle.resolver_with.specs.Areas.{slotsFor, linksFor, Lent, lentOf, roomy, cleared, Cleared}
 use Rattle.resolver_with.specs.Exact.{exactly, Suits, Zeroed}
-use Rattle.resolver_with.specs.Served.{asked}
+use Rattle.resolver_with.specs.Asked.{asked}
 use Rattle.resolver_with.specs.With.{answerWith, outputWith, Ran}
 use Rattle.resolver_with.proofs.Asked.{answer-asked, output-asked}
 use Rattle.resolver_with.proofs.Zeros.{exact-is, cleared-is}
@@ -99,16 +99,16 @@ module _ (i : ℕ) (entered names : List Slot) (known chains ends : List ℕ) (s
     stack-is = take-copies most 64 noScope most-few ∙ ap (λ (n : ℕ). replicate n noScope) most-is
 
     -- no scope is open
-    pub stacked-in : (early : Bool) (s : State) → s ≡ startIn 0 0 early → Stacked (take most (replicate 64 noScope)) s
+    pub stacked-in : (early : Bool) (s : WriteState) → s ≡ startIn 0 0 early → Stacked (take most (replicate 64 noScope)) s
     stacked-in early s e = rw stack-is (stacked-start (setting i .version .scopes) early s e)
 
-    pub walk-whole : (rows noted out o : List ℕ) (e n : List Slot) (a : Walked) (early : Bool) (s : State) (by : Limits) → early ≡ setting i .rules .early → by ≡ limitsOf (setting i) → s ≡ startIn 0 0 early → noted ≡ endsTo (by .scopes) rows ends
-        → (a & e & n & o) ≡ scopeT rows noted (length (take most (replicate 64 noScope)) - s .depth) entered names (take most (replicate 64 noScope)) out s → a & o ≡ walkIn (setting i) rows ends entered names out
+    pub walk-whole : (rows noted out o : List ℕ) (e n : List Slot) (a : Walked) (early : Bool) (s : WriteState) (by : Limits) → early ≡ setting i .rules .early → by ≡ limitsOf (setting i) → s ≡ startIn 0 0 early → noted ≡ endsTo (by .scopes) rows ends
+        → (a & e & n & o) ≡ scopeWalkT rows noted (length (take most (replicate 64 noScope)) - s .depth) entered names (take most (replicate 64 noScope)) out s → a & o ≡ walkIn (setting i) rows ends entered names out
     unfolding walkIn seenOf
     walk-whole rows noted out o e n a early s by f limits₂ b m w =
         let k : by .scopes ≡ setting i .version .scopes = ap (λ (x : Limits). x .scopes) limits₂ in
         let d : length (replicate (setting i .version .scopes) noScope) - 0 ≡ setting i .version .scopes = omega (arith, length-replicate (setting i .version .scopes) noScope) in
-        let w′ : (a & e & n & o) ≡ scopeT rows (endsTo (setting i .version .scopes) rows ends) (setting i .version .scopes) entered names (replicate (setting i .version .scopes) noScope) out (startIn 0 0 early) = rw (b, stack-is, m, k, d) at w in
+        let w′ : (a & e & n & o) ≡ scopeWalkT rows (endsTo (setting i .version .scopes) rows ends) (setting i .version .scopes) entered names (replicate (setting i .version .scopes) noScope) out (startIn 0 0 early) = rw (b, stack-is, m, k, d) at w in
         rw (← f, ← w′)
 
 -- ---- is_exact, room_if

@@ -6,21 +6,21 @@ use mathlib.Core.List.{List, [], _∷_}
 use Prim.Native.Nat.{ℕ}
 use lib.ListN.{length}
 use Rattle.rules.specs.Tools.{if_then_else_}
-use Rattle.rules.specs.Versions.{Setting}
+use Rattle.rules.specs.Versions.{Setting, all}
 use Rattle.rules.specs.Answer as rules
 use Rattle.rules.specs.Answer.{answer, output}
 use Rattle.resolver.specs.Meaning.{meaning, ruled}
 use Rattle.resolver.specs.declared.run.Answer.{Answer}
 use Rattle.resolver_with.specs.Areas.{Lent, roomy}
-use Rattle.resolver_with.specs.Served.{served, asked}
+use Rattle.resolver_with.specs.Asked.{asked}
 
 -- the rules' answer; areas that are too small count as an output without room
 unfoldable pub answerWith : (input : List ℕ) (room : ℕ) → Lent → rules.Answer
-answerWith input room lent = answer served input (if roomy (asked input .version) lent then room else 0)
+answerWith input room lent = answer all input (if roomy (asked input .version) lent then room else 0)
 
 -- what the output holds then
 unfoldable pub outputWith : (input old : List ℕ) → Lent → List ℕ
-outputWith input old lent = if roomy (asked input .version) lent then output served input old else old
+outputWith input old lent = if roomy (asked input .version) lent then output all input old else old
 
 -- the same under one setting
 pub record Ran (s : Setting) (enough : Bool) (input old new : List ℕ) (a : Answer) : Type 0 where

@@ -4,7 +4,7 @@ use mathlib.Core.List.{List}
 use Prim.Native.Nat.{ℕ, _+_}
 use borrow.Author.Needs.{needs}
 use lib.ListN.{getD}
-use Rattle.parts.specs.Apart.{two, four}
+use Rattle.parts.specs.PartsAt.{two, four}
 use Rattle.row_bytes.specs.Parts.{startOf, codeAt, bAt, eAt, xAt, yAt, zAt}
 
 module _ (form : List ℕ) (row s r : ℕ) (at : s ≡ startOf row) where

@@ -2,7 +2,7 @@
 use mathlib.Core.List.{List}
 use Prim.Native.Nat.{ℕ, _+_, _*_}
 use lib.ListN.{getD}
-use Rattle.parts.specs.Apart.{two, four}
+use Rattle.parts.specs.PartsAt.{two, four}
 
 -- a row has sixteen bytes, and a header of eight stands before them
 

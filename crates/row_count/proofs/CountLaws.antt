@@ -8,7 +8,7 @@ use borrow.Author.Needs.{needs}
 use lib.Dec.{eqb}
 use lib.ListN.{length, getD}
 use Rattle.kit.proofs.Laws.{yes!, no!, tests}
-use Rattle.parts.specs.Apart.{two}
+use Rattle.parts.specs.PartsAt.{two}
 use Rattle.row_bytes.specs.Parts.{startOf}
 use Rattle.row_count.specs.Count.{beginsWnt, hasHeader, rowsIn, isWhole}
 

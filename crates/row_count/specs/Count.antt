@@ -5,7 +5,7 @@ use Prim.Native.Nat.{ℕ, _-_, _/_}
 use lib.Dec.{eqb, ltb}
 use lib.ListN.{length, getD}
 use Rattle.kit.specs.Pick.{pick}
-use Rattle.parts.specs.Apart.{two}
+use Rattle.parts.specs.PartsAt.{two}
 use Rattle.row_bytes.specs.Parts.{startOf}
 
 -- are the first three letters WNT?

@@ -3,7 +3,7 @@ use form_bytes::byte_at;
 use form_bytes::half_at;
 use row_bytes::start_of;
 ghost use mathlib.Core.Path.{_≡_};
-ghost use Rattle.parts.specs.Apart.{two};
+ghost use Rattle.parts.specs.PartsAt.{two};
 ghost use Rattle.row_count.specs.Count.{beginsWnt, hasHeader, rowsIn, isWhole};
 
 fn begins_wnt(form: &[u8]) -> bool

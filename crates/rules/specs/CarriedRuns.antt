@@ -10,7 +10,7 @@ use Rattle.rules.specs.Versions.{version1, today, base}
 use Rattle.rules.specs.Rows
 use Rattle.rules.specs.Rows.{Raw, raw, decode}
 use Rattle.rules.specs.Tree
-use Rattle.rules.specs.Tree.{scope, Reading, bad, deep, form}
+use Rattle.rules.specs.Tree.{scope, RowsRead, bad, deep, form}
 use Rattle.rules.specs.Shapes
 use Rattle.rules.specs.Reader
 use Rattle.rules.specs.Reader.{read}
@@ -74,7 +74,7 @@ entriesOf (Result.refused why place) = []
 entriesOf (ok p) = p .0 .entries
 
 -- the table of the root
-tableOfRoot : Reading → List Entry
+tableOfRoot : RowsRead → List Entry
 tableOfRoot (bad place) = []
 tableOfRoot (deep place) = []
 tableOfRoot (form (scope kind name fs)) = entriesOf (prepare name fs (atRoot today []) 0)

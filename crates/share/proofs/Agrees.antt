@@ -20,10 +20,10 @@ use Rattle.rules.specs.Answer as rules
 use Rattle.rules.specs.Answer.{AnswerOf, refused, accepted, mapAnswer, hasHeader, settingOf, rowCount, rowsOf, resolved, answer, rowsBytes, formBytes, written, outputAfter, output}
 use Rattle.rules.specs.Laws.RowLaws.{Bytes, bytes-drop}
 use Rattle.rules.specs.Laws.Results.{some-same}
-use Rattle.rules.specs.Laws.Demand3.{AllUsual, readings}
+use Rattle.rules.specs.Laws.InputLaws.{AllUsual, readings}
 use Rattle.rules.specs.Laws.Meaning.Names.{LowScope}
 use Rattle.rules.specs.Laws.Meaning.ReadNames.{read-low}
-use Rattle.rules.specs.Laws.Reading.ReadRight.{reads-form}
+use Rattle.rules.specs.Laws.Read.ReadRight.{reads-form}
 use Rattle.read_form.specs.ReadForm.{_andThen_, readForm}
 use Rattle.read_form.specs.Laws.ReadFormLaws.{no-answer, past, read-exactly, read-written}
 use Rattle.read_form.specs.Laws.OutputLength.{form-length, output-length}
@@ -34,10 +34,10 @@ use Rattle.sharing.specs.Sharing.{mark, propose, proposed, sharedAfter, shared,
 use Rattle.sharing.specs.Laws.SharedAccepted.{shared-four, shared-refuses}
 use Rattle.sharing.specs.Laws.SharedAnswer.{Planned, planned}
 use Rattle.sharing.specs.Laws.SharedBuffer.{refused-buffer, planned-buffer}
-use Rattle.form.specs.Marked.{endsTo}
+use Rattle.form.specs.MarkEnds.{endsTo}
 use Rattle.form.proofs.EndsStorey.{ends-to-right}
 use Rattle.names.specs.Table.{Slot}
-use Rattle.mark.specs.Marked.{markedT}
+use Rattle.mark.specs.MarkedRows.{markRowsT}
 use Rattle.mark_laws.specs.Agrees.{AllMarked, mark-agrees}
 use Rattle.resolver.specs.Meaning.{Said, meaning, ruled}
 use Rattle.resolver.specs.Admit.{isShort, admit}
@@ -176,7 +176,7 @@ module _ (one : Setting) (able : Able one) where
 
     -- are written where there is room for them, for the slots of a table and for the ends of fields
     pub marks : (ends marked : List ℕ) (table : List Slot) → v .rows ≤ length ends → v .rows ≤ length table → length marked ≡ length body
-        → AllMarked (markedT body (endsTo (v .scopes) body ends) table marked) (length table) (flatten (mark (tree .0)))
+        → AllMarked (markRowsT body (endsTo (v .scopes) body ends) table marked) (length table) (flatten (mark (tree .0)))
     marks ends marked table a b l =
         let c = count in
         let g = long in

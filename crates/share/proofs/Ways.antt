@@ -18,17 +18,17 @@ use Rattle.rules.specs.Tree.{flatten}
 use Rattle.rules.specs.Answer as rules
 use Rattle.rules.specs.Answer.{refused, accepted, answer, rowsBytes, output}
 use Rattle.rules.specs.Laws.RowLaws.{Bytes}
-use Rattle.rules.specs.Laws.Demand3.{base-usual}
+use Rattle.rules.specs.Laws.InputLaws.{base-usual}
 use Rattle.read_form.specs.Laws.OutputLength.{output-length}
 use Rattle.checking.specs.CheckAnswer.{slotsOf, linksOf, checkAnswer, cleared, tableAfter, indexAfter}
 use Rattle.sharing.specs.Sharing.{mark, shared, sharedOutput}
 use Rattle.sharing.specs.Laws.SharedAccepted.{shared-refuses}
 use Rattle.refusal.specs.declared.Refusal.{Refusal}
 use Rattle.limits.specs.Held.{setting}
-use Rattle.form.specs.Marked.{endsT}
+use Rattle.form.specs.MarkEnds.{endsT}
 use Rattle.names.specs.Table.{Slot, emptySlot}
 use Rattle.index.specs.Indexed.{Holds}
-use Rattle.mark.specs.Marked.{markedT}
+use Rattle.mark.specs.MarkedRows.{markRowsT}
 use Rattle.resolver.specs.Meaning.{meaning, ruled}
 use Rattle.resolver.specs.Run.{Ran, noSlots, noEnds, walkT, fillT, before}
 use Rattle.resolver.specs.declared.run.Answer.{Answer}
@@ -51,9 +51,9 @@ use Rattle.share.proofs.Agrees.{none-accepted, as-long, tree, roomy, ma
 pub empty-holds : Holds (replicate 1024 emptySlot) (replicate 2048 0) 0
 empty-holds = served-start 0 refl .free
 
-pub marked-form : (rows ends marked marked′ : List ℕ) (table′ : List Slot) → ends ≡ endsT rows noEnds → (table′ & marked′) ≡ markedT rows ends noSlots marked → marked′ ≡ markT rows marked
+pub marked-form : (rows ends marked marked′ : List ℕ) (table′ : List Slot) → ends ≡ endsT rows noEnds → (table′ & marked′) ≡ markRowsT rows ends noSlots marked → marked′ ≡ markT rows marked
 unfolding markT run.rowsOf
-marked-form rows ends marked marked′ table′ p q = ap run.rowsOf (q ∙ ap (λ (x : List ℕ). markedT rows x noSlots marked) p)
+marked-form rows ends marked marked′ table′ p q = ap run.rowsOf (q ∙ ap (λ (x : List ℕ). markRowsT rows x noSlots marked) p)
 
 -- ---- walk_marked
 

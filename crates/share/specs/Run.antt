@@ -10,9 +10,9 @@ use Rattle.rules.specs.Rows.{Row}
 use Rattle.rules.specs.Answer.{accepted, answer, output}
 use Rattle.checking.specs.Check.{Verdict, yes, no, refused}
 use Rattle.limits.specs.Held.{setting}
-use Rattle.form.specs.Marked.{endsT}
+use Rattle.form.specs.MarkEnds.{endsT}
 use Rattle.names.specs.Table.{Slot}
-use Rattle.mark.specs.Marked.{markedT}
+use Rattle.mark.specs.MarkedRows.{markRowsT}
 use Rattle.resolver.specs.Meaning.{meaning, ruled}
 use Rattle.resolver.specs.Run as resolver
 use Rattle.resolver.specs.Run.{noSlots, noEnds, walkIn, walkT, fillT, before}
@@ -34,7 +34,7 @@ proposeIn s marked ends entered names form out =
 
 -- the rows of a form of version 1, marked: the tables start empty
 unfoldable pub markT : (rows marked : List ℕ) → List ℕ
-markT rows marked = rowsOf (markedT rows (endsT rows noEnds) noSlots marked)
+markT rows marked = rowsOf (markRowsT rows (endsT rows noEnds) noSlots marked)
 
 -- the walk over them, into the form's share of the output
 unfoldable pub walkedT : (rows marked front : List ℕ) → resolver.Ran

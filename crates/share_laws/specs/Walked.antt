@@ -18,20 +18,20 @@ use Rattle.rules.specs.Laws.RowLaws.{Written}
 use Rattle.rules.specs.Laws.Meaning.Names.{LowScope, low-scope}
 use Rattle.rules.specs.Laws.Meaning.Stricter.{relaxedRules}
 use Rattle.rules.specs.Laws.Output.OutFits.{outName}
-use Rattle.rules.specs.Laws.Reading.BeginsWritten.{rows-again}
+use Rattle.rules.specs.Laws.Read.BeginsWritten.{rows-again}
 use Rattle.read_form.specs.Laws.OutputLength.{rows-length}
 use Rattle.unresolving.specs.Laws.Answered.{rows-low}
 use Rattle.sharing.specs.Sharing.{mark, propose}
 use Rattle.sharing.specs.Laws.Marks
 use Rattle.sharing.specs.Laws.Marks.{marked-like}
-use Rattle.form.specs.Marked.{endsTo}
+use Rattle.form.specs.MarkEnds.{endsTo}
 use Rattle.form.specs.Ends.{Ends, EndsIn}
 use Rattle.form.proofs.EndsStorey.{ends-to-right}
 use Rattle.names.specs.Table.{Slot, noScope}
-use Rattle.agree.specs.Sizes.{Sizes, Fits, Sized}
-use Rattle.agree.specs.At.{At}
-use Rattle.agree.specs.AtLaws.{at-form}
-use Rattle.agree.specs.RootAgrees.{inside-agrees, begun-alone}
+use Rattle.agree.specs.Tables.Sizes.{Sizes, Fits, Sized}
+use Rattle.agree.specs.Rows.At.{At}
+use Rattle.agree.specs.Rows.AtLaws.{at-form}
+use Rattle.agree.specs.Walk.RootAgrees.{inside-agrees, begun-alone}
 use Rattle.resolver.specs.Run.{walkIn}
 use Rattle.resolver.proofs.Root.{Able, Walks, Rooms, seen}
 use Rattle.share_laws.specs.Relaxed.{relaxed, proposed-relaxed, good-relaxed}

@@ -11,7 +11,7 @@ use lib.Seq.{length-take-le}
 use Rattle.kit.specs.Out.{_&_}
 use Rattle.kit.specs.Pick.{pick}
 use Rattle.rules.specs.Tools.{if_then_else_}
-use Rattle.rules.specs.Versions.{Version, Setting}
+use Rattle.rules.specs.Versions.{Version, Setting, all}
 use Rattle.rules.specs.Rows.{Row}
 use Rattle.rules.specs.Tree.{flatten}
 use Rattle.rules.specs.Answer as rules
@@ -21,14 +21,14 @@ use Rattle.checking.specs.CheckAnswer.{slotsOf, linksOf, checkAnswer}
 use Rattle.sharing.specs.Sharing.{mark, proposed, sharedAfter, shared, sharedFor, sharedOutput}
 use Rattle.sharing.specs.Laws.SharedAccepted.{shared-refuses}
 use Rattle.limits.specs.Held.{setting}
-use Rattle.form.specs.Marked.{Noted, depthBefore, markT, withNoted, backT, endsIn, endsTo}
+use Rattle.form.specs.MarkEnds.{Noted, depthBefore, endAtT, withNoted, endsBackT, endsIn, endsTo}
 use Rattle.names.specs.Table.{Slot}
-use Rattle.rows.specs.Taken.{codeAt}
+use Rattle.rows.specs.RowAt.{codeAt}
 use Rattle.resolver.specs.Meaning.{meaning, ruled}
 use Rattle.resolver.specs.declared.run.Answer.{Answer}
 use Rattle.resolver.proofs.Root.{Able, Rooms}
 use Rattle.resolver_with.specs.Areas.{slotsFor, Lent, roomy}
-use Rattle.resolver_with.specs.Served.{served, asked}
+use Rattle.resolver_with.specs.Asked.{asked}
 use Rattle.resolver_with.proofs.Asked.{setting-asked, answer-asked, output-asked}
 use Rattle.resolver_with.proofs.Runs.{able-at}
 use Rattle.check_with.specs.With.{checkWith}
@@ -39,8 +39,8 @@ use Rattle.share_with.specs.Run.{walkOver, walkedIn, proposeWith}
 
 -- ---- as many ends are noted as there is room for
 
-noted-long : (code i depth : ℕ) (ends bounds : List ℕ) → length (endsIn (markT code i depth ends bounds)) ≡ length ends
-unfolding markT endsIn pick
+noted-long : (code i depth : ℕ) (ends bounds : List ℕ) → length (endsIn (endAtT code i depth ends bounds)) ≡ length ends
+unfolding endAtT endsIn pick
 noted-long code i depth ends bounds = go (leb (length bounds) depth) (eqb code 8) (eqb code 1) (leb (length ends) i)
   where
     go : (a b c d : Bool)
@@ -51,15 +51,15 @@ noted-long code i depth ends bounds = go (leb (length bounds) depth) (eqb code 8
     go false false true false = length-set ends i _
     go false false false d = refl
 
-back-long : (most : ℕ) (rows : List ℕ) (left depth : ℕ) (ends bounds : List ℕ) → length (endsIn (backT most rows left depth ends bounds)) ≡ length ends
-unfolding backT endsIn
+back-long : (most : ℕ) (rows : List ℕ) (left depth : ℕ) (ends bounds : List ℕ) → length (endsIn (endsBackT most rows left depth ends bounds)) ≡ length ends
+unfolding endsBackT endsIn
 back-long most rows zero depth ends bounds = refl
 back-long most rows (suc i) depth ends bounds =
-    go (markT (codeAt rows i) i (depthBefore most (codeAt rows i) depth) ends bounds) (noted-long (codeAt rows i) i (depthBefore most (codeAt rows i) depth) ends bounds)
+    go (endAtT (codeAt rows i) i (depthBefore most (codeAt rows i) depth) ends bounds) (noted-long (codeAt rows i) i (depthBefore most (codeAt rows i) depth) ends bounds)
     (λ e b. back-long most rows i (depthBefore most (codeAt rows i) depth) e b)
   where
-    go : (x : Noted) → length (endsIn x) ≡ length ends → ((e b : List ℕ) → length (endsIn (backT most rows i (depthBefore most (codeAt rows i) depth) e b)) ≡ length e)
-        → length (endsIn (withNoted x (backT most rows i (depthBefore most (codeAt rows i) depth)))) ≡ length ends
+    go : (x : Noted) → length (endsIn x) ≡ length ends → ((e b : List ℕ) → length (endsIn (endsBackT most rows i (depthBefore most (codeAt rows i) depth) e b)) ≡ length e)
+        → length (endsIn (withNoted x (endsBackT most rows i (depthBefore most (codeAt rows i) depth)))) ≡ length ends
     go (e & b) q rest = unfold withNoted in (rest e b ∙ q)
 
 ends-as-long : (most : ℕ) (rows ends : List ℕ) → length (endsTo most rows ends) ≡ length ends
@@ -108,19 +108,19 @@ module _ (by : Setting) (able : Able by) (input old : List ℕ) (bs : Bytes inpu
 
 -- what is said of an input under the setting that it asks for is said under all in force
 module _ (input : List ℕ) where
-  shared-asked : (room : ℕ) → shared served input room ≡ shared (asked input ∷ []) input room
+  shared-asked : (room : ℕ) → shared all input room ≡ shared (asked input ∷ []) input room
   unfolding shared sharedAfter
-  shared-asked room = ap (λ (a : rules.Answer). sharedAfter a served input) (answer-asked input room) ∙ go (answer (asked input ∷ []) input room)
+  shared-asked room = ap (λ (a : rules.Answer). sharedAfter a all input) (answer-asked input room) ∙ go (answer (asked input ∷ []) input room)
     where
-      go : (a : rules.Answer) → sharedAfter a served input ≡ sharedAfter a (asked input ∷ []) input
+      go : (a : rules.Answer) → sharedAfter a all input ≡ sharedAfter a (asked input ∷ []) input
       go (refused n z c) = refl
       go (accepted rs) = ap (λ (o : Option Setting). proposed o input) (setting-asked input)
 
-  output-shared : (old : List ℕ) → sharedOutput served input old ≡ sharedOutput (asked input ∷ []) input old
+  output-shared : (old : List ℕ) → sharedOutput all input old ≡ sharedOutput (asked input ∷ []) input old
   unfolding sharedOutput
-  output-shared old = ap (λ (o : Option Setting). sharedFor o served input old) (setting-asked input) ∙ go (settingOf (asked input ∷ []) input)
+  output-shared old = ap (λ (o : Option Setting). sharedFor o all input old) (setting-asked input) ∙ go (settingOf (asked input ∷ []) input)
     where
-      go : (o : Option Setting) → sharedFor o served input old ≡ sharedFor o (asked input ∷ []) input old
+      go : (o : Option Setting) → sharedFor o all input old ≡ sharedFor o (asked input ∷ []) input old
       go none = unfold sharedFor in refl
       go (some s) = unfold sharedFor in ap (λ (a : rules.Answer). outputAfter s a (s .version .header + 64 * rowCount (s .version) input) old) (shared-asked (length old))
 
@@ -128,14 +128,14 @@ module _ (input : List ℕ) where
 
 module _ (i : ℕ) (input : List ℕ) (asks : setting i ≡ asked input) where
   -- where there is no room nothing is accepted
-  pub none-shared : ruled (answer served input 0) ≡ ruled (shared served input 0)
-  none-shared = go (answer served input 0) refl
+  pub none-shared : ruled (answer all input 0) ≡ ruled (shared all input 0)
+  none-shared = go (answer all input 0) refl
     where
-      go : (a : rules.Answer) → answer served input 0 ≡ a → ruled (answer served input 0) ≡ ruled (shared served input 0)
-      go (refused n z c) q = ap ruled (q ∙ sym (shared-refuses served input 0 n z c q))
+      go : (a : rules.Answer) → answer all input 0 ≡ a → ruled (answer all input 0) ≡ ruled (shared all input 0)
+      go (refused n z c) q = ap ruled (q ∙ sym (shared-refuses all input 0 n z c q))
       go (accepted rs) q = one.none-accepted (setting i) (able-at i) input rs (ap (λ (s : Setting). answer (s ∷ []) input 0) asks ∙ (sym (answer-asked input 0) ∙ q))
 
-  module _ (now : List ℕ) (R : Resolved served input now) where
+  module _ (now : List ℕ) (R : Resolved all input now) where
     resolved : Resolved (setting i ∷ []) input now
     resolved =
         record {
@@ -157,7 +157,7 @@ module _ (i : ℕ) (input : List ℕ) (asks : setting i ≡ asked input) where
         shares =
             shares-in (setting i) (able-at i) input (R .old) bs (R .own) (resolved .accepts) marked ends entered names hm hs he hn a l (p ∙ ap (λ (x : List ℕ). proposeWith (setting i) input x marked ends entered names) (resolved .left))
 
-        pub shares-served : (meaning a ≡ ruled (shared served input (length (R .old)))) × (l ≡ sharedOutput served input (R .old))
+        pub shares-served : (meaning a ≡ ruled (shared all input (length (R .old)))) × (l ≡ sharedOutput all input (R .old))
         shares-served = (
           shares .0 ∙ (ap (λ (s : Setting). ruled (shared (s ∷ []) input (length (R .old)))) asks ∙ ap ruled (sym (shared-asked input (length (R .old))))),
           shares .1 ∙ (ap (λ (s : Setting). sharedOutput (s ∷ []) input (R .old)) asks ∙ sym (output-shared input (R .old))),
@@ -168,5 +168,5 @@ module _ (i : ℕ) (input : List ℕ) (asks : setting i ≡ asked input) where
             → (rows : ℕ) (claim : List ℕ) (y : Bool) → rows ≡ meaning a .plain .place → claim ≡ take (setting i .version .header + 16 * rows) l → y ≡ isYes (checkWith input claim slots links lent) → y ≡ false → ⊥
         unfolding resolved checkWith if_then_else_
         refused-never slots links lent hs hl fits rows claim y r c f e =
-            let w : checkAnswer served input claim slots links ≡ checkAnswer (setting i ∷ []) input claim slots links = unfold checkAnswer in rw (setting-asked input, asks) in
+            let w : checkAnswer all input claim slots links ≡ checkAnswer (setting i ∷ []) input claim slots links = unfold checkAnswer in rw (setting-asked input, asks) in
             one.never-refused (setting i) (able-at i) input (R .old) bs (R .own) (resolved .accepts) a l (shares .0) (shares .1) slots links hs hl rows claim y r c (f ∙ (rw (fits, w))) e

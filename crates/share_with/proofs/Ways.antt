@@ -14,9 +14,9 @@ use mir.Val.{Fits}
 use Rattle.kit.specs.Out.{_&_}
 use Rattle.kit.proofs.Laws.{lt-or-le}
 use Rattle.rules.specs.Tools.{if_then_else_}
-use Rattle.rules.specs.Versions.{Version, Setting}
+use Rattle.rules.specs.Versions.{Version, Setting, all}
 use Rattle.rules.specs.Answer.{answer, output}
-use Rattle.rules.specs.Laws.Demand3.{all-usual}
+use Rattle.rules.specs.Laws.InputLaws.{all-usual}
 use Rattle.read_form.specs.Laws.OutputLength.{output-length}
 use Rattle.checking.specs.CheckAnswer.{slotsOf, linksOf}
 use Rattle.sharing.specs.Sharing.{shared, sharedOutput}
@@ -24,10 +24,10 @@ use Rattle.stores.specs.Zeros.{zeroFrom}
 use Rattle.limits.specs.declared.Limits.{Limits}
 use Rattle.limits.specs.Held.{limitsOf, setting}
 use Rattle.limits.proofs.Laws.{few-rows}
-use Rattle.form.specs.Marked.{endsTo}
+use Rattle.form.specs.MarkEnds.{endsTo}
 use Rattle.names.specs.Table.{Slot, emptySlot}
 use Rattle.index.specs.Indexed.{Holds}
-use Rattle.mark.specs.Marked.{markedT}
+use Rattle.mark.specs.MarkedRows.{markRowsT}
 use Rattle.resolver.specs.Meaning.{meaning, ruled}
 use Rattle.resolver.specs.Run as resolver
 use Rattle.resolver.specs.Run.{walkIn, fillT, before}
@@ -37,7 +37,7 @@ use Rattle.resolver.proofs.Starts.{served-new}
 use Rattle.resolver.proofs.Laws.{zeros-all}
 use Rattle.resolver_with.specs.Areas.{slotsFor, linksFor, Lent, lentOf, roomy, cleared, Cleared}
 use Rattle.resolver_with.specs.Exact.{Suits}
-use Rattle.resolver_with.specs.Served.{served, asked}
+use Rattle.resolver_with.specs.Asked.{asked}
 use Rattle.resolver_with.specs.With as resolved
 use Rattle.resolver_with.proofs.Zeros.{rows-are, rows-few, cleared-is}
 use Rattle.claim_check.specs.Run.{Kept}
@@ -104,7 +104,7 @@ module _ (i : ℕ) (e n : List Slot) (k c m : List ℕ) (suits : Suits i e n k c
       }
 
 pub walked-in : (i j : ℕ) → setting j ≡ relaxed (setting i) → (rows marked part ends noted front front′ : List ℕ) (entered table names : List Slot) (r : Answer) → length rows ≤ length marked → noted ≡ endsTo (setting i .version .scopes) rows ends
-    → (table & part) ≡ markedT rows noted entered (take (length rows) marked) → length part ≡ length (take (length rows) marked)
+    → (table & part) ≡ markRowsT rows noted entered (take (length rows) marked) → length part ≡ length (take (length rows) marked)
     → (r & front′) ≡ fillT (setting i) (walkIn (setting j) (take (length rows) (part ++ drop (length rows) marked)) noted table names) front → (r & front′) ≡ walkedIn (setting i) rows marked ends entered names front
 unfolding walkedIn walkOver
 walked-in i j same rows marked part ends noted front front′ entered table names r h n p l q =
@@ -115,7 +115,7 @@ walked-in i j same rows marked part ends noted front front′ entered table name
     ∙ ap (λ (x : List ℕ). fillT (setting i) (walkIn (relaxed (setting i)) x noted table names) front) whole) in
     over
     ∙ (ap (walkOver (setting i) noted names front) p
-    ∙ ap (λ (x : List ℕ). walkOver (setting i) x names front (markedT rows x entered (take (length rows) marked))) n)
+    ∙ ap (λ (x : List ℕ). walkOver (setting i) x names front (markRowsT rows x entered (take (length rows) marked))) n)
 
 -- ---- bytes_for
 
@@ -158,9 +158,9 @@ module _ (i : ℕ) (form out marked ends : List ℕ) (entered names : List Slot)
   proposed-with front r header size bytes slots h z b s q =
       let v = setting i .version in
       let d : length (drop header form) ≡ length form - header = length-drop header form in
-      let all : take (length form - header) (drop header form) ≡ drop header form = take-all (length form - header) (drop header form) (omega arith) in
+      let each : take (length form - header) (drop header form) ≡ drop header form = take-all (length form - header) (drop header form) (omega arith) in
       let run : (r & front ++ drop size out) ≡ proposeBy header size bytes slots =
-      ap (λ (y : resolver.Ran). before y (drop size out)) (q ∙ ap (λ (x : List ℕ). walkedIn (setting i) x (take bytes marked) (take slots ends) (take slots entered) (take slots names) (take size out)) all) in
+      ap (λ (y : resolver.Ran). before y (drop size out)) (q ∙ ap (λ (x : List ℕ). walkedIn (setting i) x (take bytes marked) (take slots ends) (take slots entered) (take slots names) (take size out)) each) in
       let long : size ≡ v .header + 64 * (length (drop (v .header) form) / 16) = z ∙ (ap (λ (n : ℕ). header + 64 * (n / 16)) (sym d) ∙ ap (λ (n : ℕ). n + 64 * (length (drop n form) / 16)) h) in
       run
       ∙ (ap (λ (n : ℕ). proposeBy n size bytes slots) h
@@ -194,16 +194,16 @@ module _ (i : ℕ) (form : List ℕ) (bytes slots links : ℕ) (e n : List Slot)
   pub fit-lent : roomy (asked form .version) (lentOf e n k c m) ≡ true
   fit-lent = F .lent-large
 
-  module _ (now : List ℕ) (R : Resolved served form now) (all : (j : ℕ) → Fits w8 (getD form j 0)) where
+  module _ (now : List ℕ) (R : Resolved all form now) (each : (j : ℕ) → Fits w8 (getD form j 0)) where
     pub left-roomy : Roomy (setting i) form now
-    left-roomy = agrees.left-roomy i form (F .asks) now R (all-bytes form all)
+    left-roomy = agrees.left-roomy i form (F .asks) now R (all-bytes form each)
 
     module _ (marked : List ℕ) (b : bytes ≡ length marked) (a : Answer) (l : List ℕ) (p : (a & l) ≡ proposeWith (setting i) form now marked m e n) where
       large : bytesFor (setting i .version) ≤ length marked
       large = omega (arith, F .bytes-large, b)
 
-      pub shares-with : (meaning a ≡ ruled (shared served form (length (R .old)))) × (l ≡ sharedOutput served form (R .old))
-      shares-with = agrees.shares-served i form (F .asks) now R (all-bytes form all) marked m e n large (fit-large .ends) (fit-large .entered) (fit-large .names) a l p
+      pub shares-with : (meaning a ≡ ruled (shared all form (length (R .old)))) × (l ≡ sharedOutput all form (R .old))
+      shares-with = agrees.shares-served i form (F .asks) now R (all-bytes form each) marked m e n large (fit-large .ends) (fit-large .entered) (fit-large .names) a l p
 
       -- in areas as long as these
       pub never : (marked₁ : List ℕ) (e₁ n₁ : List Slot) (k₁ c₁ m₁ : List ℕ)
@@ -211,7 +211,7 @@ module _ (i : ℕ) (form : List ℕ) (bytes slots links : ℕ) (e n : List Slot)
           → (rows : ℕ) (claim : List ℕ) (y : Bool) → rows ≡ meaning a .plain .place → claim ≡ take (setting i .version .header + 16 * rows) l → y ≡ isYes (checkWith form claim slots links (lentOf e₁ n₁ k₁ c₁ m₁)) → y ≡ false → ⊥
       never marked₁ e₁ n₁ k₁ c₁ m₁ K rows claim y r q f z =
           let still : roomy (asked form .version) (lentOf e₁ n₁ k₁ c₁ m₁) ≡ true = rw (K .1 .long, K .2 .long, K .3 .long, K .4 .long, K .5 .long) (F .lent-large) in
-          agrees.refused-never i form (F .asks) now R (all-bytes form all) marked m e n large (fit-large .ends) (fit-large .entered) (fit-large .names) a l p slots links (lentOf e₁ n₁ k₁ c₁ m₁) (F .slots-large) (F .links-large) still rows claim y r q f z
+          agrees.refused-never i form (F .asks) now R (all-bytes form each) marked m e n large (fit-large .ends) (fit-large .entered) (fit-large .names) a l p slots links (lentOf e₁ n₁ k₁ c₁ m₁) (F .slots-large) (F .links-large) still rows claim y r q f z
 
 pub marked-left : (size : ℕ) (marked marked₁ marked₂ : List ℕ) → Kept size marked marked₁ → marked₂ ≡ cleared 0 size marked₁ → marked₂ ≡ cleared 0 size marked
 marked-left size marked marked₁ marked₂ K q = kept-cleared size 0 marked marked₁ marked₂ K q
@@ -226,7 +226,7 @@ settled-areas v marked marked₁ e e₁ e₂ n n₁ n₂ k k₁ k₂ c c₁ c₂
 -- ---- resolve_own
 
 pub own-ran : (form old now : List ℕ) (lent : Lent) (o : Own) → roomy (asked form .version) lent ≡ true → meaning (o .answer) ≡ ruled (resolved.answerWith form (length old) lent) → now ≡ resolved.outputWith form old lent → o .number ≡ meaning (o .answer) .plain .number
-    → share.Ran served form old now o
+    → share.Ran all form old now o
 unfolding resolved.answerWith resolved.outputWith if_then_else_
 own-ran form old now lent o fits a l n = record { answers = rw fits at a; leaves = rw fits at l; numbered = n }
 
@@ -275,16 +275,16 @@ module _ (v : Version) (e e₁ n n₁ : List Slot) (k k₁ c c₁ m m₁ : List 
 pub marked-after : (form : List ℕ) (i : ℕ) → setting i ≡ asked form → (old new : List ℕ) → new ≡ cleared 0 (bytesFor (setting i .version)) old → new ≡ cleared 0 (bytesFor (asked form .version)) old
 marked-after form i asks old new e = e ∙ ap (λ (s : Setting). cleared 0 (bytesFor (s .version)) old) asks
 
-module _ (input old now : List ℕ) (o : Own) (Q : share.Ran served input old now o) (z : o .number ≡ 0) (all : (j : ℕ) → Fits w8 (getD input j 0)) (i bytes slots links : ℕ) (e₀ e n₀ n : List Slot) (k₀ k c₀ c m₀ m : List ℕ)
+module _ (input old now : List ℕ) (o : Own) (Q : share.Ran all input old now o) (z : o .number ≡ 0) (each : (j : ℕ) → Fits w8 (getD input j 0)) (i bytes slots links : ℕ) (e₀ e n₀ n : List Slot) (k₀ k c₀ c m₀ m : List ℕ)
     (v : Version) (C : Cleared v e₀ e n₀ n k₀ k c₀ c m₀ m) (F : Fit i input bytes slots links (lentOf e₀ n₀ k₀ c₀ m₀)) (marked : List ℕ) (b : bytes ≡ length marked) (a : Answer) (l : List ℕ) (p : (a & l) ≡ proposeWith (setting i) input now marked m e n) where
-  both : (meaning a ≡ ruled (shared served input (length old))) × (l ≡ sharedOutput served input old)
+  both : (meaning a ≡ ruled (shared all input (length old))) × (l ≡ sharedOutput all input old)
   unfolding own-resolved
-  both = shares-with i input bytes slots links e n k c m (fit-still v e₀ e n₀ n k₀ k c₀ c m₀ m C i input bytes slots links F) now (own-resolved served input old now o Q z) all marked b a l p
+  both = shares-with i input bytes slots links e n k c m (fit-still v e₀ e n₀ n k₀ k c₀ c m₀ m C i input bytes slots links F) now (own-resolved all input old now o Q z) each marked b a l p
 
-  pub proposal-answers : meaning a ≡ ruled (shared served input (length old))
+  pub proposal-answers : meaning a ≡ ruled (shared all input (length old))
   proposal-answers = both .0
 
-  pub proposal-leaves : l ≡ sharedOutput served input old
+  pub proposal-leaves : l ≡ sharedOutput all input old
   proposal-leaves = both .1
 
 -- ---- share_with
@@ -307,16 +307,16 @@ module _ (form : List ℕ) (i : ℕ) (asks : setting i ≡ asked form) (bytes sl
     pub small-answers : (old : List ℕ) (r : Answer) → meaning r ≡ ruled (resolved.answerWith form (length (take 0 old)) lent) → meaning r ≡ ruled (sharedWith form (length old) bytes slots links lent)
     unfolding sharedWith resolved.answerWith if_then_else_
     small-answers old r m =
-        let q : meaning r ≡ ruled (answer served form 0) = m ∙ ap (λ (n : ℕ). ruled (answer served form n)) (no-room (roomy (asked form .version) lent)) in
+        let q : meaning r ≡ ruled (answer all form 0) = m ∙ ap (λ (n : ℕ). ruled (answer all form n)) (no-room (roomy (asked form .version) lent)) in
         rw too-small (q ∙ agrees.none-shared i form asks)
 
     none-left : (l : List ℕ) → length l ≡ 0 → l ≡ []
     none-left [] e = refl
     none-left (x ∷ l) e = absurd (omega arith)
 
-    nothing-left : (b : Bool) → length (if b then output served form [] else []) ≡ 0
+    nothing-left : (b : Bool) → length (if b then output all form [] else []) ≡ 0
     unfolding if_then_else_
-    nothing-left true = unfold output in output-length [] served all-usual form []
+    nothing-left true = unfold output in output-length [] all all-usual form []
     nothing-left false = refl
 
     pub small-leaves : (old new : List ℕ) → new ≡ resolved.outputWith form (take 0 old) lent → new ++ drop 0 old ≡ outputWith form old bytes slots links lent
@@ -347,10 +347,10 @@ module _ (form : List ℕ) (i : ℕ) (asks : setting i ≡ asked form) (bytes sl
           lent-large = subst (λ (s : Setting). roomy (s .version) lent ≡ true) asks (sym f ∙ p .0);
         }
 
-    pub answers-with : (room : ℕ) (r : Answer) → meaning r ≡ ruled (shared served form room) → meaning r ≡ ruled (sharedWith form room bytes slots links lent)
+    pub answers-with : (room : ℕ) (r : Answer) → meaning r ≡ ruled (shared all form room) → meaning r ≡ ruled (sharedWith form room bytes slots links lent)
     unfolding sharedWith if_then_else_
     answers-with room r p = rw not-small p
 
-    pub leaves-with : (old l : List ℕ) → l ≡ sharedOutput served form old → l ≡ outputWith form old bytes slots links lent
+    pub leaves-with : (old l : List ℕ) → l ≡ sharedOutput all form old → l ≡ outputWith form old bytes slots links lent
     unfolding outputWith if_then_else_
     leaves-with old l p = rw not-small p

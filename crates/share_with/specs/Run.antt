@@ -8,12 +8,12 @@ use Rattle.kit.specs.Out.{Out, _&_}
 use Rattle.rules.specs.Versions.{Setting}
 use Rattle.checking.specs.CheckAnswer.{slotsOf, linksOf}
 use Rattle.limits.specs.Held.{setting}
-use Rattle.form.specs.Marked.{endsTo}
+use Rattle.form.specs.MarkEnds.{endsTo}
 use Rattle.names.specs.Table.{Slot}
-use Rattle.mark.specs.Marked.{markedT}
+use Rattle.mark.specs.MarkedRows.{markRowsT}
 use Rattle.resolver.specs.Run.{Ran, walkIn, fillT, before}
 use Rattle.resolver_with.specs.Areas.{slotsFor, Lent, roomy}
-use Rattle.resolver_with.specs.Served.{asked}
+use Rattle.resolver_with.specs.Asked.{asked}
 use Rattle.share_laws.specs.Relaxed.{relaxed}
 use Rattle.share_with.specs.With.{bytesFor}
 
@@ -26,7 +26,7 @@ walkOver s ends names front (table & marked) = fillT s (walkIn (relaxed s) marke
 unfoldable pub walkedIn : Setting → (rows marked ends : List ℕ) (entered names : List Slot) (front : List ℕ) → Ran
 walkedIn s rows marked ends entered names front =
     let noted = endsTo (s .version .scopes) rows ends in
-    walkOver s noted names front (markedT rows noted entered (take (length rows) marked))
+    walkOver s noted names front (markRowsT rows noted entered (take (length rows) marked))
 
 -- in the fronts of the areas; what stands beyond that share stays
 unfoldable pub proposeWith : Setting → (form out marked ends : List ℕ) (entered names : List Slot) → Ran

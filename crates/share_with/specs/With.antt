@@ -6,12 +6,12 @@ use mathlib.Core.List.{List}
 use Prim.Native.Nat.{ℕ, _*_}
 use lib.Dec.{ltb}
 use Rattle.rules.specs.Tools.{if_then_else_}
-use Rattle.rules.specs.Versions.{Version}
+use Rattle.rules.specs.Versions.{Version, all}
 use Rattle.rules.specs.Answer.{Answer}
 use Rattle.checking.specs.CheckAnswer.{slotsOf, linksOf}
 use Rattle.sharing.specs.Sharing.{shared, sharedOutput}
 use Rattle.resolver_with.specs.Areas.{Lent, roomy}
-use Rattle.resolver_with.specs.Served.{served, asked}
+use Rattle.resolver_with.specs.Asked.{asked}
 
 -- as many bytes as the rows of a form may have
 abbrev pub bytesFor : Version → ℕ
@@ -24,9 +24,9 @@ tooSmall v bytes slots links lent = not (roomy v lent) || (ltb bytes (bytesFor v
 -- the rules' answer; areas that are too small count as an output without room
 unfoldable pub sharedWith : (input : List ℕ) (room bytes slots links : ℕ) → Lent → Answer
 sharedWith input room bytes slots links lent =
-    shared served input (if tooSmall (asked input .version) bytes slots links lent then 0 else room)
+    shared all input (if tooSmall (asked input .version) bytes slots links lent then 0 else room)
 
 -- what the output holds then
 unfoldable pub outputWith : (input old : List ℕ) (bytes slots links : ℕ) → Lent → List ℕ
 outputWith input old bytes slots links lent =
-    if tooSmall (asked input .version) bytes slots links lent then old else sharedOutput served input old
+    if tooSmall (asked input .version) bytes slots links lent then old else sharedOutput all input old

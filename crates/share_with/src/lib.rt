@@ -35,11 +35,12 @@ ghost use Rattle.kit.specs.Out.{_&_};
 ghost use Rattle.checking.specs.CheckAnswer.{slotsOf, linksOf, cleared as checked, tableAfter, indexAfter};
 ghost use Rattle.sharing.specs.Sharing.{shared, sharedOutput};
 ghost use Rattle.limits.specs.Held.{setting};
-ghost use Rattle.form.specs.Marked.{endsTo};
+ghost use Rattle.form.specs.MarkEnds.{endsTo};
 ghost use Rattle.names.specs.Table.{emptySlot};
-ghost use Rattle.mark.specs.Marked.{markedT};
+ghost use Rattle.mark.specs.MarkedRows.{markRowsT};
 ghost use Rattle.resolver.specs.Meaning.{meaning, ruled};
-ghost use Rattle.resolver_with.specs.Served.{served, asked};
+ghost use Rattle.rules.specs.Versions.{all};
+ghost use Rattle.resolver_with.specs.Asked.{asked};
 ghost use Rattle.resolver_with.specs.Areas.{slotsFor, linksFor, lentOf, roomy, cleared, Cleared};
 ghost use Rattle.resolver_with.specs.Exact.{Suits};
 ghost use Rattle.claim_check.specs.Run.{Kept};
@@ -62,7 +63,7 @@ fn mark_in(
     ends: &mut [u32],
 )
     requires { ⌜ Linked (length (now table)) (length (now index)) ⌝ }
-    ensures { λ _. ⌜ (now (ends .exit) ≡ endsTo (setting i .version .scopes) (now (rows .entry)) (now (ends .entry))) × ((now (table .exit) & now (marked .exit)) ≡ markedT (now (rows .entry)) (now (ends .exit)) (now (table .entry)) (now (marked .entry))) ⌝ }
+    ensures { λ _. ⌜ (now (ends .exit) ≡ endsTo (setting i .version .scopes) (now (rows .entry)) (now (ends .entry))) × ((now (table .exit) & now (marked .exit)) ≡ markRowsT (now (rows .entry)) (now (ends .exit)) (now (table .entry)) (now (marked .entry))) ⌝ }
 {
     mark_ends_to(rows, ends, of_input(i));
     zero_links(index);
@@ -141,7 +142,7 @@ fn propose(
     let size = header + 64 * ((form.len() - header) / 16);
     let bytes = bytes_for(i);
     let most = slots_for(i);
-    let all = links_for(i);
+    let each = links_for(i);
     walk_marked(
         &form[header..],
         &mut marked[..bytes],
@@ -170,7 +171,7 @@ fn is_output(
     ends: &mut [u32],
 ) -> bool
     ensures { λ r. ⌜ r ≡ isYes (checkWith (now (form .entry)) (now (claim .entry)) (length (now (table .entry))) (length (now (index .entry))) (lentOf (now (entered .entry)) (now (names .entry)) (now (known .entry)) (now (chains .entry)) (now (ends .entry)))) ⌝ }
-    ensures { λ _. ⌜ (now (table .exit) ≡ tableAfter served (now (form .entry)) (now (table .entry))) × (now (index .exit) ≡ indexAfter served (now (form .entry)) (now (index .entry))) ⌝ }
+    ensures { λ _. ⌜ (now (table .exit) ≡ tableAfter all (now (form .entry)) (now (table .entry))) × (now (index .exit) ≡ indexAfter all (now (form .entry)) (now (index .entry))) ⌝ }
     ensures { λ _. ⌜ Cleared (asked (now (form .entry)) .version) (now (entered .entry)) (now (entered .exit)) (now (names .entry)) (now (names .exit)) (now (known .entry)) (now (known .exit)) (now (chains .entry)) (now (chains .exit)) (now (ends .entry)) (now (ends .exit)) ⌝ }
 {
     is_yes(check_with(
@@ -227,9 +228,9 @@ fn settle(
     chains: &mut [u16],
     ends: &mut [u32],
 ) -> Answer
-    requires { ⌜ Resolved served (now form) (now out) × Fit i (now form) (length (now marked)) (length (now table)) (length (now index)) (lentOf (now entered) (now names) (now known) (now chains) (now ends)) ⌝ }
+    requires { ⌜ Resolved all (now form) (now out) × Fit i (now form) (length (now marked)) (length (now table)) (length (now index)) (lentOf (now entered) (now names) (now known) (now chains) (now ends)) ⌝ }
     ensures { λ r. ⌜ (r & now (out .exit)) ≡ proposeWith (setting i) (now (form .entry)) (now (out .entry)) (now (marked .entry)) (now (ends .entry)) (now (entered .entry)) (now (names .entry)) ⌝ }
-    ensures { λ _. ⌜ (now (marked .exit) ≡ cleared 0 (bytesFor (setting i .version)) (now (marked .entry))) × (now (table .exit) ≡ tableAfter served (now (form .entry)) (now (table .entry))) × (now (index .exit) ≡ indexAfter served (now (form .entry)) (now (index .entry))) ⌝ }
+    ensures { λ _. ⌜ (now (marked .exit) ≡ cleared 0 (bytesFor (setting i .version)) (now (marked .entry))) × (now (table .exit) ≡ tableAfter all (now (form .entry)) (now (table .entry))) × (now (index .exit) ≡ indexAfter all (now (form .entry)) (now (index .entry))) ⌝ }
     ensures { λ _. ⌜ Cleared (setting i .version) (now (entered .entry)) (now (entered .exit)) (now (names .entry)) (now (names .exit)) (now (known .entry)) (now (known .exit)) (now (chains .entry)) (now (chains .exit)) (now (ends .entry)) (now (ends .exit)) ⌝ }
 {
     let proposed = propose(form, out, i, marked, entered, names, known, chains, ends);
@@ -262,7 +263,7 @@ fn resolve_own(
     ends: &mut [u32],
 ) -> Own
     requires { ⌜ roomy (asked (now form) .version) (lentOf (now entered) (now names) (now known) (now chains) (now ends)) ≡ true ⌝ }
-    ensures { λ r. ⌜ Ran served (now (form .entry)) (now (out .entry)) (now (out .exit)) r ⌝ }
+    ensures { λ r. ⌜ Ran all (now (form .entry)) (now (out .entry)) (now (out .exit)) r ⌝ }
     ensures { λ _. ⌜ Cleared (asked (now (form .entry)) .version) (now (entered .entry)) (now (entered .exit)) (now (names .entry)) (now (names .exit)) (now (known .entry)) (now (known .exit)) (now (chains .entry)) (now (chains .exit)) (now (ends .entry)) (now (ends .exit)) ⌝ }
 {
     let answer = resolve_with(form, out, entered, names, known, chains, ends);
@@ -285,8 +286,8 @@ fn share_in(
     ends: &mut [u32],
 ) -> Answer
     requires { ⌜ Fit i (now form) (length (now marked)) (length (now table)) (length (now index)) (lentOf (now entered) (now names) (now known) (now chains) (now ends)) ⌝ }
-    ensures { λ r. ⌜ (meaning r ≡ ruled (shared served (now (form .entry)) (length (now (out .entry))))) × (now (out .exit) ≡ sharedOutput served (now (form .entry)) (now (out .entry))) ⌝ }
-    ensures { λ _. ⌜ (now (marked .exit) ≡ cleared 0 (bytesFor (asked (now (form .entry)) .version)) (now (marked .entry))) × (now (table .exit) ≡ tableAfter served (now (form .entry)) (now (table .entry))) × (now (index .exit) ≡ indexAfter served (now (form .entry)) (now (index .entry))) ⌝ }
+    ensures { λ r. ⌜ (meaning r ≡ ruled (shared all (now (form .entry)) (length (now (out .entry))))) × (now (out .exit) ≡ sharedOutput all (now (form .entry)) (now (out .entry))) ⌝ }
+    ensures { λ _. ⌜ (now (marked .exit) ≡ cleared 0 (bytesFor (asked (now (form .entry)) .version)) (now (marked .entry))) × (now (table .exit) ≡ tableAfter all (now (form .entry)) (now (table .entry))) × (now (index .exit) ≡ indexAfter all (now (form .entry)) (now (index .entry))) ⌝ }
     ensures { λ _. ⌜ Cleared (asked (now (form .entry)) .version) (now (entered .entry)) (now (entered .exit)) (now (names .entry)) (now (names .exit)) (now (known .entry)) (now (known .exit)) (now (chains .entry)) (now (chains .exit)) (now (ends .entry)) (now (ends .exit)) ⌝ }
 {
     let own = resolve_own(form, out, entered, names, known, chains, ends);
@@ -326,7 +327,7 @@ pub fn share_with(
     ends: &mut [u32],
 ) -> Answer
     ensures { λ r. ⌜ (meaning r ≡ ruled (sharedWith (now (form .entry)) (length (now (out .entry))) (length (now (marked .entry))) (length (now (table .entry))) (length (now (index .entry))) (lentOf (now (entered .entry)) (now (names .entry)) (now (known .entry)) (now (chains .entry)) (now (ends .entry))))) × (now (out .exit) ≡ outputWith (now (form .entry)) (now (out .entry)) (length (now (marked .entry))) (length (now (table .entry))) (length (now (index .entry))) (lentOf (now (entered .entry)) (now (names .entry)) (now (known .entry)) (now (chains .entry)) (now (ends .entry)))) ⌝ }
-    ensures { λ _. ⌜ (now (marked .exit) ≡ cleared 0 (bytesFor (asked (now (form .entry)) .version)) (now (marked .entry))) × (now (table .exit) ≡ tableAfter served (now (form .entry)) (now (table .entry))) × (now (index .exit) ≡ indexAfter served (now (form .entry)) (now (index .entry))) ⌝ }
+    ensures { λ _. ⌜ (now (marked .exit) ≡ cleared 0 (bytesFor (asked (now (form .entry)) .version)) (now (marked .entry))) × (now (table .exit) ≡ tableAfter all (now (form .entry)) (now (table .entry))) × (now (index .exit) ≡ indexAfter all (now (form .entry)) (now (index .entry))) ⌝ }
     ensures { λ _. ⌜ Cleared (asked (now (form .entry)) .version) (now (entered .entry)) (now (entered .exit)) (now (names .entry)) (now (names .exit)) (now (known .entry)) (now (known .exit)) (now (chains .entry)) (now (chains .exit)) (now (ends .entry)) (now (ends .exit)) ⌝ }
 {
     let i = asked_for(form);

@@ -19,7 +19,7 @@ use Rattle.rules.specs.Tree.{Scope, scope, flatten}
 use Rattle.rules.specs.Answer.{AnswerOf, refused, accepted, hasHeader, settingOf, sameNumbers, answer, output, formBytes}
 use Rattle.rules.specs.Laws.RowLaws.{Bytes}
 use Rattle.rules.specs.Laws.Results.{some-same, no-option}
-use Rattle.rules.specs.Laws.Demand3.{AllUsual}
+use Rattle.rules.specs.Laws.InputLaws.{AllUsual}
 use Rattle.moving.specs.Laws.Lists.{same-lists}
 use Rattle.binding.specs.Sheet.{Run, runOf, areaOf, firstOf, workSize}
 use Rattle.binding.specs.Laws.Runs.{Made, Agree, run-agrees}

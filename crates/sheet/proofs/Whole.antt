@@ -23,7 +23,7 @@ use Rattle.rules.specs.Answer.{AnswerOf, refused, accepted, settingOf, sameNumb
 use Rattle.rules.specs.Laws.ToolLaws.{false-not}
 use Rattle.rules.specs.Laws.RowLaws.{Bytes}
 use Rattle.rules.specs.Laws.Results.{ok-same, some-same}
-use Rattle.rules.specs.Laws.Demand3.{AllUsual}
+use Rattle.rules.specs.Laws.InputLaws.{AllUsual}
 use Rattle.moving.specs.Laws.Lists.{same-lists}
 use Rattle.binding.specs.Sheet.{Slot, Binding, SheetAnswer, Run, runOf, slotsOf, slots, soundSheet, bindings, failing, answersBytes, workSize, workAfter, answerFor, sheetAnswer, answersAfter}
 use Rattle.binding.specs.Sheet

@@ -13,7 +13,7 @@ use Rattle.kit.specs.Out.{_&_}
 use Rattle.kit.specs.Pick.{pick}
 use Rattle.kit.proofs.Laws.{lt-or-le}
 use Rattle.rules.specs.Tools.{if_then_else_}
-use Rattle.rules.specs.Versions.{Setting}
+use Rattle.rules.specs.Versions.{Setting, all}
 use Rattle.rules.specs.Answer.{settingOf, answer, output}
 use Rattle.limits.specs.declared.Limits.{Limits}
 use Rattle.limits.specs.Held.{limitsOf, setting}
@@ -24,7 +24,7 @@ use Rattle.slots.specs.Slots.{answered}
 use Rattle.resolver.specs.Meaning.{meaning, ruled}
 use Rattle.resolver.specs.declared.run.Answer.{Answer as Resolved}
 use Rattle.resolver_with.specs.Areas.{Lent, roomy}
-use Rattle.resolver_with.specs.Served.{served, asked}
+use Rattle.resolver_with.specs.Asked.{asked}
 use Rattle.resolver_with.specs.With.{answerWith, outputWith}
 use Rattle.lent_areas.proofs.InForce.{asked-is, first-asked, header-long}
 use Rattle.sheet_with.specs.With.{areaFor, earlyT}
@@ -45,18 +45,18 @@ module _ (i : ℕ) (l : Limits) (e : l ≡ limitsOf (setting i)) (size : ℕ) (h
   area-few k = omega (arith, rows-are, few-rows i, k)
 
 -- the area goes by the setting that the header asks for
-pub work-asked : (form : List ℕ) → workSize served form ≡ areaFor (asked form)
+pub work-asked : (form : List ℕ) → workSize all form ≡ areaFor (asked form)
 unfolding workSize areaOf firstOf
 work-asked form = ap areaOf (first-asked form)
 
 module _ (form : List ℕ) (i : ℕ) (asks : setting i ≡ asked form) where
-  pub area-is : workSize served form ≡ areaFor (setting i)
+  pub area-is : workSize all form ≡ areaFor (setting i)
   area-is = work-asked form ∙ ap areaFor (sym asks)
 
-  pub long-in : (n : ℕ) → areaFor (setting i) ≤ n → workSize served form ≤ n
+  pub long-in : (n : ℕ) → areaFor (setting i) ≤ n → workSize all form ≤ n
   long-in n h = omega (arith, area-is, h)
 
-  pub heads : (head : ℕ) → head ≡ setting i .version .header → (v : Setting) → settingOf served form ≡ some v → head ≡ v .version .header
+  pub heads : (head : ℕ) → head ≡ setting i .version .header → (v : Setting) → settingOf all form ≡ some v → head ≡ v .version .header
   heads head e v q = e ∙ ap (λ (s : Setting). s .version .header) (asks ∙ asked-is form v q)
 
   -- the resolver in areas that are large enough
@@ -64,11 +64,11 @@ module _ (form : List ℕ) (i : ℕ) (asks : setting i ≡ asked form) where
     in-asked : roomy (asked form .version) lent ≡ true
     in-asked = ap (λ (s : Setting). roomy (s .version) lent) (sym asks) ∙ enough
 
-    pub said-roomy : (x : Resolved) (room : ℕ) → meaning x ≡ ruled (answerWith form room lent) → meaning x ≡ ruled (answer served form room)
+    pub said-roomy : (x : Resolved) (room : ℕ) → meaning x ≡ ruled (answerWith form room lent) → meaning x ≡ ruled (answer all form room)
     unfolding answerWith if_then_else_
     said-roomy x room e = rw in-asked at e
 
-    pub left-roomy : (o o′ : List ℕ) → o′ ≡ outputWith form o lent → o′ ≡ output served form o
+    pub left-roomy : (o o′ : List ℕ) → o′ ≡ outputWith form o lent → o′ ≡ output all form o
     unfolding outputWith if_then_else_
     left-roomy o o′ e = rw in-asked at e
 

@@ -13,15 +13,15 @@ use mir.Val.{Fits}
 use Rattle.kit.specs.Out.{_&_}
 use Rattle.kit.specs.Pick.{pick}
 use Rattle.rules.specs.Tools.{if_then_else_}
-use Rattle.rules.specs.Versions.{Setting}
+use Rattle.rules.specs.Versions.{Setting, all}
 use Rattle.limits.specs.Held.{setting}
-use Rattle.rules.specs.Laws.Demand3.{all-usual}
+use Rattle.rules.specs.Laws.InputLaws.{all-usual}
 use Rattle.reading_laws.specs.OnBytes.{body, all-within}
 use Rattle.binding.specs.Sheet.{SheetAnswer, runOf, soundSheet, sheetAnswer, answersAfter, workSize, workAfter}
 use Rattle.slots.specs.Slots.{answered}
 use Rattle.names.specs.Table.{Slot}
 use Rattle.resolver_with.specs.Areas.{Lent, roomy, Cleared}
-use Rattle.resolver_with.specs.Served.{served, asked}
+use Rattle.resolver_with.specs.Asked.{asked}
 use Rattle.lent_areas.proofs.InForce.{header-long}
 use Rattle.sheet.specs.Meaning.{meaning, ruled}
 use Rattle.sheet.specs.Run.{refusedT, isOutput, cleared}
@@ -42,11 +42,11 @@ module _ (form resolved sheet answers : List ℕ) (work : ℕ) (lent : Lent) (i 
   abbrev told : ℕ
   told = if large then work else 0
 
-  A-is : sheetAnswer served form resolved sheet (length answers) told ≡ A
+  A-is : sheetAnswer all form resolved sheet (length answers) told ≡ A
   unfolding sheetWith
-  A-is = ap (λ (b : Bool). sheetAnswer served form resolved sheet (length answers) (if b then work else 0)) (fits ∙ ap (λ (s : Setting). roomy (s .version) lent) asks)
+  A-is = ap (λ (b : Bool). sheetAnswer all form resolved sheet (length answers) (if b then work else 0)) (fits ∙ ap (λ (s : Setting). roomy (s .version) lent) asks)
 
-  area : workSize served form ≡ size
+  area : workSize all form ≡ size
   area = area-is form i asks ∙ sym sized
 
   told-small : enough ≡ false → told < size
@@ -82,7 +82,7 @@ module _ (form resolved sheet answers : List ℕ) (work : ℕ) (lent : Lent) (i 
   abbrev Says : Answer → (new : List ℕ) → Type 0
   Says r new = (meaning r ≡ ruled A) × (new ≡ answersAfter A answers)
 
-  says : (r : Answer) (new : List ℕ) → meaning r ≡ ruled (sheetAnswer served form resolved sheet (length answers) told) → new ≡ answersAfter (sheetAnswer served form resolved sheet (length answers) told) answers → Says r new
+  says : (r : Answer) (new : List ℕ) → meaning r ≡ ruled (sheetAnswer all form resolved sheet (length answers) told) → new ≡ answersAfter (sheetAnswer all form resolved sheet (length answers) told) answers → Says r new
   says r new p q = (p ∙ ap ruled A-is, q ∙ ap (λ (a : SheetAnswer). answersAfter a answers) A-is)
 
   module _ (e : ℕ) (early : e ≡ earlyT sheet enough) where
@@ -95,10 +95,10 @@ module _ (form resolved sheet answers : List ℕ) (work : ℕ) (lent : Lent) (i 
         go true true p q w = absurd (n w)
         go true false p q w =
             let so : not (soundSheet sheet) ≡ false = ap not p in
-            says r answers (small-says served form size area resolved sheet answers told (soundSheet sheet) refl so (told-small q) r (is ∙ ap refusedT w)) (small-leaves served form size area resolved sheet answers told (soundSheet sheet) refl so (told-small q))
+            says r answers (small-says all form size area resolved sheet answers told (soundSheet sheet) refl so (told-small q) r (is ∙ ap refusedT w)) (small-leaves all form size area resolved sheet answers told (soundSheet sheet) refl so (told-small q))
         go false b p q w =
             let no : not (soundSheet sheet) ≡ true = ap not p in
-            says r answers (unsound-says served form size area resolved sheet answers told (soundSheet sheet) refl no r (is ∙ ap refusedT w)) (unsound-leaves served form size area resolved sheet answers told (soundSheet sheet) refl no)
+            says r answers (unsound-says all form size area resolved sheet answers told (soundSheet sheet) refl no r (is ∙ ap refusedT w)) (unsound-leaves all form size area resolved sheet answers told (soundSheet sheet) refl no)
 
     module _ (none : e ≡ 0) where
       late : (soundSheet sheet ≡ true) × (enough ≡ true)
@@ -116,29 +116,29 @@ module _ (form resolved sheet answers : List ℕ) (work : ℕ) (lent : Lent) (i 
       so : not (soundSheet sheet) ≡ false
       so = ap not (late .0)
 
-      module _ (s : Bool) (same : s ≡ isOutput (runOf served form) resolved) where
+      module _ (s : Bool) (same : s ≡ isOutput (runOf all form) resolved) where
         pub other-returns : not s ≡ true → (r : Answer) → r ≡ refusedT 15 → Says r answers
         other-returns w r is =
-            says r answers (other-says served form size area resolved sheet answers told (soundSheet sheet) refl so (told-large is-enough) s same w r is) (other-leaves served form size area resolved sheet answers told (soundSheet sheet) refl so (told-large is-enough) s same w)
+            says r answers (other-says all form size area resolved sheet answers told (soundSheet sheet) refl so (told-large is-enough) s same w r is) (other-leaves all form size area resolved sheet answers told (soundSheet sheet) refl so (told-large is-enough) s same w)
 
-        module _ (its : not s ≡ false) (all : ℕ) (count : all ≡ 8 * (length sheet / 12)) where
-          pub no-room-returns : length answers < all → (r : Answer) → r ≡ refusedT 3 → Says r answers
+        module _ (its : not s ≡ false) (each : ℕ) (count : each ≡ 8 * (length sheet / 12)) where
+          pub no-room-returns : length answers < each → (r : Answer) → r ≡ refusedT 3 → Says r answers
           no-room-returns short r is =
-              says r answers (no-room-says served form size area resolved sheet answers told (soundSheet sheet) refl so (told-large is-enough) s same its all count short r is)
-              (no-room-leaves served form size area resolved sheet answers told (soundSheet sheet) refl so (told-large is-enough) s same its all count short)
+              says r answers (no-room-says all form size area resolved sheet answers told (soundSheet sheet) refl so (told-large is-enough) s same its each count short r is)
+              (no-room-leaves all form size area resolved sheet answers told (soundSheet sheet) refl so (told-large is-enough) s same its each count short)
 
-          pub answered-returns : all ≤ length answers → ((j : ℕ) → Fits w8 (getD form j 0)) → (n : ℕ) (new : List ℕ) → (n & new) ≡ answered (body (setting i) resolved) sheet answers → Says (Answered n) new
+          pub answered-returns : each ≤ length answers → ((j : ℕ) → Fits w8 (getD form j 0)) → (n : ℕ) (new : List ℕ) → (n & new) ≡ answered (body (setting i) resolved) sheet answers → Says (Answered n) new
           answered-returns room bytes n new w =
-              says (Answered n) new (answered-says served form size area resolved sheet answers told (soundSheet sheet) refl so (told-large is-enough) s same its all count room all-usual all-within (setting i .version .header) (heads form i asks _ refl) bytes n new w)
-              (answered-leaves served form size area resolved sheet answers told (soundSheet sheet) refl so (told-large is-enough) s same its all count room all-usual all-within (setting i .version .header) (heads form i asks _ refl) bytes n new w)
+              says (Answered n) new (answered-says all form size area resolved sheet answers told (soundSheet sheet) refl so (told-large is-enough) s same its each count room all-usual all-within (setting i .version .header) (heads form i asks _ refl) bytes n new w)
+              (answered-leaves all form size area resolved sheet answers told (soundSheet sheet) refl so (told-large is-enough) s same its each count room all-usual all-within (setting i .version .header) (heads form i asks _ refl) bytes n new w)
 
   -- the working area
   module _ (old new : List ℕ) where
-    pub work-cleared : new ≡ cleared size old → new ≡ workAfter served form old
-    work-cleared e = work-is served form size area old new e
+    pub work-cleared : new ≡ cleared size old → new ≡ workAfter all form old
+    work-cleared e = work-is all form size area old new e
 
-    pub work-zeroed : new ≡ replicate (length (take size old)) 0 → new ++ drop size old ≡ workAfter served form old
-    work-zeroed e = area-cleared served form size area old new e
+    pub work-zeroed : new ≡ replicate (length (take size old)) 0 → new ++ drop size old ≡ workAfter all form old
+    work-zeroed e = area-cleared all form size area old new e
 
 -- the areas, by the setting that the code goes by
 pub cleared-asked : (form : List ℕ) (s : Setting) → s ≡ asked form → (e e′ n n′ : List Slot) (k k′ c c′ l l′ : List ℕ) → Cleared (s .version) e e′ n n′ k k′ c c′ l l′ → Cleared (asked form .version) e e′ n n′ k k′ c c′ l l′

@@ -5,14 +5,14 @@ use mathlib.Core.List.{List}
 use Prim.Native.Nat.{ℕ, _+_, _*_}
 use Rattle.kit.specs.Pick.{pick}
 use Rattle.rules.specs.Tools.{if_then_else_}
-use Rattle.rules.specs.Versions.{Setting}
+use Rattle.rules.specs.Versions.{Setting, all}
 use Rattle.binding.specs.Sheet.{SheetAnswer, soundSheet, sheetAnswer}
 use Rattle.resolver_with.specs.Areas.{Lent, roomy}
-use Rattle.resolver_with.specs.Served.{served, asked}
+use Rattle.resolver_with.specs.Asked.{asked}
 
 -- the rules' answer; tables that are too small count as a working area of no bytes
 unfoldable pub sheetWith : (input resolved sheet : List ℕ) (room work : ℕ) → Lent → SheetAnswer
-sheetWith input resolved sheet room work lent = sheetAnswer served input resolved sheet room (if roomy (asked input .version) lent then work else 0)
+sheetWith input resolved sheet room work lent = sheetAnswer all input resolved sheet room (if roomy (asked input .version) lent then work else 0)
 
 -- ---- what only the proofs need
 

@@ -28,7 +28,8 @@ ghost use Rattle.limits.specs.Held.{setting};
 ghost use Rattle.reading_laws.specs.OnBytes.{body};
 ghost use Rattle.binding.specs.Sheet.{runOf, answersAfter, workAfter};
 ghost use Rattle.slots.specs.Slots.{answered};
-ghost use Rattle.resolver_with.specs.Served.{served, asked};
+ghost use Rattle.rules.specs.Versions.{all};
+ghost use Rattle.resolver_with.specs.Asked.{asked};
 ghost use Rattle.resolver_with.specs.Areas.{lentOf, roomy, Cleared};
 ghost use Rattle.sheet.specs.Meaning.{meaning, ruled};
 ghost use Rattle.sheet.specs.Run.{isOutput};
@@ -65,7 +66,7 @@ fn resolves_to(
     ends: &mut [u32],
 ) -> bool
     requires { ⌜ (setting i ≡ asked (now form)) × (areaFor (setting i) ≤ length (now area)) × (roomy (setting i .version) (lentOf (now entered) (now names) (now known) (now chains) (now ends)) ≡ true) ⌝ }
-    ensures { λ r. ⌜ r ≡ isOutput (runOf served (now (form .entry))) (now (resolved .entry)) ⌝ }
+    ensures { λ r. ⌜ r ≡ isOutput (runOf all (now (form .entry))) (now (resolved .entry)) ⌝ }
     ensures { λ r. ⌜ Cleared (asked (now (form .entry)) .version) (now (entered .entry)) (now (entered .exit)) (now (names .entry)) (now (names .exit)) (now (known .entry)) (now (known .exit)) (now (chains .entry)) (now (chains .exit)) (now (ends .entry)) (now (ends .exit)) ⌝ }
 {
     let rows = rows_written(resolve_with(form, area, entered, names, known, chains, ends));
@@ -91,7 +92,7 @@ fn is_output(
     ends: &mut [u32],
 ) -> bool
     requires { ⌜ (setting i ≡ asked (now form)) × (areaFor (setting i) ≤ length (now area)) × (roomy (setting i .version) (lentOf (now entered) (now names) (now known) (now chains) (now ends)) ≡ true) ⌝ }
-    ensures { λ r. ⌜ (r ≡ isOutput (runOf served (now (form .entry))) (now (resolved .entry))) × (now (area .exit) ≡ replicate (length (now (area .entry))) 0) ⌝ }
+    ensures { λ r. ⌜ (r ≡ isOutput (runOf all (now (form .entry))) (now (resolved .entry))) × (now (area .exit) ≡ replicate (length (now (area .entry))) 0) ⌝ }
     ensures { λ r. ⌜ Cleared (asked (now (form .entry)) .version) (now (entered .entry)) (now (entered .exit)) (now (names .entry)) (now (names .exit)) (now (known .entry)) (now (known .exit)) (now (chains .entry)) (now (chains .exit)) (now (ends .entry)) (now (ends .exit)) ⌝ }
 {
     let same = resolves_to(form, resolved, area, i, entered, names, known, chains, ends);
@@ -123,7 +124,7 @@ pub fn check_with(
 ) -> Answer
     ensures { λ r. ⌜ meaning r ≡ ruled (sheetWith (now (form .entry)) (now (resolved .entry)) (now (sheet .entry)) (length (now (answers .entry))) (length (now (work .entry))) (lentOf (now (entered .entry)) (now (names .entry)) (now (known .entry)) (now (chains .entry)) (now (ends .entry)))) ⌝ }
     ensures { λ r. ⌜ now (answers .exit) ≡ answersAfter (sheetWith (now (form .entry)) (now (resolved .entry)) (now (sheet .entry)) (length (now (answers .entry))) (length (now (work .entry))) (lentOf (now (entered .entry)) (now (names .entry)) (now (known .entry)) (now (chains .entry)) (now (ends .entry)))) (now (answers .entry)) ⌝ }
-    ensures { λ r. ⌜ now (work .exit) ≡ workAfter served (now (form .entry)) (now (work .entry)) ⌝ }
+    ensures { λ r. ⌜ now (work .exit) ≡ workAfter all (now (form .entry)) (now (work .entry)) ⌝ }
     ensures { λ r. ⌜ Cleared (asked (now (form .entry)) .version) (now (entered .entry)) (now (entered .exit)) (now (names .entry)) (now (names .exit)) (now (known .entry)) (now (known .exit)) (now (chains .entry)) (now (chains .exit)) (now (ends .entry)) (now (ends .exit)) ⌝ }
 {
     let i = asked_for(form);

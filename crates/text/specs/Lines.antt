@@ -6,7 +6,7 @@ use lib.Dec.{eqb, ltb}
 use lib.ListN.{getD}
 use Rattle.kit.specs.Pick.{pick}
 use Rattle.kit.specs.Out.{Out, _&_}
-use Rattle.parts.specs.Apart.{parts}
+use Rattle.parts.specs.PartsAt.{parts}
 use Rattle.text.specs.Numbers.{numberBehind}
 use Rattle.text.specs.declared.lines.Why.{Why}
 use Rattle.text.specs.declared.lines.Why.the-variants.{NoRow, Second, LargeCode, LargeB, LargeE, LargeX, LargeY, LargeZ}

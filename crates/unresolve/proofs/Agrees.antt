@@ -19,7 +19,7 @@ use Rattle.rules.specs.Answer.{sameNumbers, rowCount, formBytes, output, accept
 use Rattle.rules.specs.Laws.ToolLaws.{false-not}
 use Rattle.rules.specs.Laws.RowLaws.{Bytes}
 use Rattle.rules.specs.Laws.Results.{some-same}
-use Rattle.rules.specs.Laws.Demand3.{Usual}
+use Rattle.rules.specs.Laws.InputLaws.{Usual}
 use Rattle.read_form.specs.ReadForm.{readForm}
 use Rattle.read_form.specs.Laws.ReadFormLaws.{not-refused}
 use Rattle.read_form.specs.Laws.OutputLength.{form-length}

@@ -12,7 +12,7 @@ use Rattle.rules.specs.Rows.{Row, bytes}
 use Rattle.rules.specs.Answer
 use Rattle.rules.specs.Answer.{sameNumbers, hasHeader, settingOf, formBytes}
 use Rattle.rules.specs.Laws.Results.{some-same, no-option}
-use Rattle.rules.specs.Laws.Demand3.{Usual, all-usual}
+use Rattle.rules.specs.Laws.InputLaws.{Usual, all-usual}
 use Rattle.unresolving.specs.Laws.Answered.{Settled, base-settled, all-settled}
 use Rattle.limits.specs.Held.{setting}
 use Rattle.unresolve.proofs.Resolves.{alone-one}

@@ -19,13 +19,13 @@ use Rattle.rules.specs.Answer.{accepted, settingOf, rowCount, rowsIn, answer, a
 use Rattle.rules.specs.Laws.ToolLaws.{All}
 use Rattle.rules.specs.Laws.RowLaws.{Written, Bytes}
 use Rattle.rules.specs.Laws.Results.{some-same}
-use Rattle.rules.specs.Laws.Reading.BeginsWritten.{rows-length}
+use Rattle.rules.specs.Laws.Read.BeginsWritten.{rows-length}
 use Rattle.rules.specs.Laws.Meaning.Names.{LowScope}
 use Rattle.rules.specs.Laws.Output.Well.{well}
 use Rattle.rules.specs.Laws.Output.Numbers.{NumberedScope}
 use Rattle.rules.specs.Laws.Output.OutFits.{outName}
 use Rattle.rules.specs.Laws.Output.OutBytes.{header-length, header-drop}
-use Rattle.rules.specs.Laws.Demand3.{Usual, Accepted, readings, is-form}
+use Rattle.rules.specs.Laws.InputLaws.{Usual, Accepted, readings, is-form}
 use Rattle.read_form.specs.ReadForm.{readForm}
 use Rattle.read_form.specs.Laws.ReadFormLaws.{read-exactly, read-read, accepted-same, ours-read}
 use Rattle.unresolving.specs.Back.{unresolve}
@@ -43,7 +43,7 @@ use Rattle.back_tree.specs.Made.{MadeScope, made}
 use Rattle.back_tree.specs.Few.{declsScope, few-declared}
 use Rattle.back_tree.specs.Put.{set-middle, put-all}
 use Rattle.back_tree.specs.OnRows.{rows-back}
-use Rattle.unresolve.specs.Restored.{notedT, rowsT, headedT, restoreT}
+use Rattle.unresolve.specs.Restored.{notedT, restoreRowsT, headedT, restoreT}
 use Rattle.unresolve.specs.Run.{alone}
 use Rattle.unresolve.proofs.Resolves.{alone-one}
 use Rattle.unresolve.proofs.Alone.{Fit}
@@ -201,8 +201,8 @@ module _ (i : ℕ) (F : Fit (setting i)) where
           let n : length (flatten t) ≡ rowCount (one .version) claim = sym (length-map (flatten t) some) ∙ ap length (R .is-form .of-tree) ∙ rows-length outName (rowCount (one .version) claim) body in
           at-rows outName (rowCount (one .version) claim) body 0 (flatten t) (R .is-form .of-tree) (count ∙ n ∙ omega arith)
 
-      restored-rows : (out : List ℕ) → rowsT slots noted body out ≡ putRows u (length out / 16 & out)
-      unfolding rowsT notedT
+      restored-rows : (out : List ℕ) → restoreRowsT slots noted body out ≡ putRows u (length out / 16 & out)
+      unfolding restoreRowsT notedT
       restored-rows out =
           rows-back (one .rules) t (K .good) (omega (arith, K .four, F .few)) (K .deep) body stands body-is count noted slots (omega (arith, K .four)) (omega (arith, K .declared)) (K .made-by) (K .numbered) (length out / 16) out
 
@@ -220,7 +220,7 @@ module _ (i : ℕ) (F : Fit (setting i)) where
           let x : length xs ≡ cut = length-take-le cut out (omega arith) in
           let y : length ys ≡ 16 * n = omega (arith, length-drop cut out) in
           let split : out ≡ xs ++ (ys ++ []) = sym (take-append-drop cut out) ∙ ap (λ (z : List ℕ). xs ++ z) (sym (append-nil ys)) in
-          let put : rowsT slots noted body out ≡ (most - n & xs ++ (rowsBytes u ++ [])) =
+          let put : restoreRowsT slots noted body out ≡ (most - n & xs ++ (rowsBytes u ++ [])) =
           restored-rows out ∙ ap (λ (k : ℕ). putRows u (k & out)) rows ∙ ap (λ (z : List ℕ). putRows u (most & z)) split ∙ put-all u most xs ys [] few x y in
           header-put (take header area) xs u (length-take-le header area (omega arith)) few x at a (e ∙ ap (headedT i (take header area)) put)
 

@@ -20,7 +20,7 @@ use Rattle.rules.specs.Laws.ToolLaws.{and-left, and-right, false-not}
 use Rattle.rules.specs.Laws.RowLaws.{Bytes}
 use Rattle.rules.specs.Laws.Results.{some-same, no-option}
 use Rattle.rules.specs.Laws.Output.OutBytes.{header-count}
-use Rattle.rules.specs.Laws.Demand3.{Usual, Accepted, readings}
+use Rattle.rules.specs.Laws.InputLaws.{Usual, Accepted, readings}
 use Rattle.read_form.specs.ReadForm.{readForm}
 use Rattle.read_form.specs.Laws.ReadFormLaws.{ReadAs, read-exactly, neither}
 use Rattle.read_form.specs.Laws.OutputLength.{form-length}

@@ -28,10 +28,10 @@ use Rattle.back_notes.specs.Note.{Note}
 use Rattle.back_notes.specs.Number.{notesT}
 use Rattle.back_notes.specs.Names.{namesT}
 use Rattle.back_rows.specs.Below.{below}
-use Rattle.back_rows.specs.Write.{startT, backT}
+use Rattle.back_rows.specs.Write.{startT, writeBackT}
 use Rattle.resolver.specs.declared.run.Answer.{Answer}
 use Rattle.resolver.specs.declared.run.Answer.the-variants.{Accepted}
-use Rattle.unresolve.specs.Restored.{notedT, rowsT, headedT, restoreT}
+use Rattle.unresolve.specs.Restored.{notedT, restoreRowsT, headedT, restoreT}
 use Rattle.unresolve.specs.Run.{refusedT, giveT}
 
 -- ---- restore_rows, restore_first
@@ -43,8 +43,8 @@ empty-holds =
     subst (λ (k : ℕ). Holds (replicate 1024 emptySlot) (replicate k 0) 0) (sym n) (holds-none (replicate 1024 emptySlot) (replicate 2048 0) (omega arith))
 
 pub rows-restored : (slots : ℕ) (rows out o : List ℕ) (n₀ n₁ n₂ : List Note) (r : ℕ) → n₁ ≡ sets n₀ 0 (notesT 0 [] [] (rowsAt rows 0)) → n₂ ≡ namesT slots rows n₁
-    → (r & o) ≡ backT (below rows n₂ (length rows / 16)) (startT (length out / 16)) out → (r & o) ≡ rowsT slots n₀ rows out
-unfolding rowsT notedT
+    → (r & o) ≡ writeBackT (below rows n₂ (length rows / 16)) (startT (length out / 16)) out → (r & o) ≡ restoreRowsT slots n₀ rows out
+unfolding restoreRowsT notedT
 rows-restored slots rows out o n₀ n₁ n₂ r p q w = rw (q, p) at w
 
 -- ---- most_rows, restore
@@ -75,7 +75,7 @@ unfolding headedT
 headed i front to body o most count at m c a e = rw (e, a, c, m)
 
 module _ (i slots : ℕ) (noted : List Note) (rows area body o : List ℕ) (header most to count : ℕ) (l : Limits) (is-header : header ≡ setting i .version .header) (is-most : most ≡ setting i .version .rows) where
-  pub restored-whole : (to & body) ≡ rowsT slots noted rows (take (length area - header) (drop header area)) → count ≡ most - to → l ≡ limitsOf (setting i)
+  pub restored-whole : (to & body) ≡ restoreRowsT slots noted rows (take (length area - header) (drop header area)) → count ≡ most - to → l ≡ limitsOf (setting i)
       → o ≡ sets (take (length (put-back header area body) - 16 * (most - count)) (drop (16 * (most - count)) (put-back header area body))) 0 (headerBytes (settingIn l) count)
       → (16 * (most - count) & put-back (16 * (most - count)) (put-back header area body) o) ≡ restoreT i slots noted rows area
   unfolding restoreT
@@ -84,9 +84,9 @@ module _ (i slots : ℕ) (noted : List Note) (rows area body o : List ℕ) (head
       let a = put-back header area body in
       let is = put-back-is header area body in
       let o-is : o ≡ sets (drop at (take header area ++ body)) 0 (headerBytes (setting i) count) = p ∙ rw (behind at a, is, e, stand-for i) in
-      let w′ : (to & body) ≡ rowsT slots noted rows (drop header area) = w ∙ ap (rowsT slots noted rows) (behind header area) in
+      let w′ : (to & body) ≡ restoreRowsT slots noted rows (drop header area) = w ∙ ap (restoreRowsT slots noted rows) (behind header area) in
       let put : (at & put-back at a o) ≡ headedT i (take header area) (to & body) = rw (put-back-is at a o, is) (headed i (take header area) to body o most count at is-most c refl o-is) in
-      put ∙ ap (headedT i (take header area)) w′ ∙ ap (λ (h : ℕ). headedT i (take h area) (rowsT slots noted rows (drop h area))) is-header
+      put ∙ ap (headedT i (take header area)) w′ ∙ ap (λ (h : ℕ). headedT i (take h area) (restoreRowsT slots noted rows (drop h area))) is-header
 
 pub ruleset restoring = (rows-restored, restored-whole, needs)
 

@@ -12,7 +12,7 @@ use Rattle.back_notes.specs.Number.{notesT}
 use Rattle.back_notes.specs.Names.{namesT}
 use Rattle.back_rows.specs.Below.{below}
 use Rattle.back_rows.specs.Restore.{Wrote}
-use Rattle.back_rows.specs.Write.{startT, backT}
+use Rattle.back_rows.specs.Write.{startT, writeBackT}
 
 -- those of version 1, which start empty
 abbrev pub noNotes : List Note
@@ -23,8 +23,8 @@ unfoldable pub notedT : (slots : ℕ) (noted : List Note) (rows : List ℕ) → 
 notedT slots noted rows = namesT slots rows (sets noted 0 (notesT 0 [] [] (rowsAt rows 0)))
 
 -- writes the restored rows to the end of `out`, and answers the row at which they begin there
-unfoldable pub rowsT : (slots : ℕ) (noted : List Note) (rows out : List ℕ) → Wrote
-rowsT slots noted rows out = backT (below rows (notedT slots noted rows) (length rows / 16)) (startT (length out / 16)) out
+unfoldable pub restoreRowsT : (slots : ℕ) (noted : List Note) (rows out : List ℕ) → Wrote
+restoreRowsT slots noted rows out = writeBackT (below rows (notedT slots noted rows) (length rows / 16)) (startT (length out / 16)) out
 
 -- `front` is what stands before the rows: the header overwrites the last of it
 unfoldable pub headedT : (i : ℕ) (front : List ℕ) → Wrote → Out ℕ (List ℕ)
@@ -36,4 +36,4 @@ headedT i front (to & body) =
 -- the restored form at the end of the area: its header, and its rows from the last to the first
 unfoldable pub restoreT : (i slots : ℕ) (noted : List Note) (rows area : List ℕ) → Out ℕ (List ℕ)
 restoreT i slots noted rows area =
-    headedT i (take (setting i .version .header) area) (rowsT slots noted rows (drop (setting i .version .header) area))
+    headedT i (take (setting i .version .header) area) (restoreRowsT slots noted rows (drop (setting i .version .header) area))

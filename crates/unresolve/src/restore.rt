@@ -13,7 +13,7 @@ ghost use lib.ListN.{length};
 ghost use Rattle.kit.specs.Out.{_&_};
 ghost use Rattle.limits.specs.Held.{setting};
 ghost use Rattle.index.specs.Indexed.{Holds};
-ghost use Rattle.unresolve.specs.Restored.{noNotes, rowsT, restoreT};
+ghost use Rattle.unresolve.specs.Restored.{noNotes, restoreRowsT, restoreT};
 
 // The setting of version 1.
 const FIRST: usize = 0;
@@ -28,7 +28,7 @@ fn restore_rows(
     index: &mut [u16],
 ) -> usize
     requires { ⌜ Holds (now table) (now index) 0 ⌝ }
-    ensures { λ r. ⌜ (r & now (out .exit)) ≡ rowsT (length (now (table .entry))) (now (noted .entry)) (now (rows .entry)) (now (out .entry)) ⌝ }
+    ensures { λ r. ⌜ (r & now (out .exit)) ≡ restoreRowsT (length (now (table .entry))) (now (noted .entry)) (now (rows .entry)) (now (out .entry)) ⌝ }
 {
     number_rows(rows, noted);
     name_rows(rows, noted, table, index);

@@ -9,7 +9,7 @@ use lib.ListN.{length}
 use borrow.Author.Needs.{needs}
 use borrow.Author.Tests.{ltb-false}
 use Rattle.rules.specs.Tools.{if_then_else_}
-use Rattle.rules.specs.Versions.{Setting}
+use Rattle.rules.specs.Versions.{Setting, all}
 use Rattle.unresolving.specs.BackAnswer.{Returned, refused, backAnswer, over, backOutput}
 use Rattle.limits.specs.Held.{setting}
 use Rattle.names.specs.Table.{Slot}
@@ -17,7 +17,7 @@ use Rattle.back_notes.specs.Note.{Note}
 use Rattle.resolver.specs.Meaning.{meaning}
 use Rattle.resolver.specs.declared.run.Answer.{Answer}
 use Rattle.resolver_with.specs.Areas.{lentOf, roomy, Cleared}
-use Rattle.resolver_with.specs.Served.{served, asked}
+use Rattle.resolver_with.specs.Asked.{asked}
 use Rattle.check_with.specs.Large.{Large}
 use Rattle.check_with.proofs.Whole.{large-in}
 use Rattle.unresolve.specs.With.{inputSize, outputSize}
@@ -54,7 +54,7 @@ module _ (form out : List ℕ) (i : ℕ) (asks : setting i ≡ asked form) (r a 
   unfolding tooSmall
   tested = ap (λ (x : Setting). tooSmall (x .version) lengths) (sym asks) ∙ sym (is ∙ rw f)
 
-  answered : (b : Bool) → small ≡ b → backLent form (length out) lengths ≡ (if b then refused 3 0 else backAnswer served form (length out))
+  answered : (b : Bool) → small ≡ b → backLent form (length out) lengths ≡ (if b then refused 3 0 else backAnswer all form (length out))
   unfolding backLent
   answered b q = rw (tested, q)
 

@@ -7,12 +7,12 @@ use Prim.Native.Nat.{ℕ, _*_}
 use lib.Dec.{ltb}
 use lib.ListN.{length}
 use Rattle.rules.specs.Tools.{if_then_else_}
-use Rattle.rules.specs.Versions.{Version}
+use Rattle.rules.specs.Versions.{Version, all}
 use Rattle.checking.specs.CheckAnswer.{cleared}
 use Rattle.unresolving.specs.BackAnswer.{Returned, refused, backAnswer, over}
 use Rattle.back_notes.specs.Note.{Note, noNote}
 use Rattle.resolver_with.specs.Areas.{Lent, roomy}
-use Rattle.resolver_with.specs.Served.{served, asked}
+use Rattle.resolver_with.specs.Asked.{asked}
 use Rattle.unresolve.specs.With.{inputSize, outputSize}
 
 -- a note for each row of an output
@@ -39,7 +39,7 @@ tooSmall v l = not (roomy v (l .tables)) || (ltb (l .restored) (inputSize v) || 
 
 -- refusal 3 where an area is too small, else the rules' answer
 unfoldable pub backLent : (claim : List ℕ) (room : ℕ) → Lengths → Returned
-backLent claim room l = if tooSmall (asked claim .version) l then refused 3 0 else backAnswer served claim room
+backLent claim room l = if tooSmall (asked claim .version) l then refused 3 0 else backAnswer all claim room
 
 -- the output's bytes behind the result stay, and all of them after a refusal
 unfoldable pub outLent : (claim old : List ℕ) → Lengths → List ℕ

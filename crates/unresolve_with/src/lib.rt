@@ -35,7 +35,7 @@ ghost use Rattle.unresolving.specs.BackAnswer.{backAnswer, backOutput};
 ghost use Rattle.limits.specs.Held.{setting};
 ghost use Rattle.back_notes.specs.Note.{noNote};
 ghost use Rattle.resolver.specs.Meaning.{meaning};
-ghost use Rattle.resolver_with.specs.Served.{asked};
+ghost use Rattle.resolver_with.specs.Asked.{asked};
 ghost use Rattle.resolver_with.specs.Areas.{slotsFor, linksFor, lentOf, Cleared};
 ghost use Rattle.resolver_with.specs.Exact.{Suits};
 ghost use Rattle.claim_check.specs.Run.{Kept};

@@ -8,7 +8,7 @@ use lib.Dec.{ltb}
 use lib.ListN.{length, drop}
 use Rattle.rules.specs.Tools.{if_then_else_, only, _then_}
 use Rattle.rules.specs.Versions.{Setting, claimed}
-use Rattle.rules.specs.Tree.{Scope, flatten, Reading, bad, deep, form}
+use Rattle.rules.specs.Tree.{Scope, flatten, RowsRead, bad, deep, form}
 use Rattle.rules.specs.Reader.{read}
 use Rattle.rules.specs.Answer
 use Rattle.rules.specs.Answer.{Answer, accepted, sameNumbers, settingOf, rowCount, rowsIn, answerIn, formBytes}
@@ -24,7 +24,7 @@ outcome settings input =
     settingOf settings input then λ s. formOf s (answerIn [] s input (s .version .header + 64 * rowCount (s .version) input))
 
 -- the tree that was read
-unfoldable pub treeOf : Reading → Option Scope
+unfoldable pub treeOf : RowsRead → Option Scope
 treeOf (bad place) = none
 treeOf (deep place) = none
 treeOf (form s) = some s

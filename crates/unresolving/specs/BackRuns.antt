@@ -10,7 +10,7 @@ use Rattle.rules.specs.Versions.{RuleSet, version1, version2, today, newer, bas
 use Rattle.rules.specs.Rows
 use Rattle.rules.specs.Rows.{Raw, raw, Row, decodeRow, rawBytes}
 use Rattle.rules.specs.Tree
-use Rattle.rules.specs.Tree.{Scope, flatten, Reading, bad, deep, form}
+use Rattle.rules.specs.Tree.{Scope, flatten, RowsRead, bad, deep, form}
 use Rattle.rules.specs.Shapes
 use Rattle.rules.specs.Reader
 use Rattle.rules.specs.Reader.{read}
@@ -47,7 +47,7 @@ module _ (rules : RuleSet) where
   rightAfter back (refused why place) = false
   rightAfter back (ok r) = are back (unresolve (r .0)) && is (resolve rules (unresolve (r .0))) (r .0)
 
-  unfoldable pub rightReading : List Raw → Reading → Bool
+  unfoldable pub rightReading : List Raw → RowsRead → Bool
   rightReading back (bad place) = false
   rightReading back (deep place) = false
   rightReading back (form s) = rightAfter back (resolve rules s)

@@ -10,7 +10,7 @@ use lib.ListN.{length, getD}
 use Rattle.rules.specs.Tools.{if_then_else_, between, only, _orElse_}
 use Rattle.kit.specs.Pick.{pick}
 use Rattle.rules.specs.Versions.{Setting, version1, today, all, asClaimed}
-use Rattle.rules.specs.Tree.{Scope, flatten, Reading, bad, deep, form}
+use Rattle.rules.specs.Tree.{Scope, flatten, RowsRead, bad, deep, form}
 use Rattle.rules.specs.Reader.{read}
 use Rattle.rules.specs.Answer.{AnswerOf, refused, accepted, mark, hasHeader, settingOf, rowCount, rowsIn}
 use Rattle.rules.specs.Laws.Results.{if-both}
@@ -139,7 +139,7 @@ abbrev pub Plain : AnswerOf Scope → Type 0
 Plain (refused number place carried) = carried ≡ []
 Plain (accepted t) = Unit {0}
 
-reading-plain : (x : Reading) → Plain (asAnswer x)
+reading-plain : (x : RowsRead) → Plain (asAnswer x)
 unfolding asAnswer
 reading-plain (bad p) = refl
 reading-plain (deep p) = refl

@@ -21,8 +21,8 @@ use Rattle.rules.specs.Begins.{Right}
 use Rattle.rules.specs.Reader.{read}
 use Rattle.rules.specs.Answer.{refused, hasHeader, rowCount, rowsIn}
 use Rattle.rules.specs.Laws.ToolLaws.{false-not, and-left, and-right}
-use Rattle.rules.specs.Laws.Reading.ReadRight.{read-right}
-use Rattle.rules.specs.Laws.Reading.BeginsWritten.{rows-length}
+use Rattle.rules.specs.Laws.Read.ReadRight.{read-right}
+use Rattle.rules.specs.Laws.Read.BeginsWritten.{rows-length}
 use Rattle.read_form.specs.ReadForm.{asAnswer, readForm}
 use Rattle.limits.specs.declared.Limits.{Limits}
 use Rattle.limits.specs.Held.{settingIn, limitsOf, setting}
@@ -30,9 +30,9 @@ use Rattle.limits.proofs.Laws.{stand-for, stand-claimed, few-rows}
 use Rattle.form.specs.Header.{headerIn, headerFor, headerTo}
 use Rattle.form.specs.declared.header.Header.{Header}
 use Rattle.form.specs.declared.header.Header.the-variants.{Rows, Wrong, Count}
-use Rattle.reader.specs.Readings.{answerOf, readTo}
-use Rattle.reader.specs.declared.read.Reading.{Reading}
-use Rattle.reader.specs.declared.read.Reading.the-variants as reading
+use Rattle.reader.specs.ReadTo.{answerOf, readTo}
+use Rattle.reader.specs.declared.read.RowsRead.{RowsRead}
+use Rattle.reader.specs.declared.read.RowsRead.the-variants as rowsRead
 use Rattle.whole_form.specs.Asked.{orNext, heldAs, askedFrom, askedOf, claimedOf}
 use Rattle.whole_form.specs.Whole.{refusedT, formOf, readT, bodyT, headT, heldT}
 use Rattle.whole_form.specs.declared.asked.Asked.{Asked}
@@ -139,16 +139,16 @@ unfolding settingIn
 held-rows l = refl
 
 -- this many rows
-module _ (rows : List ℕ) (l : Limits) (count : ℕ) (r : Reading) (e : r ≡ readTo l rows) where
-  pub rows-broken : (row : ℕ) (v : Form) → r ≡ reading.Broken row → v ≡ refusedT 4 (row % 4294967296) → v ≡ readT (readTo l rows) count
+module _ (rows : List ℕ) (l : Limits) (count : ℕ) (r : RowsRead) (e : r ≡ readTo l rows) where
+  pub rows-broken : (row : ℕ) (v : Form) → r ≡ rowsRead.Broken row → v ≡ refusedT 4 (row % 4294967296) → v ≡ readT (readTo l rows) count
   unfolding readT
   rows-broken row v q w = rw (← e, q) w
 
-  pub rows-deep : (row : ℕ) (v : Form) → r ≡ reading.Deep row → v ≡ refusedT 5 (row % 4294967296) → v ≡ readT (readTo l rows) count
+  pub rows-deep : (row : ℕ) (v : Form) → r ≡ rowsRead.Deep row → v ≡ refusedT 5 (row % 4294967296) → v ≡ readT (readTo l rows) count
   unfolding readT
   rows-deep row v q w = rw (← e, q) w
 
-  pub rows-whole : r ≡ reading.Whole → Whole count ≡ readT (readTo l rows) count
+  pub rows-whole : r ≡ rowsRead.Whole → Whole count ≡ readT (readTo l rows) count
   unfolding readT
   rows-whole q = rw (← e, q)
 
@@ -158,7 +158,7 @@ module _ (l : Limits) (input : List ℕ) where
   body-read rows h is v e = let whole = take-all (length input - h) (drop h input) (omega (arith, length-drop h input)) in rw (whole, is) at e
 
   -- the rows behind a header
-  reading-is : (rows : ℕ) (rs : List (Option Row)) → length rs ≡ rows → rows < 4294967296 → (x : tree.Reading) → Right (settingIn l .rules) (settingIn l .version .scopes) rs x → readT (answerOf x) rows ≡ formOf (asAnswer x)
+  reading-is : (rows : ℕ) (rs : List (Option Row)) → length rs ≡ rows → rows < 4294967296 → (x : tree.RowsRead) → Right (settingIn l .rules) (settingIn l .version .scopes) rs x → readT (answerOf x) rows ≡ formOf (asAnswer x)
   unfolding readT answerOf asAnswer formOf
   reading-is rows rs n h (tree.bad p) w = let k : p % 4294967296 ≡ p = omega (arith, w .in-range) in rw k
   reading-is rows rs n h (tree.deep p) w = let k : p % 4294967296 ≡ p = omega (arith, w .in-range) in rw k

@@ -8,9 +8,9 @@ use Rattle.limits.specs.declared.Limits.{Limits}
 use Rattle.form.specs.Header.{headerTo}
 use Rattle.form.specs.declared.header.Header.{Header}
 use Rattle.form.specs.declared.header.Header.the-variants.{Rows, Wrong, Count}
-use Rattle.reader.specs.Readings.{readTo}
-use Rattle.reader.specs.declared.read.Reading.{Reading}
-use Rattle.reader.specs.declared.read.Reading.the-variants as reading
+use Rattle.reader.specs.ReadTo.{readTo}
+use Rattle.reader.specs.declared.read.RowsRead.{RowsRead}
+use Rattle.reader.specs.declared.read.RowsRead.the-variants as rowsRead
 use Rattle.whole_form.specs.declared.read.Form.{Form}
 use Rattle.whole_form.specs.declared.read.Form.the-variants.{Whole, Refused}
 
@@ -26,10 +26,10 @@ formOf (accepted tree) = Whole (length (flatten tree))
 -- ---- as the code goes
 
 -- what the rows were read as: the form, refusal 4, or refusal 5
-unfoldable pub readT : Reading → (rows : ℕ) → Form
-readT (reading.Broken row) rows = refusedT 4 (row % 4294967296)
-readT (reading.Deep row) rows = refusedT 5 (row % 4294967296)
-readT reading.Whole rows = Whole rows
+unfoldable pub readT : RowsRead → (rows : ℕ) → Form
+readT (rowsRead.Broken row) rows = refusedT 4 (row % 4294967296)
+readT (rowsRead.Deep row) rows = refusedT 5 (row % 4294967296)
+readT rowsRead.Whole rows = Whole rows
 
 -- the rows behind the header, held to the limits
 unfoldable pub bodyT : Limits → (rows : ℕ) → List ℕ → Form

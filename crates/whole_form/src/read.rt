@@ -4,7 +4,7 @@ use form::header::header_to;
 use limits::Limits;
 use limits::of_claim;
 use limits::of_input;
-use reader::read::Reading;
+use reader::read::RowsRead;
 use reader::read::read_to;
 use refusal::BROKEN;
 use refusal::DEEP;
@@ -17,7 +17,7 @@ ghost use lib.ListN.{length};
 ghost use Rattle.rules.specs.Versions.{asClaimed};
 ghost use Rattle.read_form.specs.ReadForm.{readForm};
 ghost use Rattle.limits.specs.Held.{settingIn, setting};
-ghost use Rattle.reader.specs.Readings.{readTo};
+ghost use Rattle.reader.specs.ReadTo.{readTo};
 ghost use Rattle.whole_form.specs.Whole.{formOf, refusedT, readT, bodyT};
 
 pub enum Form {
@@ -45,9 +45,9 @@ pub fn read_rows(rows: &[u8], limits: Limits, count: usize) -> Form
     ensures { λ r. ⌜ r ≡ readT (readTo limits (now (rows .entry))) count ⌝ }
 {
     match read_to(rows, limits) {
-        Reading::Broken(row) => refused(BROKEN, (row % 4294967296) as u32),
-        Reading::Deep(row) => refused(DEEP, (row % 4294967296) as u32),
-        Reading::Whole => Form::Whole(count),
+        RowsRead::Broken(row) => refused(BROKEN, (row % 4294967296) as u32),
+        RowsRead::Deep(row) => refused(DEEP, (row % 4294967296) as u32),
+        RowsRead::Whole => Form::Whole(count),
     }
 }
 

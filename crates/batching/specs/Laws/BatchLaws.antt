@@ -19,7 +19,7 @@ use Rattle.batching.specs.Batch
 use Rattle.batching.specs.Batch.{BatchAnswer, refused, done, Prelude, rootOf, preludeIn, preludeOf, insideAnswer, insideOutput, memberAfter, memberWrites, shareOf, memberAnswers, memberOutputs, afterPrelude, sharesAfter, batchAnswer, batchOutputs}
 use Rattle.rules.specs.Laws.ToolLaws.{Ok}
 use Rattle.rules.specs.Laws.Results.{some-same, no-option}
-use Rattle.rules.specs.Laws.Demand3.{Usual, AllUsual, setting-usual}
+use Rattle.rules.specs.Laws.InputLaws.{Usual, AllUsual, setting-usual}
 use Rattle.read_form.specs.Laws.OutputLength.{output-length}
 
 -- ---- what a member gets, by the prelude, its own form and its share alone

@@ -28,7 +28,7 @@ use Rattle.batching.specs.Laws.MeantRow.{Named, row-named}
 use Rattle.rules.specs.Laws.Meaning.Agree
 use Rattle.rules.specs.Laws.Meaning.Agree.{readings-agree}
 use Rattle.rules.specs.Laws.Meaning.Explained.{Explained}
-use Rattle.rules.specs.Laws.Demand3.{Usual, AllUsual, Small, Accepted, AcceptedInside, readings, readings-inside, UnknownInside, unknown-inside, LateInside, late-inside}
+use Rattle.rules.specs.Laws.InputLaws.{Usual, AllUsual, Small, Accepted, AcceptedInside, readings, readings-inside, UnknownInside, unknown-inside, LateInside, late-inside}
 use Rattle.batching.specs.Laws.BatchLaws.{inBatch, preludeAnswer, membersAnswers, shareAt, prelude-answers, member-answer, share-whole, shares-fit, shares}
 
 -- ---- of trees

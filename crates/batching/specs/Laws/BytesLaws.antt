@@ -20,7 +20,7 @@ use Rattle.batching.specs.BatchBytes.{sum, cut, packed, answersBytes, ba
 use Rattle.rules.specs.Laws.Output.OutBytes.{bytes-length}
 use Rattle.rules.specs.Laws.ToolLaws.{false-not}
 use Rattle.rules.specs.Laws.Results.{no-option, some-same}
-use Rattle.rules.specs.Laws.Demand3.{AllUsual}
+use Rattle.rules.specs.Laws.InputLaws.{AllUsual}
 use Rattle.read_form.specs.Laws.OutputLength.{output-length}
 use Rattle.batching.specs.Laws.BatchLaws.{membersAnswers, shareAt, prelude-output, shares}
 use Rattle.batching.specs.Laws.MemberLaws.{as-alone, writes-as-alone}

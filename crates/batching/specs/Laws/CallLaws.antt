@@ -15,7 +15,7 @@ use Rattle.rules.specs.Rows.{bytes}
 use Rattle.rules.specs.Reader.{read}
 use Rattle.rules.specs.Answer.{AnswerOf, accepted, mapAnswer, Answer, settingOf, rowCount, rowsIn, scopesLeft, afterReading, formIn}
 use Rattle.rules.specs.Laws.ToolLaws.{and-left, leb-le}
-use Rattle.rules.specs.Laws.Demand3.{AllUsual}
+use Rattle.rules.specs.Laws.InputLaws.{AllUsual}
 use Rattle.batching.specs.Batch.{Prelude, preludeIn, preludeOf, shareOf, memberAnswer, memberOutput}
 use Rattle.batching.specs.BatchBytes.{cut, packed, badMembers, fewBytes, Buffers}
 use Rattle.batching.specs.BatchCalls.{roomWith, cleared, memberCall, memberLeaves, batchLeaves}

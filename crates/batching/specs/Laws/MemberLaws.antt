@@ -10,13 +10,13 @@ use lib.ListN.{length, getElem?}
 use borrow.Author.Tests.{le-ltb}
 use Rattle.rules.specs.Tools.{if_then_else_, between}
 use Rattle.rules.specs.Versions.{RuleSet, Setting}
-use Rattle.rules.specs.Tree.{Scope, flatten, Reading, bad, deep, form}
+use Rattle.rules.specs.Tree.{Scope, flatten, RowsRead, bad, deep, form}
 use Rattle.rules.specs.Reader.{read}
 use Rattle.rules.specs.Rules.{Refusal, twice, not-exported, not-outer, unknown, no-scope, too-far, case-twice, not-earlier, numberOf, Result, ok, Env, resolveInside}
 use Rattle.rules.specs.Answer
 use Rattle.rules.specs.Answer.{AnswerOf, refused, accepted, mapAnswer, Answer, settingOf, rowCount, rowsIn, scopesLeft, afterReading, formIn, answerInside}
 use Rattle.batching.specs.Batch.{Prelude, rootOf, preludeIn, preludeOf, shareOf, memberAnswer, memberOutput, batchAnswer, batchOutputs}
-use Rattle.rules.specs.Laws.Demand3.{AllUsual}
+use Rattle.rules.specs.Laws.InputLaws.{AllUsual}
 use Rattle.rules.specs.Laws.ToolLaws.{false-not}
 use Rattle.rules.specs.Laws.Results.{if-both}
 use Rattle.batching.specs.Laws.BatchLaws.{membersAnswers, shareAt, member-answer, shares}
@@ -67,7 +67,7 @@ unfolding Answer.resolved
 numbered-run (Result.refused why p) = numbered-step why
 numbered-run (ok r) = tt
 
-numbered-reading : (around : List Env) (rules : RuleSet) (r : Reading) → Numbered (afterReading around rules r)
+numbered-reading : (around : List Env) (rules : RuleSet) (r : RowsRead) → Numbered (afterReading around rules r)
 unfolding afterReading
 numbered-reading around rules (bad p) = omega arith
 numbered-reading around rules (deep p) = omega arith

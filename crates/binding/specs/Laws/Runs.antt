@@ -12,7 +12,7 @@ use borrow.Author.Tests.{le-ltb}
 use Rattle.rules.specs.Tools.{if_then_else_, between, _then_, _orElse_}
 use Rattle.rules.specs.Versions.{RuleSet, Setting}
 use Rattle.rules.specs.Rows.{Row}
-use Rattle.rules.specs.Tree.{Scope, flatten, Reading, bad, deep, form}
+use Rattle.rules.specs.Tree.{Scope, flatten, RowsRead, bad, deep, form}
 use Rattle.rules.specs.Reader.{read}
 use Rattle.rules.specs.Rules
 use Rattle.rules.specs.Rules.{numberOf, Result, ok, resolve}
@@ -54,7 +54,7 @@ module _ (settings : List Setting) (input : List ℕ) (v : Setting) (asked : set
       go (Result.refused why place) e o = omega (arith, o .0)
       go (ok (t, k)) e o = record { setting = v; asked-for = asked; reads = q; next = k; resolves = e; rows = refl; bytes = refl }
 
-  reading-agrees : (r : Reading) → read (v .rules) (v .version .scopes) (rowsIn v input) ≡ r
+  reading-agrees : (r : RowsRead) → read (v .rules) (v .version .scopes) (rowsIn v input) ≡ r
       → Agree settings input (formOf r then λ s. resultOf (resolve (v .rules) s) then λ t. some (record { before = s; after = t; bytes = formBytes v (flatten t) })) (mapAnswer flatten (Answer.afterReading [] (v .rules) r))
   unfolding formOf Answer.afterReading mapAnswer _then_ resolve
   reading-agrees (bad place) q = omega arith

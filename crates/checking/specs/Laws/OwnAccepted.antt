@@ -18,7 +18,7 @@ use Rattle.rules.specs.Laws.Results.{some-same}
 use Rattle.rules.specs.Laws.Meaning.Names.{LowScope, low-scope}
 use Rattle.rules.specs.Laws.Output.Kept.{kept}
 use Rattle.rules.specs.Laws.Output.Numbers.{numbers}
-use Rattle.rules.specs.Laws.Demand3.{AllUsual, readings}
+use Rattle.rules.specs.Laws.InputLaws.{AllUsual, readings}
 use Rattle.read_form.specs.Laws.ReadFormLaws.{read-exactly, asks-header, input-read, ours-read}
 use Rattle.checking.specs.Laws.SameFields.{numbered-scope-bare, passes-2}
 use Rattle.checking.specs.Laws.OwnAliases.{passes-3}

@@ -11,7 +11,7 @@ use lib.ListN.{length}
 use Rattle.rules.specs.Tools.{if_then_else_, between}
 use Rattle.rules.specs.Versions.{RuleSet, Setting, asClaimed}
 use Rattle.rules.specs.Rows.{Row}
-use Rattle.rules.specs.Tree.{Scope, flatten, Reading, bad, deep, form}
+use Rattle.rules.specs.Tree.{Scope, flatten, RowsRead, bad, deep, form}
 use Rattle.rules.specs.Reader.{read}
 use Rattle.rules.specs.Rules.{numberOf, carriedBy, Result, ok, resolve}
 use Rattle.rules.specs.Answer
@@ -57,13 +57,13 @@ steps-alike s (Result.refused why p) x = both-refuse (numberOf why) p (carriedBy
 steps-alike s (ok r) x = none-refuses _ (Check.ofClaim s x) (claim-not-refused s x)
 
 module _ (rules : RuleSet) where
-  reading-alike : (r : Reading) (x : AnswerOf Scope) → Alike (mapAnswer flatten (Answer.afterReading [] rules r)) (Check.ofInput rules (asAnswer r) x)
+  reading-alike : (r : RowsRead) (x : AnswerOf Scope) → Alike (mapAnswer flatten (Answer.afterReading [] rules r)) (Check.ofInput rules (asAnswer r) x)
   unfolding Answer.afterReading mapAnswer Check.ofInput asAnswer resolve
   reading-alike (bad p) x = both-refuse 4 p []
   reading-alike (deep p) x = both-refuse 5 p []
   reading-alike (form s) x = steps-alike s (resolve rules s) x
 
-  sized-alike : (b : Bool) (r : Reading) (x : AnswerOf Scope)
+  sized-alike : (b : Bool) (r : RowsRead) (x : AnswerOf Scope)
       → Alike (mapAnswer flatten (if b then AnswerOf.refused 2 0 [] else Answer.afterReading [] rules r)) (Check.ofInput rules (if b then AnswerOf.refused 2 0 [] else asAnswer r) x)
   unfolding if_then_else_
   sized-alike true r x = unfold Check.ofInput mapAnswer in both-refuse 2 0 []

@@ -20,9 +20,9 @@ use Rattle.rules.specs.Laws.ToolLaws.{false-not, and-left, and-right, eqb-true,
 use Rattle.read_form.specs.Laws.Parting.{no-cons, cons-head, cons-tail}
 use Rattle.rules.specs.Laws.RowLaws.{Legal, decode-again}
 use Rattle.rules.specs.Laws.Results.{no-option, some-same}
-use Rattle.rules.specs.Laws.Reading.Reached.{same-whole}
-use Rattle.rules.specs.Laws.Reading.Steps.{after}
-use Rattle.rules.specs.Laws.Reading.ReadBack.{read-back}
+use Rattle.rules.specs.Laws.Read.Reached.{same-whole}
+use Rattle.rules.specs.Laws.Read.Steps.{after}
+use Rattle.rules.specs.Laws.Read.ReadBack.{read-back}
 use Rattle.rules.specs.Laws.Output.Kept.{blankOperand, blankHead, blank, blankFields, blankItem, without, withoutFields, withoutItem}
 use Rattle.rules.specs.Laws.Output.Numbers.{AllNumbered, Bare, AllBare, NumberedScope, NumberedFields, NumberedItem}
 

@@ -24,7 +24,7 @@ use Rattle.rules.specs.Laws.Output.Kept.{kept, blank, without}
 use Rattle.rules.specs.Laws.Meaning.Names.{low-scope}
 use Rattle.rules.specs.Laws.Meaning.ReadNames.{read-low}
 use Rattle.rules.specs.Laws.Meaning.Written.{isWritten}
-use Rattle.rules.specs.Laws.Demand3.{Usual, AllUsual, setting-usual}
+use Rattle.rules.specs.Laws.InputLaws.{Usual, AllUsual, setting-usual}
 use Rattle.read_form.specs.Laws.ReadFormLaws.{read-exactly, read-read}
 use Rattle.checking.specs.Laws.SameFields.{same-fields, numbered-scope-bare}
 use Rattle.checking.specs.Laws.AddedFields.{scope-added}

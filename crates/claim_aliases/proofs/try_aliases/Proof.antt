@@ -7,13 +7,13 @@ use Prim.Native.Nat.{_-_}
 use lib.ListN.{length}
 use Rattle.index.specs.Indexed.{Holds}
 use Rattle.claim_rows.specs.Left.{rowsAt}
-use Rattle.claim_aliases.specs.Aliases.{aliasesT}
+use Rattle.claim_aliases.specs.Aliases.{tryAliasesT}
 use Rattle.claim_aliases.proofs.Ways.{Goes, turns}
 use Rattle.claim_aliases.proofs.try_aliases.Statement.{statement}
 use Rattle.claim_aliases.proofs.try_aliases.Tie as tie
 
 abbrev Inv-loop : tie.InvT-loop
-Inv-loop claim table₀ index₀ n scopes₀ c₀ i₀ table index scopes c i = Goes claim table₀ table scopes c i (aliasesT (length table₀) 0 false [] [] (rowsAt claim 0)) × Holds table index (c .used) × (length table ≡ length table₀) × (length index ≡ length index₀)
+Inv-loop claim table₀ index₀ n scopes₀ c₀ i₀ table index scopes c i = Goes claim table₀ table scopes c i (tryAliasesT (length table₀) 0 false [] [] (rowsAt claim 0)) × Holds table index (c .used) × (length table ≡ length table₀) × (length index ≡ length index₀)
 
 abbrev μ-loop : tie.MeasureT-loop
 μ-loop claim table₀ index₀ n scopes₀ c₀ i₀ table index scopes c i = n - i

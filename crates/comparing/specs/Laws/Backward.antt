@@ -13,7 +13,7 @@ use Rattle.rules.specs.Tree.{Item, itemRows}
 use Rattle.comparing.specs.Compare.{Choice, blur, same}
 use Rattle.rules.specs.Laws.ToolLaws.{leb-true, leb-false, leb-le}
 use Rattle.comparing.specs.Laws.SameRows.{same-equal, equal-same}
-use Rattle.comparing.specs.Laws.Apart.{itemsRows, last-field}
+use Rattle.comparing.specs.Laws.FieldsFromRows.{itemsRows, last-field}
 use Rattle.comparing.specs.Laws.Sides.{item-filled}
 
 -- how many fields are the same from the front

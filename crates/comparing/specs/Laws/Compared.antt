@@ -16,11 +16,11 @@ use Rattle.read_form.specs.ReadForm.{_andThen_, readForm}
 use Rattle.comparing.specs.Compare.{Choice, blurPlace, blurName, blurIndex, blur, formPairs, Entry, differences, apply, bothRead, compared}
 use Rattle.rules.specs.Laws.ToolLaws.{ok-at, eqb-true, All}
 use Rattle.rules.specs.Laws.RowLaws.{Bytes}
-use Rattle.rules.specs.Laws.Reading.Reached.{unsome}
+use Rattle.rules.specs.Laws.Read.Reached.{unsome}
 use Rattle.comparing.specs.Laws.Sides.{form-sides, forms-alike}
 use Rattle.comparing.specs.Laws.Kinds.{Means, kinds-mean}
 use Rattle.comparing.specs.Laws.WrittenAgain.{form-bytes}
-use Rattle.rules.specs.Laws.Demand3.{Usual, AllUsual, setting-usual}
+use Rattle.rules.specs.Laws.InputLaws.{Usual, AllUsual, setting-usual}
 use Rattle.read_form.specs.Laws.ReadFormLaws.{no-answer, accepted-same, then-inv, ReadAs, read-exactly}
 use Rattle.comparing.specs.Laws.Lists.{InOrder, in-order, applied, none-differ, none-listed, Carried, carried}
 

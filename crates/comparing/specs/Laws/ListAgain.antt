@@ -14,8 +14,8 @@ use Rattle.rules.specs.Answer.{rowCount, rowsOf, rowsBytes}
 use Rattle.comparing.specs.Compare.{Choice, Kind, opening, leftOnly, rightOnly, differing, Entry, kindNumber, entryBytes, listBytes}
 use Rattle.rules.specs.Laws.ToolLaws.{and-right, leb-le, All, done, _&_}
 use Rattle.rules.specs.Laws.RowLaws.{Written, value-bytes, Bytes, bytes-drop}
-use Rattle.rules.specs.Laws.Reading.Reached.{unsome}
-use Rattle.rules.specs.Laws.Reading.BeginsWritten.{rows-length, rows-written, rows-again, all-some}
+use Rattle.rules.specs.Laws.Read.Reached.{unsome}
+use Rattle.rules.specs.Laws.Read.BeginsWritten.{rows-length, rows-written, rows-again, all-some}
 use Rattle.rules.specs.Laws.Output.OutFits.{outName}
 use Rattle.read_form.specs.Laws.OutputLength
 use Rattle.read_form.specs.Laws.ReadFormLaws.{ReadAs}

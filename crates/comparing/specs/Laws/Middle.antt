@@ -10,7 +10,7 @@ use Rattle.rules.specs.Tools.{if_then_else_}
 use Rattle.rules.specs.Tree.{Item, itemRows}
 use Rattle.comparing.specs.Compare.{Choice, same, Pair, alike, differs, rest, front, mirrored, fieldPairs, Entry, entries}
 use Rattle.rules.specs.Laws.ToolLaws.{if-ok, All, done, _&_}
-use Rattle.comparing.specs.Laws.Apart.{itemsRows}
+use Rattle.comparing.specs.Laws.FieldsFromRows.{itemsRows}
 use Rattle.comparing.specs.Laws.Sides.{Alike}
 use Rattle.comparing.specs.Laws.Kinds.{all-turned}
 use Rattle.comparing.specs.Laws.Lists.{none-listed}

@@ -12,7 +12,7 @@ use Rattle.rules.specs.Tree.{Scope, scope, Fields, Item, plain, holds, headOf, 
 use Rattle.comparing.specs.Compare.{Choice, blur, same, leftOnly, rightOnly, differing, opening, Pair, alike, differs, items, onlyLeft, onlyRight, rest, front, mirrored, fieldPairs, openPair, formPairs}
 use Rattle.rules.specs.Laws.ToolLaws.{if-ok, All, done, _&_, all-append}
 use Rattle.comparing.specs.Laws.SameRows.{same-equal, equal-same}
-use Rattle.comparing.specs.Laws.Apart.{itemsRows, fields-items, fields-equal}
+use Rattle.comparing.specs.Laws.FieldsFromRows.{itemsRows, fields-items, fields-equal}
 
 -- ---- what pairs have
 

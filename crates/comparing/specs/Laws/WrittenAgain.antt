@@ -12,7 +12,7 @@ use Rattle.rules.specs.Rows.{value, bytes, rawAt, rawBytes, Row, decodeRow, enc
 use Rattle.rules.specs.Answer.{hasHeader, rowCount, rowsOf, rowsBytes, formBytes}
 use Rattle.rules.specs.Laws.ToolLaws.{ok-at}
 use Rattle.rules.specs.Laws.RowLaws.{decode-parts, Bytes, bytes-drop}
-use Rattle.rules.specs.Laws.Reading.BeginsWritten.{rows-length}
+use Rattle.rules.specs.Laws.Read.BeginsWritten.{rows-length}
 use Rattle.headers.specs.Laws.Written.{bytes-value, header-bytes}
 
 -- ---- a row

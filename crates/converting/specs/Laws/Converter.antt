@@ -11,7 +11,7 @@ use lib.ListN.{length, drop, take-append-drop, length-append, length-drop}
 use Rattle.rules.specs.Tools.{if_then_else_, between, only, _orElse_}
 use Rattle.rules.specs.Versions.{RuleSet, Version, Setting, version1, version2, today, newer, all}
 use Rattle.rules.specs.Rows.{Row}
-use Rattle.rules.specs.Tree.{Scope, flatten, Reading, bad, deep, form}
+use Rattle.rules.specs.Tree.{Scope, flatten, RowsRead, bad, deep, form}
 use Rattle.rules.specs.Good.{height}
 use Rattle.rules.specs.Begins.{IsForm, Deep}
 use Rattle.rules.specs.Reader.{read}
@@ -20,7 +20,7 @@ use Rattle.rules.specs.Answer
 use Rattle.rules.specs.Answer.{AnswerOf, refused, accepted, mapAnswer, hasHeader, settingOf, rowCount, rowsOf, rowsIn, answer, headerBytes}
 use Rattle.rules.specs.Laws.ToolLaws.{and-left, and-right, eqb-true, eqb-same, leb-true, leb-le, leb-lt, leb-false}
 use Rattle.rules.specs.Laws.RowLaws.{Bytes}
-use Rattle.rules.specs.Laws.Reading.ReadRight.{read-right, reads-form}
+use Rattle.rules.specs.Laws.Read.ReadRight.{read-right, reads-form}
 use Rattle.rules.specs.Laws.AnswerLaws.{Sized, answer-resolved}
 use Rattle.rules.specs.Laws.Output.OutBytes.{header-count, header-drop, header-length}
 use Rattle.headers.specs.Laws.Written.{written-header, header-bytes}
@@ -151,7 +151,7 @@ module _ (settings : List Setting) (w : Coherent settings) where
             is-new = i;
           }
 
-      scoped : (s t : Setting) (r : Reading) → withinScopes s t input r ≡ accepted new → (tree : Scope) × (r ≡ form tree) × (recast s t input ≡ new)
+      scoped : (s t : Setting) (r : RowsRead) → withinScopes s t input r ≡ accepted new → (tree : Scope) × (r ≡ form tree) × (recast s t input ≡ new)
       scoped s t (bad p) e = unfold withinScopes in no-answer 4 p [] new e
       scoped s t (deep p) e = unfold withinScopes in no-answer 5 p [] new e
       scoped s t (form tree) e = unfold withinScopes in (tree, refl, cc)
@@ -163,7 +163,7 @@ module _ (settings : List Setting) (w : Coherent settings) where
           let r = past (ltb (t .version .rows) (rowCount (s .version) input)) 2 0 [] (withinScopes s t input (read (t .rules) (t .version .scopes) (rowsIn s input))) new e in
           (t, refl, r .0, r .1)
 
-      formed : (s : Setting) (o : Option Setting) (r : Reading) → ifForm s o input r ≡ accepted new → (tree : Scope) × (r ≡ form tree) × (withinLimits s o input ≡ accepted new)
+      formed : (s : Setting) (o : Option Setting) (r : RowsRead) → ifForm s o input r ≡ accepted new → (tree : Scope) × (r ≡ form tree) × (withinLimits s o input ≡ accepted new)
       formed s o (bad p) e = unfold ifForm in no-answer 4 p [] new e
       formed s o (deep p) e = unfold ifForm in no-answer 5 p [] new e
       formed s o (form tree) e = unfold ifForm in (tree, refl, e)
@@ -336,7 +336,7 @@ module _ (settings : List Setting) (w : Coherent settings) where
           place-same : (q : ℕ) → _≡_ {A = AnswerOf (List ℕ)} (refused 5 q []) (refused 5 p []) → q ≡ p
           place-same q y = cc
 
-          go : (r : Reading) → read (t .rules) (t .version .scopes) (rowsIn s input) ≡ r → withinScopes s t input r ≡ refused 5 p [] → Deep (t .rules) (t .version .scopes) (rowsIn s input) p
+          go : (r : RowsRead) → read (t .rules) (t .version .scopes) (rowsIn s input) ≡ r → withinScopes s t input r ≡ refused 5 p [] → Deep (t .rules) (t .version .scopes) (rowsIn s input) p
           go (bad q) z y = unfold withinScopes in (let no-way : _≡_ {A = ℕ} 4 5 = cc in absurd (omega arith))
           go (deep q) z y =
               let at : q ≡ p = place-same q (unfold withinScopes in y) in
@@ -354,7 +354,7 @@ module _ (settings : List Setting) (w : Coherent settings) where
       let fits : ltb room (v .header + 16 * rowCount (s .version) input) ≡ false = leb-false (suc room) (v .header + 16 * rowCount (s .version) input) (omega (arith, roomy)) in
       rw (e, a) (go (not (between 1 (s .version .rows) (rowCount (s .version) input)) || not (eqb (length input) (s .version .header + 16 * rowCount (s .version) input))) fits (rw (found-in settings input s (w .in-force) e .has) at g))
     where
-      at-rows : (r : Reading) → asAnswer r ≡ refused number place [] → ifForm s (settingWith settings version (s .rules .number)) input r ≡ refused number place []
+      at-rows : (r : RowsRead) → asAnswer r ≡ refused number place [] → ifForm s (settingWith settings version (s .rules .number)) input r ≡ refused number place []
       at-rows (bad p) y = unfold asAnswer ifForm in (let n-is : _≡_ {A = ℕ} 4 number = cc in let p-is : p ≡ place = cc in rw (n-is, p-is))
       at-rows (deep p) y = unfold asAnswer ifForm in (let n-is : _≡_ {A = ℕ} 5 number = cc in let p-is : p ≡ place = cc in rw (n-is, p-is))
       at-rows (form t) y = unfold asAnswer in not-refused t number place [] y

@@ -12,7 +12,7 @@ use Rattle.rules.specs.Versions.{Setting, topName, base, all}
 use Rattle.rules.specs.Rows.{bytes}
 use Rattle.rules.specs.Answer.{mark, sameNumbers, hasHeader, settingOf}
 use Rattle.rules.specs.Laws.ToolLaws.{leb-le}
-use Rattle.rules.specs.Laws.Demand3.{Usual, base-usual, all-usual}
+use Rattle.rules.specs.Laws.InputLaws.{Usual, base-usual, all-usual}
 use Rattle.headers.specs.Laws.Written.{numbers-equal}
 
 -- a part of a list is the same, whatever follows it

@@ -3,7 +3,7 @@ use mathlib.Core.Path.{_≡_}
 use Prim.Native.Nat.{_/_, _-_}
 use lib.ListN.{length}
 use borrow.Author.Needs.{needs}
-use Rattle.mark.specs.Marked.{copiesT}
+use Rattle.mark.specs.MarkedRows.{copiesT}
 use Rattle.mark.proofs.Ways.{copies-ways}
 use Rattle.mark.proofs.copy_rows.Statement.{statement}
 use Rattle.mark.proofs.copy_rows.Tie as tie

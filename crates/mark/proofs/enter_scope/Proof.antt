@@ -5,7 +5,7 @@ use lib.ListN.{length}
 use borrow.Author.Needs.{needs}
 use Rattle.index.specs.Indexed.{Holds}
 use Rattle.mark.specs.Visits.{placeAt, visitsT}
-use Rattle.mark.specs.Marked.{Serves, enterAll, markAll, scopesT, copiesT}
+use Rattle.mark.specs.MarkedRows.{Serves, enterAll, markAll, scopesT, copiesT}
 use Rattle.mark.proofs.Ways.{enter-ways}
 use Rattle.mark.proofs.enter_scope.Statement.{statement}
 use Rattle.mark.proofs.enter_scope.Tie as tie

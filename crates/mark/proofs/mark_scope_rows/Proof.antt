@@ -5,7 +5,7 @@ use lib.ListN.{length}
 use borrow.Author.Needs.{needs}
 use Rattle.index.specs.Indexed.{Holds}
 use Rattle.mark.specs.Visits.{placeAt, visitsT}
-use Rattle.mark.specs.Marked.{Serves, enterAll, markAll, scopesT, copiesT}
+use Rattle.mark.specs.MarkedRows.{Serves, enterAll, markAll, scopesT, copiesT}
 use Rattle.mark.proofs.Ways.{scope-ways, mark-turn}
 use Rattle.mark.proofs.mark_scope_rows.Statement.{statement}
 use Rattle.mark.proofs.mark_scope_rows.Tie as tie

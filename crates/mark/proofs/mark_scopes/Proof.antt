@@ -4,7 +4,7 @@ use Prim.Native.Nat.{_/_, _-_, _≤_}
 use lib.ListN.{length}
 use borrow.Author.Needs.{needs}
 use Rattle.index.specs.Indexed.{Holds}
-use Rattle.mark.specs.Marked.{scopesT}
+use Rattle.mark.specs.MarkedRows.{scopesT}
 use Rattle.mark.proofs.Ways.{scopes-ways, scopes-turn}
 use Rattle.mark.proofs.mark_scopes.Statement.{statement}
 use Rattle.mark.proofs.mark_scopes.Tie as tie

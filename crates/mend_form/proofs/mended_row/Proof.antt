@@ -3,13 +3,13 @@ use mathlib.Core.Path.{_≡_}
 use Prim.Native.Nat.{_+_, _*_, _-_, _≤_}
 use lib.ListN.{length}
 use lib.Seq.{sets}
-use Rattle.mend_form.specs.Filled.{rowT}
+use Rattle.mend_form.specs.Filled.{mendedRowT}
 use Rattle.mend_form.proofs.Laws.{row-ways}
 use Rattle.mend_form.proofs.mended_row.Statement.{statement}
 use Rattle.mend_form.proofs.mended_row.Tie as tie
 
 abbrev Inv-loop : tie.InvT-loop
-Inv-loop rows i a code b row₀ j₀ row j = (sets row j (rowT rows a j (16 - j)) ≡ sets row₀ 0 (rowT rows a 0 16)) × (length row ≡ length row₀)
+Inv-loop rows i a code b row₀ j₀ row j = (sets row j (mendedRowT rows a j (16 - j)) ≡ sets row₀ 0 (mendedRowT rows a 0 16)) × (length row ≡ length row₀)
 
 abbrev μ-loop : tie.MeasureT-loop
 μ-loop rows i a code b row₀ j₀ row j = 16 - j

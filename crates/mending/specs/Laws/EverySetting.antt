@@ -19,7 +19,7 @@ use Rattle.mending.specs.Mend.{Change, undo, Mending, mended, mendIn, as
 use Rattle.rules.specs.Laws.ToolLaws.{Ok, ok-at, false-not, leb-le, or-true, All, done, _&_}
 use Rattle.rules.specs.Laws.RowLaws.{Bytes}
 use Rattle.rules.specs.Laws.Results.{some-same}
-use Rattle.rules.specs.Laws.Demand3.{Usual, AllUsual, setting-usual}
+use Rattle.rules.specs.Laws.InputLaws.{Usual, AllUsual, setting-usual}
 use Rattle.read_form.specs.Laws.ReadFormLaws.{read-exactly, asks-header}
 use Rattle.mending.specs.Laws.Pieces.{Outside, same-lists, lists-same}
 use Rattle.mending.specs.Laws.Undone

@@ -19,7 +19,7 @@ use Rattle.mending.specs.Mend
 use Rattle.mending.specs.Mend.{Piece, piece, afters, Change, listBytes, Fate, stays, zeroed, two-bits, fated, parts, rowPieces, closesRoot, depthAfter, closeRows, allRows, behindHeader, headerPieces, formPieces, mended, sized, mendIn}
 use Rattle.rules.specs.Laws.ToolLaws.{false-not, and-left, and-right, eqb-true, leb-le, leb-false, All, done, _&_, all-append}
 use Rattle.rules.specs.Laws.RowLaws.{Bytes, bytes-drop}
-use Rattle.rules.specs.Laws.Reading.ReadRight.{read-right}
+use Rattle.rules.specs.Laws.Read.ReadRight.{read-right}
 use Rattle.read_form.specs.Laws.ReadFormLaws.{read-exactly, read-read}
 use Rattle.mending.specs.Laws.Pieces.{Stays, same-lists, stays-afters, stays-changes}
 use Rattle.mending.specs.Laws.Undone.{mended-is, drop-drop, length-first, behind-bytes, form-bytes}

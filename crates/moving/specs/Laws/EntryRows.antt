@@ -8,7 +8,7 @@ use lib.Dec.{eqb, ltb}
 use lib.ListN.{length, getElem?}
 use Rattle.rules.specs.Tools.{if_then_else_, between}
 use Rattle.rules.specs.Versions.{RuleSet, Setting}
-use Rattle.rules.specs.Tree.{Declaration, Scope, flatten, Reading, bad, deep, form}
+use Rattle.rules.specs.Tree.{Declaration, Scope, flatten, RowsRead, bad, deep, form}
 use Rattle.rules.specs.Reader.{read}
 use Rattle.rules.specs.Rules.{resolve}
 use Rattle.rules.specs.Answer
@@ -59,7 +59,7 @@ entry-rows before after m M =
 
 -- ---- the answer without the lists is that of the rules
 
-of-reading : (rules : RuleSet) (r : Reading) → plainly (MovedAnswer.ofReading rules r) ≡ mapAnswer flatten (Answer.afterReading [] rules r)
+of-reading : (rules : RuleSet) (r : RowsRead) → plainly (MovedAnswer.ofReading rules r) ≡ mapAnswer flatten (Answer.afterReading [] rules r)
 unfolding MovedAnswer.ofReading MovedAnswer.listed plainly Answer.afterReading mapAnswer resolve
 of-reading rules (bad place) = refl
 of-reading rules (deep place) = refl
@@ -78,7 +78,7 @@ same-answer v input rooms e =
     rw e (go (not (between 1 (v .version .rows) (rowCount (v .version) input)) || not (eqb (length input) (v .version .header + 16 * rowCount (v .version) input)))
     (ltb (rooms .out) (v .version .header + 64 * rowCount (v .version) input)) (read (v .rules) (v .version .scopes) (rowsIn v input)))
   where
-    go : (a b : Bool) (r : Reading)
+    go : (a b : Bool) (r : RowsRead)
         → plainly (if a then refused 2 0 [] else if b || false then refused 3 0 [] else MovedAnswer.ofReading (v .rules) r)
         ≡ mapAnswer flatten (if a then refused 2 0 [] else if b then refused 3 0 [] else Answer.afterReading [] (v .rules) r)
     go true b r = refl

@@ -1,7 +1,7 @@
 -- `parts::parts_at` meets its contract.
 use Rattle.kit.proofs.Laws.{yes!, no!, tests}
 use mathlib.Core.Path.{refl}
-use Rattle.parts.specs.Apart.{partsAt}
+use Rattle.parts.specs.PartsAt.{partsAt}
 use borrow.Author.Needs.{needs}
 use Rattle.parts.proofs.parts_at.Statement.{statement}
 use Rattle.parts.proofs.parts_at.Tie as tie

@@ -11,14 +11,14 @@ use lib.ListN.{length, drop, replicate, length-append, length-drop, length-repli
 use Rattle.rules.specs.Tools.{if_then_else_, between}
 use Rattle.rules.specs.Versions.{Setting}
 use Rattle.rules.specs.Rows.{Row, Raw, raw, rawBytes, bytes, encode, encodeRow}
-use Rattle.rules.specs.Tree.{Scope, flatten, Reading, bad, deep, form}
+use Rattle.rules.specs.Tree.{Scope, flatten, RowsRead, bad, deep, form}
 use Rattle.rules.specs.Reader.{read}
 use Rattle.rules.specs.Rules.{Result, ok, Env, resolveInside}
 use Rattle.rules.specs.Answer
 use Rattle.rules.specs.Answer.{AnswerOf, refused, accepted, mapAnswer, Answer, settingOf, scopesLeft, formIn, afterReading, rowCount, rowsIn, rowsBytes, formBytes, written, outputAfter, outputFor, outputInside}
 use Rattle.rules.specs.Laws.ToolLaws.{Ok, leb-lt}
 use Rattle.rules.specs.Laws.Output.OutBytes.{header-length}
-use Rattle.rules.specs.Laws.Demand3.{Usual, AllUsual, setting-usual, four-out}
+use Rattle.rules.specs.Laws.InputLaws.{Usual, AllUsual, setting-usual, four-out}
 
 -- ---- how much is written
 
@@ -69,7 +69,7 @@ module _ (outside : List Env) (v : Setting) (input : List ℕ) (room : ℕ) (u :
       stepped t e l (Result.refused why p) q = unfold Answer.resolved in inr l
       stepped t e l (ok r) q = unfold Answer.resolved in (l, four-out outside v input t r u e q)
 
-      readThen : (r : Reading) → read (v .rules) (scopesLeft (v .version .scopes) outside) (rowsIn v input) ≡ r → size ≤ room → Fits (afterReading outside (v .rules) r)
+      readThen : (r : RowsRead) → read (v .rules) (scopesLeft (v .version .scopes) outside) (rowsIn v input) ≡ r → size ≤ room → Fits (afterReading outside (v .rules) r)
       readThen (bad p) e l = inl (omega arith)
       readThen (deep p) e l = inl (omega arith)
       readThen (form t) e l = stepped t e l (resolveInside (v .rules) outside t) refl

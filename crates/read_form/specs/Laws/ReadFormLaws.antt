@@ -11,7 +11,7 @@ use lib.ListN.{length}
 use Rattle.rules.specs.Tools.{if_then_else_, between, only, _orElse_}
 use Rattle.rules.specs.Versions.{Setting, asClaimed, claimed}
 use Rattle.rules.specs.Rows.{Row}
-use Rattle.rules.specs.Tree.{Scope, scope, flatten, Reading, bad, deep, form}
+use Rattle.rules.specs.Tree.{Scope, scope, flatten, RowsRead, bad, deep, form}
 use Rattle.rules.specs.Good.{height}
 use Rattle.rules.specs.Begins.{IsForm, Bad, Deep}
 use Rattle.rules.specs.Reader.{read}
@@ -21,11 +21,11 @@ use Rattle.read_form.specs.ReadForm.{_andThen_, asAnswer, readForm}
 use Rattle.rules.specs.Laws.ToolLaws.{Ok, false-not, eqb-same, leb-true, All, all-map}
 use Rattle.rules.specs.Laws.RowLaws.{Written, legal-wider, Bytes, bytes-drop}
 use Rattle.rules.specs.Laws.Results.{no-option, some-same}
-use Rattle.rules.specs.Laws.Reading.ReadRight.{read-right}
-use Rattle.rules.specs.Laws.Reading.BeginsWritten.{rows-written, all-some}
+use Rattle.rules.specs.Laws.Read.ReadRight.{read-right}
+use Rattle.rules.specs.Laws.Read.BeginsWritten.{rows-written, all-some}
 use Rattle.rules.specs.Laws.Output.OutFits.{outName}
 use Rattle.rules.specs.Laws.Output.OutBytes.{header-count, out-rows}
-use Rattle.rules.specs.Laws.Demand3.{Usual, Accepted}
+use Rattle.rules.specs.Laws.InputLaws.{Usual, Accepted}
 use Rattle.read_form.specs.Laws.OutputLength.{form-length}
 
 -- ---- answers
@@ -68,26 +68,26 @@ pub record ReadAs (s : Setting) (input : List ℕ) (t : Scope) : Type 0 where
   pub is-form : IsForm (s .rules) (rowsIn s input) t
   pub low : height t ≤ s .version .scopes
 
-as-form : (r : Reading) (t : Scope) → asAnswer r ≡ accepted t → r ≡ form t
+as-form : (r : RowsRead) (t : Scope) → asAnswer r ≡ accepted t → r ≡ form t
 unfolding asAnswer
 as-form (bad p) t e = no-answer 4 p [] t e
 as-form (deep p) t e = no-answer 5 p [] t e
 as-form (form t′) t e = ap form (accepted-same t′ t e)
 
-as-bad : (r : Reading) (p : ℕ) → asAnswer r ≡ refused 4 p [] → r ≡ bad p
+as-bad : (r : RowsRead) (p : ℕ) → asAnswer r ≡ refused 4 p [] → r ≡ bad p
 unfolding asAnswer
 as-bad (bad q) p e = cc
 as-bad (deep q) p e = let no-way : _≡_ {A = ℕ} 5 4 = cc in absurd (omega arith)
 as-bad (form t) p e = not-refused t 4 p [] e
 
-as-deep : (r : Reading) (p : ℕ) → asAnswer r ≡ refused 5 p [] → r ≡ deep p
+as-deep : (r : RowsRead) (p : ℕ) → asAnswer r ≡ refused 5 p [] → r ≡ deep p
 unfolding asAnswer
 as-deep (bad q) p e = let no-way : _≡_ {A = ℕ} 4 5 = cc in absurd (omega arith)
 as-deep (deep q) p e = cc
 as-deep (form t) p e = not-refused t 5 p [] e
 
 module _ (s : Setting) (input : List ℕ) where
-  abbrev reading : Reading
+  abbrev reading : RowsRead
   reading = read (s .rules) (s .version .scopes) (rowsIn s input)
 
   read-is : hasHeader s input ≡ true → between 1 (s .version .rows) (rowCount (s .version) input) ≡ true → eqb (length input) (s .version .header + 16 * rowCount (s .version) input) ≡ true

@@ -11,7 +11,7 @@ use lib.Seq.{length-take-le, take-at}
 use Rattle.rules.specs.Tools.{if_then_else_, between}
 use Rattle.rules.specs.Versions.{Setting, topName}
 use Rattle.rules.specs.Rows.{Row}
-use Rattle.rules.specs.Tree.{Scope, Reading, bad, deep, form}
+use Rattle.rules.specs.Tree.{Scope, RowsRead, bad, deep, form}
 use Rattle.rules.specs.Reader.{read}
 use Rattle.rules.specs.Answer.{AnswerOf, refused, accepted, mapAnswer, settingOf, rowCount, rowsIn, answer, outputAfter, output}
 use Rattle.rules.specs.Laws.ToolLaws.{and-right, eqb-true, leb-le}
@@ -46,7 +46,7 @@ unfolding anonymousIn afterReading if_then_else_
 taken-in s input key room e =
     counted (not (between 1 (s .version .rows) (rowCount (s .version) input)) || not (eqb (length input) (s .version .header + 16 * rowCount (s .version) input))) refl e
   where
-    whole : (r : Reading) → read (s .rules) (s .version .scopes) (rowsIn s input) ≡ r → not (between 1 (s .version .rows) (rowCount (s .version) input)) || not (eqb (length input) (s .version .header + 16 * rowCount (s .version) input)) ≡ false
+    whole : (r : RowsRead) → read (s .rules) (s .version .scopes) (rowsIn s input) ≡ r → not (between 1 (s .version .rows) (rowCount (s .version) input)) || not (eqb (length input) (s .version .header + 16 * rowCount (s .version) input)) ≡ false
         → afterReading r (keyIn s input) ≡ accepted key → Taken s input key
     whole (bad p) q c e = no-refusal e
     whole (deep p) q c e = no-refusal e

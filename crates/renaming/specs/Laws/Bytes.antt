@@ -12,7 +12,7 @@ use lib.Seq.{length-take-le, take-append-le, drop-append-seam}
 use Rattle.rules.specs.Tools.{if_then_else_, between, zeros, only, _orElse_}
 use Rattle.rules.specs.Versions.{RuleSet, Setting, topName, base, all}
 use Rattle.rules.specs.Rows.{value, bytes, Raw, raw, rawAt, rawBytes, Index, Num, Id, Row, Field, Decl, Ref, Path, Outer, Case, Open, Close, Export, decode, encode, flag, number, decodeRow, encodeRow}
-use Rattle.rules.specs.Tree.{Scope, flatten, Reading, bad, deep, form}
+use Rattle.rules.specs.Tree.{Scope, flatten, RowsRead, bad, deep, form}
 use Rattle.rules.specs.Reader.{read}
 use Rattle.rules.specs.Rules.{fresh, Result, ok, Env, resolveInside}
 use Rattle.rules.specs.Answer
@@ -221,7 +221,7 @@ module _ (f : ℕ → ℕ) (w : Keeps f) where
   resolved-ren (Result.refused why place) = refl
   resolved-ren (ok r) = refl
 
-  reading-ren : (around : List Env) (rules : RuleSet) (r : Reading)
+  reading-ren : (around : List Env) (rules : RuleSet) (r : RowsRead)
       → afterReading (map (renEnv g) around) rules (renReading g r) ≡ mapAnswer (renScope g) (afterReading around rules r)
   unfolding afterReading mapAnswer
   reading-ren around rules (bad p) = refl

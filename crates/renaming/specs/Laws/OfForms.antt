@@ -10,7 +10,7 @@ use lib.ListN.{length, take, drop, replicate, length-replicate}
 use Rattle.rules.specs.Tools.{if_then_else_, isIn, between}
 use Rattle.rules.specs.Versions.{Setting, topName}
 use Rattle.rules.specs.Rows.{Index, Num, Id, Row, Field, Decl, Ref, Path, Outer, Case, Open, Close, Export}
-use Rattle.rules.specs.Tree.{Scope, flatten, Reading, form}
+use Rattle.rules.specs.Tree.{Scope, flatten, RowsRead, form}
 use Rattle.rules.specs.Begins.{IsForm}
 use Rattle.rules.specs.Rules.{fresh}
 use Rattle.rules.specs.Answer
@@ -18,9 +18,9 @@ use Rattle.rules.specs.Answer.{AnswerOf, refused, accepted, mapAnswer, settingO
 use Rattle.renaming.specs.Renaming.{KeepsOn, renamedIndex, renamedRow, renamedRows, renamed, renamedIn, renamedFor, renamedBytes, nameIn, indexNames, rowNames, namesOf, byFirst}
 use Rattle.rules.specs.Laws.ToolLaws.{All, done, _&_, false-not, and-left, and-right, eqb-same, eqb-false, leb-le}
 use Rattle.rules.specs.Laws.RowLaws.{Bytes}
-use Rattle.rules.specs.Laws.Reading.ReadRight.{read-right}
-use Rattle.rules.specs.Laws.Reading.BeginsWritten.{rows-length}
-use Rattle.rules.specs.Laws.Demand3.{Usual, AllUsual, readings}
+use Rattle.rules.specs.Laws.Read.ReadRight.{read-right}
+use Rattle.rules.specs.Laws.Read.BeginsWritten.{rows-length}
+use Rattle.rules.specs.Laws.InputLaws.{Usual, AllUsual, readings}
 use Rattle.headers.specs.Laws.Settings.{Plain, InForce, found-in}
 use Rattle.renaming.specs.Laws.Bytes.{renaming-answer, renaming-buffer, bufferFor}
 use Rattle.renaming.specs.Laws.OwnNames.{InRange, Extended, extend, in-left, in-right, rows-agree, rows-range, by-first-keeps}

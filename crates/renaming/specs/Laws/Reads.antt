@@ -9,7 +9,7 @@ use lib.ListN.{length, length-map}
 use Rattle.rules.specs.Tools.{if_then_else_, only, _then_}
 use Rattle.rules.specs.Versions.{RuleSet}
 use Rattle.rules.specs.Rows.{Index, Row, Field, Decl, Ref, Path, Outer, Case, Open, Close, Export}
-use Rattle.rules.specs.Tree.{Declaration, Operand, ref, outer, case, Head, Scope, scope, Fields, end, _▸_, Item, plain, holds, withOperands, Reading, bad, deep, form}
+use Rattle.rules.specs.Tree.{Declaration, Operand, ref, outer, case, Head, Scope, scope, Fields, end, _▸_, Item, plain, holds, withOperands, RowsRead, bad, deep, form}
 use Rattle.rules.specs.Shapes.{Want, Part, declares, parts, declared, isEmpty, opens, firstName, enough, next}
 use Rattle.rules.specs.Reader
 use Rattle.rules.specs.Reader.{Stage, declaring, wanting, pathing, exported, Current, between-fields, within, Around, root, inside, State, start, state, Next, wrong, on, whole, _◂_, wanted, settled, upTo, step, run, read}
@@ -42,7 +42,7 @@ module _ (f : ℕ → ℕ) where
   renNext (on s) = on (renState s)
   renNext (whole t) = whole (renScope f t)
 
-  abbrev pub renReading : Reading → Reading
+  abbrev pub renReading : RowsRead → RowsRead
   renReading (bad p) = bad p
   renReading (deep p) = deep p
   renReading (form s) = form (renScope f s)
@@ -225,7 +225,7 @@ module _ (f : ℕ → ℕ) (w : Faithful f) where
     ended-ren [] t = refl
     ended-ren (row ∷ rows) t = ap (λ (n : ℕ). bad (suc n)) (length-map rows (Option·map (renamedRow f)))
 
-    proceed-ren : (scopes : ℕ) (n : Next) (rows : List (Option Row)) (go go′ : State → Reading) → ((s : State) → go′ (renState f s) ≡ renReading f (go s))
+    proceed-ren : (scopes : ℕ) (n : Next) (rows : List (Option Row)) (go go′ : State → RowsRead) → ((s : State) → go′ (renState f s) ≡ renReading f (go s))
         → Reader.proceed scopes (renNext f n) (Q rows) go′ ≡ renReading f (Reader.proceed scopes n rows go)
     unfolding Reader.proceed
     proceed-ren scopes wrong rows go go′ p = ap (λ (n : ℕ). bad (suc n)) (length-map rows (Option·map (renamedRow f)))
@@ -241,7 +241,7 @@ module _ (f : ℕ → ℕ) (w : Faithful f) where
         ap (λ (n : Next). Reader.proceed scopes n (Q rows) (λ s′. run rules scopes (Q rows) s′)) (step-ren s row)
         ∙ proceed-ren scopes (step rules s row) rows (λ s′. run rules scopes rows s′) (λ s′. run rules scopes (Q rows) s′) (λ s′. run-ren scopes rows s′)
 
-    counted-ren : (total : ℕ) (r : Reading) → Reader.counted total (renReading f r) ≡ renReading f (Reader.counted total r)
+    counted-ren : (total : ℕ) (r : RowsRead) → Reader.counted total (renReading f r) ≡ renReading f (Reader.counted total r)
     unfolding Reader.counted
     counted-ren total (bad p) = refl
     counted-ren total (deep p) = refl

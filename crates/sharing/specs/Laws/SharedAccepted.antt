@@ -26,7 +26,7 @@ use Rattle.rules.specs.Laws.Output.Well.{reads-again}
 use Rattle.rules.specs.Laws.Output.Kept.{kept}
 use Rattle.rules.specs.Laws.Output.Numbers.{numbers}
 use Rattle.rules.specs.Laws.Output.OutFits.{out-fits}
-use Rattle.rules.specs.Laws.Demand3.{AllUsual, readings}
+use Rattle.rules.specs.Laws.InputLaws.{AllUsual, readings}
 use Rattle.read_form.specs.Laws.ReadFormLaws.{no-answer, read-exactly, asks-header, input-read, read-written, written-read}
 use Rattle.checking.specs.Laws.SameFields.{numbered-scope-bare, passes-2}
 use Rattle.checking.specs.Laws.OwnAliases.{passes-3}

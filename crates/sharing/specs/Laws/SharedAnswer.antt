@@ -16,7 +16,7 @@ use Rattle.checking.specs.Check.{yes, condition4, verdict}
 use Rattle.sharing.specs.Sharing
 use Rattle.sharing.specs.Sharing.{propose, shared}
 use Rattle.rules.specs.Laws.RowLaws.{Bytes}
-use Rattle.rules.specs.Laws.Demand3.{AllUsual, readings}
+use Rattle.rules.specs.Laws.InputLaws.{AllUsual, readings}
 use Rattle.read_form.specs.Laws.ReadFormLaws.{read-exactly, asks-header, input-read}
 use Rattle.sharing.specs.Laws.OneAlias.{DistinctScope, AskedScope}
 use Rattle.sharing.specs.Laws.SharedAccepted.{shared-accepted, shared-agrees, shared-once, shared-reaches}

@@ -11,7 +11,7 @@ use Rattle.rules.specs.Rows.{Row}
 use Rattle.rules.specs.Answer.{AnswerOf, refused, accepted, Answer, settingOf, rowCount, answerFor, answerInside, answer, formBytes, written, outputAfter, outputFor, outputInside, output}
 use Rattle.rules.specs.Laws.ToolLaws.{Ok, ok-at}
 use Rattle.rules.specs.Laws.RowLaws.{Bytes}
-use Rattle.rules.specs.Laws.Demand3.{Usual, AllUsual, setting-usual}
+use Rattle.rules.specs.Laws.InputLaws.{Usual, AllUsual, setting-usual}
 use Rattle.read_form.specs.Laws.OutputLength.{form-length, output-length}
 use Rattle.sharing.specs.Sharing.{sharedAfter, shared, sharedFor, sharedOutput}
 use Rattle.sharing.specs.Laws.SharedAnswer.{Planned, planned}

@@ -6,7 +6,7 @@ use lib.ListN.{length}
 use denote.Ref.{now}
 use borrow.Author.Needs.{needs}
 use Rattle.rules.specs.Versions.{base}
-use Rattle.rules.specs.Laws.Demand3.{base-usual}
+use Rattle.rules.specs.Laws.InputLaws.{base-usual}
 use Rattle.reading_laws.specs.OnBytes.{base-within}
 use Rattle.sheet.proofs.Runs.{area-is, one-header}
 use Rattle.sheet.proofs.Whole.{work-is, area-cleared, unsound-says, unsound-leaves, small-says, small-leaves, other-says, other-leaves, no-room-says, no-room-leaves, answered-says, answered-leaves}

@@ -2,7 +2,7 @@
 use denote.Ref.{now}
 use borrow.Author.Needs.{needs}
 use Rattle.rules.specs.Versions.{base}
-use Rattle.rules.specs.Laws.Demand3.{base-usual}
+use Rattle.rules.specs.Laws.InputLaws.{base-usual}
 use Rattle.reading_laws.specs.OnBytes.{base-within}
 use Rattle.sheet.proofs.Runs.{none-written, other-length, bytes-compared, one-header, one-long}
 use Rattle.sheet.proofs.resolves_to.Statement.{statement}

@@ -2,11 +2,11 @@
 use lib.ListN.{length}
 use denote.Ref.{now}
 use borrow.Author.Needs.{needs}
-use Rattle.rules.specs.Laws.Demand3.{all-usual}
+use Rattle.rules.specs.Laws.InputLaws.{all-usual}
 use Rattle.reading_laws.specs.OnBytes.{all-within}
 use Rattle.sheet.proofs.Runs.{none-written, other-length, bytes-compared}
 use Rattle.resolver_with.specs.Areas.{lentOf}
-use Rattle.resolver_with.specs.Served.{served}
+use Rattle.rules.specs.Versions.{all}
 use Rattle.limits.specs.Held.{setting}
 use mathlib.Core.Path.{refl}
 use Rattle.sheet_with.proofs.Ways.{heads, long-in, said-roomy, left-roomy}
@@ -33,7 +33,7 @@ resolves-to-spec =
     let said = said-roomy (now (args .form)) (args .i) asks (lentOf (now (args .entered)) (now (args .names)) (now (args .known)) (now (args .chains)) (now (args .ends))) (start .pre .2) (ran .resolve-with .result) (length (now (args .area))) (ran .resolve-with .ensures .0) in
     let long = long-in (now (args .form)) (args .i) asks (length (now (args .area))) (start .pre .1) in
     let bytes = ran .before .before .before .before .before .before .before .before .before .before .before .before .shared-slice-known .given in
-    (none-written served all-usual all-within (now (args .form)) _ (heads (now (args .form)) (args .i) asks (setting (args .i) .version .header) refl) _ (now (args .area)) bytes long (ran .resolve-with .result) said _ (c .before .rows-written .ensures) (c .if1 .taken), ran .resolve-with .ensures .2))  -- returns
+    (none-written all all-usual all-within (now (args .form)) _ (heads (now (args .form)) (args .i) asks (setting (args .i) .version .header) refl) _ (now (args .area)) bytes long (ran .resolve-with .result) said _ (c .before .rows-written .ensures) (c .if1 .taken), ran .resolve-with .ensures .2))  -- returns
     (λ c κs. search needs)  -- header-size-requires
     (λ c. search needs)  -- cast-if2
     (λ c. search needs)  -- mul-if2
@@ -52,7 +52,7 @@ resolves-to-spec =
     let said = said-roomy (now (args .form)) (args .i) asks (lentOf (now (args .entered)) (now (args .names)) (now (args .known)) (now (args .chains)) (now (args .ends))) (start .pre .2) (ran .resolve-with .result) (length (now (args .area))) (ran .resolve-with .ensures .0) in
     let long = long-in (now (args .form)) (args .i) asks (length (now (args .area))) (start .pre .1) in
     let bytes = ran .before .before .before .before .before .before .before .before .before .before .before .before .shared-slice-known .given in
-    (other-length served all-usual all-within (now (args .form)) _ (heads (now (args .form)) (args .i) asks _ (c .before .header-size .ensures .0)) _ (now (args .area)) bytes long (ran .resolve-with .result) said _ (c .before .before .before .rows-written .ensures) (c .if2 .taken), ran .resolve-with .ensures .2))  -- returns-2
+    (other-length all all-usual all-within (now (args .form)) _ (heads (now (args .form)) (args .i) asks _ (c .before .header-size .ensures .0)) _ (now (args .area)) bytes long (ran .resolve-with .result) said _ (c .before .before .before .rows-written .ensures) (c .if2 .taken), ran .resolve-with .ensures .2))  -- returns-2
     (λ c κs. search needs)  -- begins-requires
     (λ c. search needs)  -- same-length-13
     (λ c. search needs)  -- same-length-14
@@ -69,4 +69,4 @@ resolves-to-spec =
     let long = long-in (now (args .form)) (args .i) asks (length (now (args .area))) (start .pre .1) in
     let bytes = ran .before .before .before .before .before .before .before .before .before .before .before .before .shared-slice-known .given in
     let left = left-roomy (now (args .form)) (args .i) asks (lentOf (now (args .entered)) (now (args .names)) (now (args .known)) (now (args .chains)) (now (args .ends))) (start .pre .2) (now (args .area)) _ (ran .resolve-with .ensures .1) in
-    (bytes-compared served all-usual all-within (now (args .form)) _ (heads (now (args .form)) (args .i) asks _ (c .before .before .before .header-size .ensures .0)) _ (now (args .area)) bytes long (ran .resolve-with .result) said _ (c .before .before .before .before .before .rows-written .ensures) (c .before .before .before .before .if1 .left) (c .before .before .if2 .left) _ left _ (c .begins .ensures), ran .resolve-with .ensures .2)))  -- returns-3
+    (bytes-compared all all-usual all-within (now (args .form)) _ (heads (now (args .form)) (args .i) asks _ (c .before .before .before .header-size .ensures .0)) _ (now (args .area)) bytes long (ran .resolve-with .result) said _ (c .before .before .before .before .before .rows-written .ensures) (c .before .before .before .before .if1 .left) (c .before .before .if2 .left) _ left _ (c .begins .ensures), ran .resolve-with .ensures .2)))  -- returns-3

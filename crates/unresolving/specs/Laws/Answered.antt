@@ -23,12 +23,12 @@ use Rattle.unresolving.specs.BackAnswer.{formOf, outcome, treeOf, readCl
 use Rattle.rules.specs.Laws.ToolLaws.{ok-at, All, done, _&_, all-append, and-left, and-right, eqb-true, eqb-same, leb-true, leb-false, false-not, then-some}
 use Rattle.rules.specs.Laws.RowLaws.{Written, Bytes}
 use Rattle.rules.specs.Laws.Results.{some-same, no-option}
-use Rattle.rules.specs.Laws.Reading.BeginsWritten.{rows-again}
+use Rattle.rules.specs.Laws.Read.BeginsWritten.{rows-again}
 use Rattle.rules.specs.Laws.Meaning.Names.{LowScope}
 use Rattle.rules.specs.Laws.Output.OutFits.{outName}
 use Rattle.rules.specs.Laws.Output.OutBytes.{header-count, header-length, header-drop, out-rows}
 use Rattle.rules.specs.Laws.AnswerLaws.{Sized, answer-resolved}
-use Rattle.rules.specs.Laws.Demand3.{Usual, AllUsual, base-usual, all-usual, setting-usual, alone-small, Steps, steps, Outcome, written, low-read, is-form, read-out, tree-rows, all-written, few-out}
+use Rattle.rules.specs.Laws.InputLaws.{Usual, AllUsual, base-usual, all-usual, setting-usual, alone-small, Steps, steps, Outcome, written, low-read, is-form, read-out, tree-rows, all-written, few-out}
 use Rattle.unresolving.specs.Laws.WentBack.{WentBack, went-back}
 
 -- ---- small tools

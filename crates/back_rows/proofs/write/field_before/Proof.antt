@@ -2,12 +2,12 @@
 use Rattle.back_rows.proofs.Ways.{fielding}
 use borrow.Author.Needs.{needs}
 use mathlib.Core.Path.{_≡_}
-use Rattle.back_rows.specs.Write.{fieldT}
+use Rattle.back_rows.specs.Write.{fieldBeforeT}
 use Rattle.back_rows.proofs.write.field_before.Statement.{statement}
 use Rattle.back_rows.proofs.write.field_before.Tie as tie
 
 abbrev Inv-loop : tie.InvT-loop
-Inv-loop rows i k₀ k = fieldT rows k ≡ fieldT rows i
+Inv-loop rows i k₀ k = fieldBeforeT rows k ≡ fieldBeforeT rows i
 
 abbrev μ-loop : tie.MeasureT-loop
 μ-loop rows i k₀ k = k

@@ -5,12 +5,12 @@ use mathlib.Core.Path.{_≡_}
 use Prim.Native.Nat.{_/_, _≤_}
 use lib.ListN.{length}
 use Rattle.back_rows.specs.Below.{below}
-use Rattle.back_rows.specs.Write.{cursorAt, startT, backT}
+use Rattle.back_rows.specs.Write.{cursorAt, startT, writeBackT}
 use Rattle.back_rows.proofs.write.write_back.Statement.{statement}
 use Rattle.back_rows.proofs.write.write_back.Tie as tie
 
 abbrev Inv-loop : tie.InvT-loop
-Inv-loop rows noted out₀ c₀ i₀ out c i = (backT (below rows noted i) (cursorAt rows noted c) out ≡ backT (below rows noted (length rows / 16)) (startT (length out₀ / 16)) out₀) × (length out ≡ length out₀) × (i ≤ length rows / 16)
+Inv-loop rows noted out₀ c₀ i₀ out c i = (writeBackT (below rows noted i) (cursorAt rows noted c) out ≡ writeBackT (below rows noted (length rows / 16)) (startT (length out₀ / 16)) out₀) × (length out ≡ length out₀) × (i ≤ length rows / 16)
 
 abbrev μ-loop : tie.MeasureT-loop
 μ-loop rows noted out₀ c₀ i₀ out c i = i

@@ -2,14 +2,14 @@
 use Prim.Native.Nat.{_≤_}
 use lib.ListN.{take}
 use Rattle.claim_rows.specs.Left.{rowsAt}
-use Rattle.claim_operands.specs.Paths.{pathsT}
+use Rattle.claim_operands.specs.Paths.{throughPathsT}
 use Rattle.claim_operands.proofs.Ways.{Follows, following}
 use borrow.Author.Needs.{needs}
 use Rattle.claim_operands.proofs.paths.through_paths.Statement.{statement}
 use Rattle.claim_operands.proofs.paths.through_paths.Tie as tie
 
 abbrev Inv-loop : tie.InvT-loop
-Inv-loop input first count claim table index s₀ left₀ s left = Follows table index claim input first (s₀ .used) left s (pathsT (take (s₀ .used) table) claim (rowsAt input first) count s₀) × (left ≤ count)
+Inv-loop input first count claim table index s₀ left₀ s left = Follows table index claim input first (s₀ .used) left s (throughPathsT (take (s₀ .used) table) claim (rowsAt input first) count s₀) × (left ≤ count)
 
 abbrev μ-loop : tie.MeasureT-loop
 μ-loop input first count claim table index s₀ left₀ s left = left

@@ -4,14 +4,14 @@ use mathlib.Core.List.{[]}
 use Prim.Native.Nat.{_-_}
 use lib.ListN.{take}
 use Rattle.claim_rows.specs.Left.{rowsAt}
-use Rattle.claim_operands.specs.Operands.{operandsT}
+use Rattle.claim_operands.specs.Operands.{tryOperandsT}
 use Rattle.claim_operands.proofs.Turns.{Goes, held-at, turns}
 use borrow.Author.Needs.{needs}
 use Rattle.claim_operands.proofs.run.try_operands.Statement.{statement}
 use Rattle.claim_operands.proofs.run.try_operands.Tie as tie
 
 abbrev Inv-loop : tie.InvT-loop
-Inv-loop input claim table index used n scopes₀ c₀ i₀ scopes c i = Goes table index claim input used scopes c i (operandsT (take used table) claim used 0 false [] (rowsAt claim 0) (rowsAt input 0))
+Inv-loop input claim table index used n scopes₀ c₀ i₀ scopes c i = Goes table index claim input used scopes c i (tryOperandsT (take used table) claim used 0 false [] (rowsAt claim 0) (rowsAt input 0))
 
 abbrev μ-loop : tie.MeasureT-loop
 μ-loop input claim table index used n scopes₀ c₀ i₀ scopes c i = n - i

@@ -3,13 +3,13 @@ use Prim.Native.Nat.{_≤_}
 use lib.ListN.{take}
 use borrow.Author.Needs.{needs}
 use Rattle.claim_scopes.specs.Open.{openIn}
-use Rattle.claim_reach.specs.Outward.{outT}
+use Rattle.claim_reach.specs.Outward.{reachOutT}
 use Rattle.claim_reach.proofs.Ways.{Goes, turns}
 use Rattle.claim_reach.proofs.outward.outward.Statement.{statement}
 use Rattle.claim_reach.proofs.outward.outward.Tie as tie
 
 abbrev Inv-loop : tie.InvT-loop
-Inv-loop table index used scopes depth space name left₀ left = Goes (take used table) scopes depth left space name (outT (take used table) (openIn scopes depth) 1 space name) × (left ≤ depth)
+Inv-loop table index used scopes depth space name left₀ left = Goes (take used table) scopes depth left space name (reachOutT (take used table) (openIn scopes depth) 1 space name) × (left ≤ depth)
 
 abbrev μ-loop : tie.MeasureT-loop
 μ-loop table index used scopes depth space name left₀ left = left

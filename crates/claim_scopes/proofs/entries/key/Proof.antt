@@ -1,5 +1,5 @@
 -- `claim_scopes::entries::key` meets its contract.
-use Rattle.claim_scopes.specs.Entries.{keyT}
+use Rattle.claim_scopes.specs.Entries.{entryKeyT}
 use borrow.Author.Needs.{needs}
 use Rattle.claim_scopes.proofs.entries.key.Statement.{statement}
 use Rattle.claim_scopes.proofs.entries.key.Tie as tie
@@ -9,4 +9,4 @@ key-spec = tie.close (tie.spec
     (λ c. search needs)  -- cast-result
     (λ c. search needs)  -- mul-result
     (λ c. search needs)  -- add-result
-    (λ c. unfold keyT in search needs))  -- returns
+    (λ c. unfold entryKeyT in search needs))  -- returns

@@ -1,5 +1,5 @@
 -- `form::ends::mark_ends_to` meets its contract.
-use Rattle.form.proofs.Marked.{ways}
+use Rattle.form.proofs.MarkEnds.{ways}
 use borrow.Author.Needs.{needs}
 use Rattle.form.proofs.ends.mark_ends_to.Statement.{statement}
 use Rattle.form.proofs.ends.mark_ends_to.Tie as tie

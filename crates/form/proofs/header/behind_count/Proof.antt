@@ -1,5 +1,5 @@
 -- `form::header::behind_count` meets its contract.
-use Rattle.form.proofs.Marks.{behind-four, behind-two}
+use Rattle.form.proofs.HeaderTests.{behind-four, behind-two}
 use borrow.Author.Needs.{needs}
 use Rattle.form.proofs.header.behind_count.Statement.{statement}
 use Rattle.form.proofs.header.behind_count.Tie as tie

@@ -1,5 +1,5 @@
 -- `form::header::has_header` meets its contract.
-use Rattle.form.proofs.Marks.{mark-ways}
+use Rattle.form.proofs.HeaderTests.{mark-ways}
 use borrow.Author.Needs.{needs}
 use Rattle.form.proofs.header.has_header.Statement.{statement}
 use Rattle.form.proofs.header.has_header.Tie as tie

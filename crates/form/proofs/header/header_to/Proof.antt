@@ -1,5 +1,5 @@
 -- `form::header::header_to` meets its contract.
-use Rattle.form.proofs.Marks.{ways}
+use Rattle.form.proofs.HeaderTests.{ways}
 use borrow.Author.Needs.{needs}
 use Rattle.form.proofs.header.header_to.Statement.{statement}
 use Rattle.form.proofs.header.header_to.Tie as tie

@@ -3,7 +3,7 @@ use mathlib.Core.Path.{_≡_}
 use Prim.Native.Nat.{_-_}
 use lib.ListN.{take, drop}
 use Rattle.rules.specs.Tools.{zeros}
-use Rattle.form.proofs.Marks.{zero-ways}
+use Rattle.form.proofs.HeaderTests.{zero-ways}
 use borrow.Author.Needs.{needs}
 use Rattle.form.proofs.header.is_zero.Statement.{statement}
 use Rattle.form.proofs.header.is_zero.Tie as tie

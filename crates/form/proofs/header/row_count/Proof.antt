@@ -1,6 +1,6 @@
 -- `form::header::row_count` meets its contract.
 use native.Mathlib.Omega.{arith}
-use Rattle.form.proofs.Marks.{count-short, count-long}
+use Rattle.form.proofs.HeaderTests.{count-short, count-long}
 use borrow.Author.Needs.{needs}
 use Rattle.form.proofs.header.row_count.Statement.{statement}
 use Rattle.form.proofs.header.row_count.Tie as tie

@@ -3,13 +3,13 @@ use mathlib.Core.Path.{_≡_}
 use Prim.Native.Nat.{_-_}
 use borrow.Author.Needs.{needs}
 use Rattle.matched.specs.Counted.{choiceOf}
-use Rattle.matched.specs.Alike.{runT}
+use Rattle.matched.specs.Alike.{sameRunT}
 use Rattle.matched.proofs.Ways.{runs}
 use Rattle.matched.proofs.fields.same_run.Statement.{statement}
 use Rattle.matched.proofs.fields.same_run.Tie as tie
 
 abbrev Inv-loop : tie.InvT-loop
-Inv-loop left right from to choice i₀ i = runT (choiceOf choice) left right i (to - i) ≡ runT (choiceOf choice) left right from (to - from)
+Inv-loop left right from to choice i₀ i = sameRunT (choiceOf choice) left right i (to - i) ≡ sameRunT (choiceOf choice) left right from (to - from)
 
 abbrev μ-loop : tie.MeasureT-loop
 μ-loop left right from to choice i₀ i = to - i

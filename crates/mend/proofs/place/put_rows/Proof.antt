@@ -3,13 +3,13 @@ use mathlib.Core.Path.{_≡_}
 use Prim.Native.Nat.{_+_, _*_, _-_}
 use lib.ListN.{length, drop}
 use lib.Seq.{sets}
-use Rattle.mend_form.specs.Filled.{bodyT, fromT}
+use Rattle.mend_form.specs.Filled.{mendedBodyT, fromT}
 use Rattle.mend.proofs.InPlace.{put-ways}
 use Rattle.mend.proofs.place.put_rows.Statement.{statement}
 use Rattle.mend.proofs.place.put_rows.Tie as tie
 
 abbrev Inv-loop : tie.InvT-loop
-Inv-loop rows₀ kept count i₀ rows i = (sets rows (16 * i) (fromT rows₀ kept i (count - i)) ≡ sets rows₀ 0 (bodyT rows₀ kept)) × (length rows ≡ length rows₀) × (drop (16 * i) rows ≡ drop (16 * i) rows₀)
+Inv-loop rows₀ kept count i₀ rows i = (sets rows (16 * i) (fromT rows₀ kept i (count - i)) ≡ sets rows₀ 0 (mendedBodyT rows₀ kept)) × (length rows ≡ length rows₀) × (drop (16 * i) rows ≡ drop (16 * i) rows₀)
 
 abbrev μ-loop : tie.MeasureT-loop
 μ-loop rows₀ kept count i₀ rows i = count - i

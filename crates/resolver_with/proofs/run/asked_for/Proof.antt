@@ -3,13 +3,14 @@ use mathlib.Core.Path.{_≡_}
 use Prim.Native.Nat.{_-_, _≤_}
 use lib.ListN.{drop}
 use borrow.Author.Needs.{needs}
-use Rattle.resolver_with.specs.Served.{served, askedIn, asked}
+use Rattle.rules.specs.Versions.{all}
+use Rattle.resolver_with.specs.Asked.{askedIn, asked}
 use Rattle.resolver_with.proofs.Asked.{ways, asked-first, asked-rows, asked-count, asked-on, asked-end}
 use Rattle.resolver_with.proofs.run.asked_for.Statement.{statement}
 use Rattle.resolver_with.proofs.run.asked_for.Tie as tie
 
 abbrev Inv-loop : tie.InvT-loop
-Inv-loop form next₀ next = (askedIn (drop next served) form ≡ asked form) × (next ≤ 3)
+Inv-loop form next₀ next = (askedIn (drop next all) form ≡ asked form) × (next ≤ 3)
 
 abbrev μ-loop : tie.MeasureT-loop
 μ-loop form next₀ next = 3 - next

@@ -1,0 +1,24 @@
+-- `plan::insertions::plan_row` meets its contract.
+use mathlib.Core.Path.{_≡_}
+use Prim.Native.Nat.{_-_, _/_, _≤_}
+use lib.ListN.{length}
+use borrow.Author.Needs.{needs}
+use Rattle.index.specs.Indexed.{Holds}
+use Rattle.plan.specs.Serves.{Serves, Grown}
+use Rattle.plan.proofs.Grows.{grows}
+use Rattle.plan.proofs.InsertionsLaws.{ways, paths-turn, operands-turn, operands-other, decls-turn, fields-turn, fields-stop}
+use Rattle.plan.specs.Insertions.{planPathsT, planOperandsT, planDeclsT, planFieldsT}
+use Rattle.plan.proofs.PlanRow.{row-way}
+use Rattle.plan.proofs.insertions.plan_row.Statement.{statement}
+use Rattle.plan.proofs.insertions.plan_row.Tie as tie
+
+pub plan-row-spec : {M : Type 1} → statement M
+plan-row-spec =
+    tie.close
+    (tie.spec
+    (λ c κs. search grows)  -- referring-requires
+    (λ c κs. search grows)  -- plan-ref-requires
+    (λ c. search needs)  -- same-length
+    (λ c. search needs)  -- same-length-2
+    (λ c. search needs)  -- same-length-3
+    (λ c. (search row-way, search grows)))  -- returns
