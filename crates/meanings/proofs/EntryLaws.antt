@@ -5,10 +5,9 @@ use mathlib.Core.List.{List, [], _∷_}
 use native.Mathlib.Omega.{arith}
 use Prim.Native.Nat.{ℕ, zero, suc, _+_, _-_, _≤_, _<_}
 use borrow.Author.Needs.{needs}
-use lib.Dec.{eqb, ltb, leb}
+use lib.Dec.{ltb, leb}
 use lib.ListN.{length, getD, set}
 use lib.Seq.{set-out}
-use Rattle.kit.specs.Pick.{pick}
 use Rattle.kit.proofs.Laws.{yes!, no!, tests, left-suc, past}
 use Rattle.row_parts.specs.Parts.{codeAt, xAt, rowsIn, nextOf, isReference}
 use Rattle.scopes.specs.Scopes.{numberOf}

@@ -8,7 +8,7 @@ use borrow.Author.Tests.{ltb-true}
 use lib.Dec.{eqb, ltb}
 use lib.ListN.{length, getD}
 use Rattle.kit.specs.Pick.{pick}
-use Rattle.row_parts.specs.Parts.{codeAt, bAt, xAt, rowsIn, countOn}
+use Rattle.row_parts.specs.Parts.{codeAt, xAt, rowsIn, countOn}
 use Rattle.row_parts.proofs.PartLaws.{count-on}
 use Rattle.scope_rows.proofs.LevelLaws.{number-turn}
 use Rattle.scopes.specs.Scopes.{levelBehind, declares, isMeant, findFrom, numberFrom}

@@ -1,18 +1,17 @@
 -- What is read of noted rows is what the readings say.
-use mathlib.Core.Path.{_≡_, refl, sym, ap, _∙_}
+use mathlib.Core.Path.{_≡_, refl, sym, _∙_}
 use mathlib.Core.Bool.{Bool, true, false, _&&_}
 use mathlib.Core.Logic.{_⊎_, inl, inr}
 use mathlib.Core.List.{List}
 use native.Mathlib.Omega.{arith}
 use Prim.Native.Nat.{ℕ, zero, suc, _+_, _-_, _≤_, _<_}
-use borrow.Author.Tests.{ltb-true, ltb-false, leb-true, eqb-true}
+use borrow.Author.Tests.{ltb-true, leb-true, eqb-true}
 use lib.Dec.{eqb, ltb, leb}
 use lib.ListN.{length, getD, set, length-set}
 use lib.Seq.{getD-set-same, getD-set-other}
-use Rattle.kit.specs.Pick.{pick}
 use Rattle.kit.proofs.Laws.{yes!, no!, tests, pick-has, lt-or-le}
-use Rattle.row_parts.specs.Parts.{codeAt, bAt, eAt, xAt, yAt, rowsIn, nextOf, isInserted, isReference}
-use Rattle.scopes.specs.Scopes.{levelBehind, declares, isMeant, findFrom, findIn, scopeOf, scopeOutward, numberOf}
+use Rattle.row_parts.specs.Parts.{codeAt, xAt, rowsIn, nextOf, isInserted, isReference}
+use Rattle.scopes.specs.Scopes.{findFrom, findIn, numberOf}
 use Rattle.scopes.specs.declared.Key.{Key}
 use Rattle.scopes.specs.declared.Found.{Found}
 use Rattle.scopes.specs.declared.Found.the-variants.{At as FoundAt, Nothing}

@@ -1,5 +1,5 @@
 -- The tables of a form: what an inner scope is passed by, and the ways through the code that makes them.
-use mathlib.Core.Path.{_≡_, refl, sym, ap, _∙_}
+use mathlib.Core.Path.{_≡_, refl, sym, _∙_}
 use mathlib.Core.Bool.{Bool, true, false, _&&_}
 use mathlib.Core.Logic.{_⊎_, inl, inr}
 use mathlib.Core.List.{List}
@@ -7,16 +7,15 @@ use native.Mathlib.Omega.{arith}
 use native.Mathlib.Numerals.{add-one}
 use Prim.Native.Nat.{ℕ, zero, suc, _+_, _-_, _≤_, _<_}
 use borrow.Author.Needs.{needs}
-use borrow.Author.Tests.{lt-ltb, le-ltb, eq-eqb, ne-eqb, eqb-true, eqb-false}
+use borrow.Author.Tests.{eqb-true}
 use lib.Dec.{eqb, eqb·suc-zero}
-use lib.ListN.{length, getD, set, length-set}
+use lib.ListN.{length, getD, set}
 use lib.Seq.{set-out, getD-set-same, getD-set-other}
 use Rattle.kit.specs.Pick.{pick}
 use Rattle.kit.proofs.Laws.{yes!, no!, tests, left-suc, past, lt-or-le}
 use Rattle.row_parts.specs.Parts.{codeAt, rowsIn}
 use Rattle.scopes.specs.Scopes.{levelBehind, levelAbove, scopeAbove, scopeOf, declares, findFrom, numberFrom}
 use Rattle.scopes.specs.declared.Key.{Key}
-use Rattle.scopes.specs.declared.Found.{Found}
 use Rattle.meanings.specs.Tables.{endFrom, endOf, passOf, Scopes, Passes}
 
 -- ---- an inner scope, one level further in
@@ -285,18 +284,18 @@ module _ (form scopes : List ℕ) where
   scopes-none i h = absurd (omega arith)
 
   module _ (row : ℕ) (t : Scopes form scopes row) where
-    pub scopes-all : (rows : ℕ) (first : List ℕ) → rows ≤ row → length first ≡ rows → length scopes ≡ length first → Scopes form scopes (length scopes)
+    pub scopes-all : length scopes ≤ row → Scopes form scopes (length scopes)
     unfolding Scopes
-    scopes-all rows first h r l i m = t i (omega arith)
+    scopes-all h i m = t i (omega arith)
 
     module _ (v : ℕ) (after : List ℕ) (s : after ≡ set scopes row v) where
-      pub scopes-on : (rows : ℕ) (first : List ℕ) → row < rows → length first ≡ rows → length scopes ≡ length first → v ≡ scopeOf form row → Scopes form after (row + 1)
+      pub scopes-on : row < length scopes → v ≡ scopeOf form row → Scopes form after (row + 1)
       unfolding Scopes
-      scopes-on rows first b r l q i h = by (lt-or-le i row)
+      scopes-on l q i h = by (lt-or-le i row)
         where
           by : (i < row) ⊎ (row ≤ i) → getD after i 0 ≡ scopeOf form i
           by (inl k) = rw s (getD-set-other scopes row i v 0 (λ e. omega (arith, e)) ∙ t i k)
-          by (inr k) = let e : i ≡ row = omega arith in rw (e, s) (getD-set-same scopes row v 0 (omega arith) ∙ q)
+          by (inr k) = let e : i ≡ row = omega arith in rw (e, s) (getD-set-same scopes row v 0 l ∙ q)
 
 module _ (form scopes : List ℕ) (t : Scopes form scopes (length scopes)) (row r : ℕ) (h : row < length scopes) (q : r ≡ getD scopes row 0) where
   pub scope-there : r ≡ scopeOf form row

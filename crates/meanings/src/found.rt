@@ -15,7 +15,7 @@ use scopes::Key;
 use scopes::Outer;
 use scopes::Wanted;
 ghost use mathlib.Core.Path.{_≡_};
-ghost use Prim.Native.Nat.{_<_, _≤_};
+ghost use Prim.Native.Nat.{_<_};
 ghost use lib.ListN.{length};
 ghost use Rattle.row_parts.specs.Parts.{rowsIn};
 ghost use Rattle.scopes.specs.Scopes.{isMeant, findIn, numberOf, declaresName, isWanted, scopeOutward};

@@ -29,7 +29,7 @@ ghost use Rattle.meanings.specs.Tables.{Scopes, Passes};
 ghost use Rattle.meanings.specs.Entries.{told, meantBy, noteFrom, noted, isNoted, meaningAt, numberAt, finalAt};
 
 // Forms of more rows are not noted. All that `wnt` loads have fewer.
-pub const MOST: u16 = 4096;
+pub const MOST: usize = 4096;
 
 // ---- noted
 
@@ -58,12 +58,12 @@ fn note_rows(form: &[u8], scopes: &[u16], passes: &[u16], entries: &mut [Entry])
 pub fn note_meanings(form: &[u8], entries: &mut [Entry])
     ensures { λ _. ⌜ now (entries .exit) ≡ noted (now (form .entry)) (now (entries .entry)) ⌝ }
 {
-    if MOST < rows_in(form) {
+    if MOST < rows_in(form) as usize {
         return;
     }
-    let mut scopes = [0u16; 4096];
-    let mut passes = [0u16; 4096];
-    note_scopes(form, &mut scopes, MOST);
+    let mut scopes = [0u16; MOST];
+    let mut passes = [0u16; MOST];
+    note_scopes(form, &mut scopes);
     note_passes(form, &mut passes);
     note_rows(form, &scopes, &passes, entries);
 }
@@ -75,7 +75,7 @@ fn is_noted(form: &[u8], entries: &[Entry], row: u16) -> bool
     ensures { λ r. ⌜ r ≡ isNoted (now (form .entry)) (now (entries .entry)) row ⌝ }
 {
     let rows = rows_in(form);
-    (rows <= MOST) & ((row < rows) & ((row as usize) < entries.len()))
+    (rows as usize <= MOST) & ((row < rows) & ((row as usize) < entries.len()))
 }
 
 // What a reference means: by its entry, and without one by the readings.

@@ -49,14 +49,14 @@ fn scope_behind(form: &[u8], scopes: &[u16], row: u16, around: u16) -> u16
     }
 }
 
-// Notes the scope of each row that there is room for, so many.
-pub(crate) fn note_scopes(form: &[u8], scopes: &mut [u16], rows: u16)
-    requires { ⌜ length (now scopes) ≡ rows ⌝ }
+// Notes the scope of each row that there is room for.
+pub(crate) fn note_scopes(form: &[u8], scopes: &mut [u16])
+    requires { ⌜ length (now scopes) ≤ 65535 ⌝ }
     ensures { λ _. ⌜ Scopes (now (form .entry)) (now (scopes .exit)) (length (now (scopes .exit))) ⌝ }
 {
     let mut around: u16 = 0;
     let mut row: u16 = 0;
-    while row < rows {
+    while (row as usize) < scopes.len() {
         let next = scope_behind(form, scopes, row, around);
         put(scopes, row, around);
         around = next;

@@ -3,6 +3,7 @@ use json::say_count;
 use json::say_null;
 use json::say_string;
 use json::say_truth;
+use meanings::MOST;
 use meanings::entries::Entry;
 use meanings::final_at;
 use meanings::meaning_at;
@@ -157,7 +158,7 @@ fn tell_noted(fd: i32, names: &[u8], form: &[u8], entries: &[Entry]) {
 
 // Writes every row as an object.
 pub fn tell_rows(fd: i32, names: &[u8], form: &[u8]) {
-    let mut entries: [Entry; 4096] = [[0; 4]; 4096];
+    let mut entries: [Entry; MOST] = [[0; 4]; MOST];
     note_meanings(form, &mut entries);
     tell_noted(fd, names, form, &entries);
 }
@@ -218,7 +219,7 @@ fn tell_each(fd: i32, names: &[u8], form: &[u8], entries: &[Entry], place: u32) 
 pub fn tell_place(fd: i32, names: &[u8], form: &[u8], place: u32) -> bool
     ensures { λ r. ⌜ r ≡ anyThere (now (form .entry)) place ⌝ }
 {
-    let mut entries: [Entry; 4096] = [[0; 4]; 4096];
+    let mut entries: [Entry; MOST] = [[0; 4]; MOST];
     note_meanings(form, &mut entries);
     tell_each(fd, names, form, &entries, place)
 }

@@ -9,4 +9,5 @@ is-noted-spec =
     tie.close
     (tie.spec
     (λ c κs. search needs)  -- rows-in-requires
+    (λ c. search needs)  -- cast-result
     (λ c. search read-ways))  -- returns

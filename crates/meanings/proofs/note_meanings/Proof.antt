@@ -8,7 +8,8 @@ pub note-meanings-spec : {M : Type 1} → statement M
 note-meanings-spec =
     tie.close
     (tie.spec
-    (λ c κs. search noted-ways)  -- rows-in-requires
+    (λ c κs. search needs)  -- rows-in-requires
+    (λ c. search needs)  -- cast-if1
     (λ c. search noted-ways)  -- returns
     (λ c. search noted-ways)  -- slice-aggregate-note-scopes
     (λ c κs. search noted-ways)  -- note-scopes-requires
