@@ -103,7 +103,7 @@ fn try_fronts(
     ensures { λ r. ⌜ Kept (slotsFor (versionOf i)) (now (entered .entry)) (now (entered .exit)) × Kept (slotsFor (versionOf i)) (now (names .entry)) (now (names .exit)) × Kept (linksFor (versionOf i)) (now (known .entry)) (now (known .exit)) × Kept (linksFor (versionOf i)) (now (chains .entry)) (now (chains .exit)) × Kept (slotsFor (versionOf i)) (now (ends .entry)) (now (ends .exit)) ⌝ }
 {
     let most = slots_for(i);
-    let each = links_for(i);
+    let all = links_for(i);
     try_input(
         form,
         i,
@@ -148,7 +148,7 @@ fn judge_lent(form: &[u8], claim: &[u8], i: usize, table: &mut [Slot], index: &m
     ensures { λ r. ⌜ (now (table .exit) ≡ cleared (slotsOf (versionOf i)) emptySlot (now (table .entry))) × (now (index .exit) ≡ cleared (linksOf (versionOf i)) 0 (now (index .entry))) ⌝ }
 {
     let most = slots(i);
-    let each = links(i);
+    let all = links(i);
     match judge_claim(form, claim, i, &mut table[..most], &mut index[..all]) {
         Verdict::Yes => {
             clear(table, index, i);

@@ -142,7 +142,7 @@ fn propose(
     let size = header + 64 * ((form.len() - header) / 16);
     let bytes = bytes_for(i);
     let most = slots_for(i);
-    let each = links_for(i);
+    let all = links_for(i);
     walk_marked(
         &form[header..],
         &mut marked[..bytes],
