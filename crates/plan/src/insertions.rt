@@ -124,7 +124,7 @@ fn insert(
     names: &mut [Slot],
     chains: &mut [u16],
     counts: &mut [u32],
-    mut plan: PlanState,
+    plan: PlanState,
     space: u32,
     row: u32,
     out: u32,
@@ -135,9 +135,17 @@ fn insert(
 {
     let fresh = plan.fresh;
     let slot = alias_slot(space, fresh, row, out, index);
-    plan.used = declare(names, chains, counts, plan.used, slot);
-    plan.fresh = wrapping_add_u32(fresh, 1);
-    plan
+    let used = declare(names, chains, counts, plan.used, slot);
+    PlanState {
+        at: plan.at,
+        entered: plan.entered,
+        depth: plan.depth,
+        used,
+        fresh: wrapping_add_u32(fresh, 1),
+        first: plan.first,
+        before: plan.before,
+        early: plan.early,
+    }
 }
 
 // One alias for each PATH: all but the last are of instances.
@@ -426,7 +434,17 @@ fn plan_operands(
                 );
                 match planned {
                     Planned::Done(next) => {
-                        p = next;
+                        // Part by part: copied whole, it takes the bytes behind its last part with it, and they are waited for.
+                        p = PlanState {
+                            at: next.at,
+                            entered: next.entered,
+                            depth: next.depth,
+                            used: next.used,
+                            fresh: next.fresh,
+                            first: next.first,
+                            before: next.before,
+                            early: next.early,
+                        };
                     }
                     Planned::Refused(_, _) => return planned,
                 }
