@@ -31,7 +31,7 @@ twoTypes =
     ∷ raw 8 0 0 0 0 0
     ∷ []
 
--- with `n` for the alias's index and `m` for the last reference
+-- its output, with `n` for the alias's index and `m` for the last reference
 unfoldable pub twoTypesOut : (n m : ℕ) → List Raw
 twoTypesOut n m =
     raw 7 0 0 0 0 0
@@ -59,6 +59,7 @@ twiceDeclared =
     ∷ raw 8 0 0 0 0 0
     ∷ []
 
+-- its output, with `count` for the alias's count
 unfoldable pub twiceDeclaredOut : (count : ℕ) → List Raw
 twiceDeclaredOut count =
     raw 7 0 0 0 0 0
@@ -87,6 +88,7 @@ movedType =
     ∷ raw 8 0 0 0 0 0
     ∷ []
 
+-- its output, with `index` for the second alias's index
 unfoldable pub movedTypeOut : (index : ℕ) → List Raw
 movedTypeOut index =
     raw 7 0 0 0 0 0
