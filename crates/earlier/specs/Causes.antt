@@ -432,6 +432,7 @@ item-stop (holds h s) low L = stop-first low L
 mutual
   unfolding resolveScope
 
+  -- a run that is refused with 13 has such a cause, in one of its scopes
   pub scope-late : (s : Scope) (outside : Outside) (k : ℕ) → LowScope s → Late13 (ScopeLate s outside) (resolveScope s outside k)
   scope-late (scope kind name fs) outside k low =
       bind-ref _ _ _
