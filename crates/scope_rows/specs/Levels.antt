@@ -40,6 +40,7 @@ scopeOf form row = scopeAbove form row 0
 unfoldable pub declares : (form : List ℕ) (row level space : ℕ) → Bool
 declares form row level space = eqb level 0 && eqb (codeAt form row) 2 && eqb (bAt form row) space
 
+-- `number` and how many declarations of a space stand in `left` rows, from `row` on
 unfoldable pub numberFrom : (form : List ℕ) (space row left level number : ℕ) → ℕ
 numberFrom form space row zero level number = number
 numberFrom form space row (suc left) level number =
