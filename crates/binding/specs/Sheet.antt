@@ -1,6 +1,6 @@
 -- R-13, the binding sheet: which declaration each reference must mean, and whether it does.
 -- A slot names a reference by its place and a declaration by its name. The answer goes by what the reference reaches in the output.
--- Only REF rows count as references: an OUTER that stands at a slot's place is none. A number that was written counts by what it reaches in
+-- Only REF rows count as references: an OUTER that stands at a slot's place is not one. A number that was written counts by what it reaches in
 -- the output, like any other. A reference with PATHs reaches its last inserted export alias, whose name no input has.
 use mathlib.Core.Bool.{Bool, true, false, _&&_, _||_, not}
 use mathlib.Core.Option.{Option, none, some}

@@ -51,7 +51,7 @@ fn place_of(version: u32, from: usize) -> usize
     if from == 2 { 2 } else { 1 }
 }
 
-// Whether it has not: version 1 has rule set 0 alone.
+// Whether the version asked for lacks the rule set of the form's setting: version 1 has rule set 0 alone.
 fn lacks(version: u32, from: usize) -> bool
     ensures { λ r. ⌜ r ≡ lacksT version from ⌝ }
 {

@@ -279,7 +279,7 @@ module _ (here : Env) (outside : Outside) where
   unfolding resolveHead
   head-late h = bind-ref _ _ _ (operands-late (h .z) [] (h .operands)) (λ os _. tt)
 
--- ---- step B leaves an OUTER as it is, and makes none of anything else
+-- ---- step B leaves an OUTER as it is, and makes no OUTER of anything else
 
 abbrev WasOuter : Operand → Operand → Type 0
 WasOuter o now = (space : ℕ) (up at : Index) (z : ℕ) → now ≡ outer space up at z → o ≡ outer space up at z
