@@ -113,7 +113,7 @@ unfoldable pub passes : List Binding → Bool
 passes [] = true
 passes (b ∷ bs) = isAsWritten b && passes bs
 
--- how many are not bound as written
+-- how many slots are not bound as written
 unfoldable pub failing : List Binding → ℕ
 failing [] = 0
 failing (b ∷ bs) = if isAsWritten b then failing bs else suc (failing bs)

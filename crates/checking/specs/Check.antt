@@ -282,7 +282,7 @@ unfoldable pub unless : (condition : ℕ) → Option ℕ → Verdict → Verdict
 unless condition none v = v
 unless condition (some row) v = no condition row
 
--- "tried in this order"
+-- conditions 2 to 4, "tried in this order"
 unfoldable pub conditions : (input claim : Scope) → Verdict
 conditions input claim = unless 2 (condition2 input claim) (unless 3 (condition3 claim) (unless 4 (condition4 input claim) yes))
 

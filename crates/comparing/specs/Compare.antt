@@ -104,7 +104,7 @@ front c go (l ∷ ls) (r ∷ rs) =
     if same c (itemRows l) (itemRows r) then alike (itemRows l) (itemRows r) ∷ front c go ls rs
     else go (l ∷ ls) (r ∷ rs)
 
--- the same from the back
+-- `go` from the back: both sides are reversed, and what it makes of them is reversed again
 unfoldable pub mirrored : (List Item → List Item → List Pair) → (left right : List Item) → List Pair
 mirrored go ls rs = reverse (go (reverse ls) (reverse rs))
 

@@ -19,7 +19,7 @@ unfoldable pub versionOf : List Setting → (number : ℕ) → Option Version
 versionOf [] number = none
 versionOf (s ∷ ss) number = only (eqb (s .version .number) number) (s .version) orElse versionOf ss number
 
--- the setting of these numbers
+-- the setting with this version and this rule set, by their numbers
 unfoldable pub settingWith : List Setting → (version rules : ℕ) → Option Setting
 settingWith [] version rules = none
 settingWith (s ∷ ss) version rules = only (eqb (s .version .number) version && eqb (s .rules .number) rules) s orElse settingWith ss version rules

@@ -215,7 +215,7 @@ module _ (ds : List Declaration) (outside : Outside) (space name p : ℕ) (ps : 
   unfolding expandHead if_then_else_
   head-on k h o c e = rw c (bind-ok _ _ _ _ (operands-on k (h .operands) o e) (λ es I. I))
 
--- what step C let pass of it
+-- what step C let pass of the instance that a path begins with
 pub record InstancePassed (here : Env) (outside : Outside) (os : List Operand) (from name z : ℕ) : Type 0 where
   pub number : ℕ
   pub timely : steps.lateInstance here outside os ≡ false

@@ -49,7 +49,7 @@ ordered-inside around holders A early =
       earlier = λ p x e. accepted-earlier (A .setting .rules) around (A .before) (A .after, A .next) (A .low) early (A .resolves) p x e;
     }
 
--- of a form by itself
+-- the same of a form by itself
 pub ordered : (settings : List Setting) → AllUsual settings → (input old : List ℕ) → Bytes input → (out : List Row) → answer settings input (length old) ≡ accepted out
     → (A : Accepted settings input old out) × (A .setting .rules .early ≡ true → OrderedInside alone (A .before) (A .after))
 ordered settings l input old bs out e =
@@ -95,7 +95,7 @@ late-inside around settings l input room z carried e =
     let L = late-only (A .v .rules) (around .base) (around .times) (S .s) (low-read (around .outside) (A .v) input (S .s) (A .usual .low) (S .reads)) z (refuses-late (resolveInside (A .v .rules) (around .outside) (S .s)) z carried (S .answers)) in
     record { setting = A .v; asked-for = A .asks; early = L .0; tree = S .s; reads = S .reads; late = L .1 }
 
--- of a form by itself
+-- the same of a form by itself
 pub late : (settings : List Setting) → AllUsual settings → (input : List ℕ) (room z : ℕ) (carried : List ℕ) → answer settings input room ≡ refused 13 z carried → LateInside alone settings input z
 unfolding answer
 late settings l input room z carried e = late-inside alone settings l input room z carried e

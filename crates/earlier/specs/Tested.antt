@@ -32,7 +32,7 @@ namesAround (n ∷ way) (scope kind name fs) outside =
     getElem? (originals fs) n then λ i. heldScope i then λ s.
     namesAround way s (name ∷ outside)
 
--- the nearest that has the name
+-- how far out the nearest scope of that name is
 unfoldable pub nearest : List ℕ → (name : ℕ) → Option ℕ
 nearest [] name = none
 nearest (n ∷ ns) name = if eqb n name then some 0 else Option·map suc (nearest ns name)
@@ -71,7 +71,7 @@ testedInside base outside names s p =
 abbrev pub testedAt : Scope → Place → Option Name
 testedAt s p = testedInside [] [] [] s p
 
--- the declaration that it means
+-- the declaration that a name means
 unfoldable pub means : Name → Option Place
 means x = outward (x .scopes) (x .space) (x .name)
 

@@ -63,7 +63,7 @@ movedFor (some v) input rooms = movedIn v input rooms
 unfoldable pub movedAnswer : List Setting → (input : List ℕ) → Rooms → MovedAnswer
 movedAnswer settings input rooms = movedFor (settingOf settings input) input rooms
 
--- the same without the lists
+-- the same answer without the lists
 unfoldable pub plainly : MovedAnswer → Answer
 plainly a = mapAnswer (λ (l : WithLists). l .rows) a
 

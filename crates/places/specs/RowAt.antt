@@ -69,7 +69,7 @@ from-behind xs ys {n} {part} F =
       count = length-append xs (F .before) ∙ (omega (arith, F .count));
     }
 
--- an original field of a scope
+-- the rows of an original field stand, among those of its scope's fields, where its row says
 pub original-from : (row : ℕ) (fs : Fields) (n : ℕ) (x : Placed) → getElem? (originalsFrom row fs) n ≡ some x → (k : ℕ) × (x .row ≡ row + k) × From (fieldsRows fs) k (itemRows (x .item))
 unfolding originalsFrom if_then_else_ flatten
 original-from row end n x e = no-option x e

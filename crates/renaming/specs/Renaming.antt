@@ -18,7 +18,7 @@ pub record Keeps (f : ℕ → ℕ) : Type 0 where
   pub within : (n : ℕ) → 1 ≤ n → n ≤ topName → (1 ≤ f n) × (f n ≤ topName)
   pub apart : (a b : ℕ) → 1 ≤ a → a ≤ topName → 1 ≤ b → b ≤ topName → f a ≡ f b → a ≡ b
 
--- the same of these names alone
+-- a mapping that does so for these names
 pub record KeepsOn (ns : List ℕ) (f : ℕ → ℕ) : Type 0 where
   pub within : (n : ℕ) → isIn n ns ≡ true → (1 ≤ f n) × (f n ≤ topName)
   pub apart : (a b : ℕ) → isIn a ns ≡ true → isIn b ns ≡ true → f a ≡ f b → a ≡ b

@@ -24,7 +24,7 @@ unfoldable pub outcome : List Setting → (input : List ℕ) → Option (List �
 outcome settings input =
     settingOf settings input then λ s. formOf s (answerIn [] s input (s .version .header + 64 * rowCount (s .version) input))
 
--- the tree that was read
+-- the tree that was read, if the rows are a form
 unfoldable pub treeOf : RowsRead → Option Scope
 treeOf (bad place) = none
 treeOf (deep place) = none
