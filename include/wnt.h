@@ -256,7 +256,7 @@ struct wnt_work_2 {
  * rule set, which `out` repeats; refusal 13 leaves `out` as 6 to 12 do. An area with fewer elements than its size for that
  * version is refusal 3, like an output that is too short. What the areas hold before the call does not matter. After every
  * return, also after a refusal, each is zero up to its size for the form's version, or to its end if it is shorter, and
- * unchanged beyond. For these sizes a header with an unknown version or rule set counts as version 1. No area may overlap
+ * unchanged beyond. For these sizes a form whose header is wrong counts as version 1. No area may overlap
  * another buffer. A call takes less than 72 KiB of stack. */
 uint64_t wnt_resolve_with(const uint8_t *form, size_t form_len, uint8_t *out, size_t out_len, wnt_slot *entered,
                           size_t entered_len, wnt_slot *names, size_t names_len, uint16_t *known, size_t known_len,
@@ -322,8 +322,8 @@ typedef uint32_t wnt_note[2];
 /* The same for a resolved form of version 1 or 2 under either rule set: wnt_resolve_with turns the input into the very bytes
  * of `form`, and as many bytes are written as WNT_FORM_SIZE or WNT_FORM_SIZE_2 gives for its rows. The first refusal 3 above
  * then means that one of the eight areas is smaller than its size for the form's version. After every return all of them are
- * zero up to these sizes, or to their ends if they are shorter, and unchanged beyond. For these sizes a header with an
- * unknown version or rule set counts as version 1:
+ * zero up to these sizes, or to their ends if they are shorter, and unchanged beyond. For these sizes a form whose
+ * header is wrong counts as version 1:
  *
  *     wnt_unresolve_with(form, form_len, out, out_len, restored, WNT_RESTORED_SIZE_2, again, WNT_AGAIN_SIZE_2, noted,
  *                        WNT_NOTES_2, WNT_LENT(&work)) */
@@ -433,10 +433,10 @@ uint64_t wnt_check(const uint8_t *form, size_t form_len, const uint8_t *claim, s
 
 /* The same for an input of version 1 or 2 under either rule set. The claim's header must equal the input's in all but the
  * row count (else WNT_NO_FORM, row 0). Under rule set 1 the input's refusals are those of wnt_resolve_with, 13 among them, and
- * the claim must be a form of that rule set; under neither rule set must its aliases stand before what uses them. `table` and
+ * the claim must be a form of that rule set; neither rule set asks that its aliases stand before what uses them. `table` and
  * `index` have the sizes for the input's version; the areas of wnt_resolve_with are lent too, for the steps on the input. An
  * area that is too small is refusal 3 as above, and after every return all seven are zero up to their sizes for that version.
- * For these sizes a header with an unknown version or rule set counts as version 1:
+ * For these sizes a form whose header is wrong counts as version 1:
  *
  *     wnt_check_with(form, form_len, claim, claim_len, table, WNT_CHECK_SLOTS_2, index, WNT_CHECK_LINKS_2,
  *                    WNT_LENT(&work)) */
@@ -464,7 +464,7 @@ uint64_t wnt_share(const uint8_t *form, size_t form_len, uint8_t *out, size_t ou
  * what `out` holds afterwards, are as for wnt_resolve_with. `marked` has the size said above, `table` and `index` those of
  * wnt_check_with, and the areas of wnt_resolve_with are lent too. One that is smaller than its size for the form's version is
  * refusal 3, like an output that is too short. After every return all eight are zero up to these sizes, or to their ends if
- * they are shorter, and unchanged beyond. For these sizes a header with an unknown version or rule set counts as version 1:
+ * they are shorter, and unchanged beyond. For these sizes a form whose header is wrong counts as version 1:
  *
  *     wnt_share_with(form, form_len, out, out_len, marked, WNT_MARKED_SIZE_2, table, WNT_CHECK_SLOTS_2, index,
  *                    WNT_CHECK_LINKS_2, WNT_LENT(&work)) */
@@ -516,8 +516,7 @@ uint64_t wnt_sheet(const uint8_t *form, size_t form_len, const uint8_t *resolved
 /* The same for forms of version 1 or 2 under either rule set, in the working areas of wnt_resolve_with and `work`, which must
  * be as long as the longest output of the form's version: WNT_SHEET_AREA_SIZE, or WNT_MAX_OUT_SIZE_2. An area that is too
  * small is refusal 3, where it would be for a `work` that is too small in the order above, and after every return all of them
- * are zero up to their sizes for that version. For these sizes a header with an unknown version or rule set counts as version
- * 1. */
+ * are zero up to their sizes for that version. For these sizes a form whose header is wrong counts as version 1. */
 uint64_t wnt_sheet_with(const uint8_t *form, size_t form_len, const uint8_t *resolved, size_t resolved_len,
                         const uint8_t *sheet, size_t sheet_len, uint8_t *answers, size_t answers_len, uint8_t *work,
                         size_t work_len, wnt_slot *entered, size_t entered_len, wnt_slot *names, size_t names_len,
@@ -601,8 +600,8 @@ struct wnt_member_work_2 {
  * included. A member whose version or rule set is not the prelude's is refused with 1. Under rule set 1 everything that the
  * prelude's root declares is earlier than the member. The sizes of `work` and the tables depend on the prelude's version: one
  * that is too small is 3 plus WNT_OF_PRELUDE as above. After every return all six are zero up to their sizes for that version,
- * or to their ends if they are shorter, and unchanged beyond. For these sizes a prelude whose header has an unknown version or
- * rule set counts as version 1:
+ * or to their ends if they are shorter, and unchanged beyond. For these sizes a prelude whose header is wrong
+ * counts as version 1:
  *
  *     static struct wnt_member_work_2 tables;
  *     wnt_member_with(prelude, prelude_len, member, member_len, out, out_len, work, WNT_MEMBER_WORK_2, WNT_LENT(&tables)) */
@@ -637,7 +636,7 @@ uint64_t wnt_batch(const uint8_t *prelude, size_t prelude_len, const uint8_t *me
  * and the members are resolved in one set of tables, those of wnt_member_with for the prelude's version: one that is too small
  * is refusal 3 of the prelude, after its 1 and 2, and leaves `prelude_out`, `outs` and `answers` unchanged. After every return
  * the tables are zero up to their sizes for that version, or to their ends if they are shorter, and unchanged beyond. For
- * these sizes a prelude whose header has an unknown version or rule set counts as version 1. */
+ * these sizes a prelude whose header is wrong counts as version 1. */
 uint64_t wnt_batch_with(const uint8_t *prelude, size_t prelude_len, const uint8_t *members, size_t members_len,
                         const uint32_t *lengths, size_t lengths_len, uint8_t *prelude_out, size_t prelude_out_len,
                         uint8_t *outs, size_t outs_len, uint8_t *answers, size_t answers_len, wnt_slot *entered,
