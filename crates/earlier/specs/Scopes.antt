@@ -114,7 +114,7 @@ unfolding if_then_else_
 later-one true b = refl
 later-one false b = refl
 
--- what comes later by the table of one scope is what the name means there, late
+-- in one scope a name comes later by the scope's table exactly if the declaration that it means there is late
 pub late-in-one : {way : List ℕ} {l : Level} {e : Env} → Times way (l ∷ []) (e ∷ []) → (space name : ℕ) → name ≤ topName
     → steps.comesLater (tableOf e) (e .before) space name ≡ lateBy way (outward (l ∷ []) space name)
 late-in-one {e = e} T space name low = alone ∙ late-is T space name low
