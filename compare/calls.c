@@ -1,4 +1,4 @@
-/* Calls wnt_resolve so many times on a form, or wnt_resolve_with on one of version 2, for a profiler to count;
+/* Calls wnt_resolve a given number of times on a form, or wnt_resolve_with on one of version 2, for a profiler to count;
  * docs/BENCHMARK.md says how it is built. */
 #include "../include/wnt.h"
 #include <stdio.h>

@@ -1,8 +1,7 @@
 /* Resolves the names of a WebAssembly component, given as rows, into index numbers. For C99 and C++.
  *
- * Link with the static library that `tools/staticlib` writes; no other library is needed than the C library. What is
- * answered and what the output then holds is fixed for every input by the contract of wnt_resolve; docs/RULES.md has the
- * rules in words. */
+ * Link with the static library that `tools/staticlib` writes; besides it only the C library is needed. The contract of
+ * wnt_resolve fixes the answer and the content of the output for every input; docs/RULES.md has the rules in words. */
 #ifndef WNT_H
 #define WNT_H
 
@@ -19,18 +18,18 @@ extern "C" {
 #define WNT_ROW_SIZE 16
 #define WNT_MAX_ROWS 1023
 
-/* The bytes of a form with so many rows. */
+/* How many bytes a form of `rows` rows has. */
 #define WNT_FORM_SIZE(rows) (8u + 16u * (rows))
 
-/* The bytes that the output must have at least, by the rows of the input: a resolved form has at most four times as
- * many. */
+/* How many bytes the output must have at least, if the input has `rows` rows: a resolved form has at most four times as
+ * many rows as its input. */
 #define WNT_OUT_SIZE(rows) (8u + 64u * (rows))
 
 /* Buffers of these sizes hold every input and every output. */
 #define WNT_MAX_FORM_SIZE 16376
 #define WNT_MAX_OUT_SIZE 65480
 
-/* The version of the library that this header belongs to: that of `wnt --version`. */
+/* The version of the library that this header belongs to, as `wnt --version` prints it. */
 #define WNT_VERSION "0.2.0"
 
 /* ---- What rows are made of. A row is `[code b e x y z]`: bytes 0, 1, 2 to 3, 4 to 7, 8 to 11 and 12 to 15. */
@@ -102,16 +101,16 @@ enum wnt_field {
     WNT_FIELD_CUSTOM = 25
 };
 
-/* The first name that an inserted field can have: names of an input are 1 to one less. */
+/* The smallest name that an inserted field can have. The names in an input are smaller: 1 to 2147483647. */
 #define WNT_FIRST_FRESH 2147483648u
 
 /* ---- Answers. */
 
 /* The numbers of the answers, and the place of each refusal. A row is counted from 0; z is a row's last part, which the
- * caller chose. 1, 2 and 3 are looked for in this order, then 4 and 5 by row, then 6 to 13 as the steps of the rules
+ * caller chose. 1, 2 and 3 are tested in this order, then 4 and 5 row by row, then 6 to 13 as the steps of the rules
  * meet them. */
 enum wnt_number {
-    /* Resolved. The lower half is how many rows were written. */
+    /* Resolved. The lower half is the number of rows written. */
     WNT_ACCEPTED = 0,
     /* Fewer than 8 bytes, or bytes 0 to 5 are not those of the header. Place: 0. */
     WNT_HEADER = 1,
@@ -127,10 +126,10 @@ enum wnt_number {
     WNT_DUPLICATE_NAME = 6,
     /* A path to a core type or a core instance. Place: z of the reference. */
     WNT_NOT_EXPORTED = 7,
-    /* The name means something of a scope further out that is no core module, core type, type or component. Place: z of
-     * the reference. */
+    /* The name means something in a scope further out, and it is not a core module, core type, type or component. Place:
+     * z of the reference. */
     WNT_NOT_OUTER = 8,
-    /* No scope in which it is looked up declares the name. Place: z of the reference or outer alias. */
+    /* No scope in which the name is looked up declares it. Place: z of the reference or outer alias. */
     WNT_UNKNOWN_NAME = 9,
     /* No open scope has the name of the outer scope. Place: z of the field. */
     WNT_UNKNOWN_SCOPE = 10,
@@ -138,13 +137,13 @@ enum wnt_number {
     WNT_COUNT_TOO_LARGE = 11,
     /* An earlier case of the field has that name. Place: z of the second case. */
     WNT_DUPLICATE_CASE = 12,
-    /* Under rule set 1 alone: no earlier field declares the name. Place: z of the reference or outer alias. */
+    /* Only under rule set 1: no earlier field declares the name. Place: z of the reference or outer alias. */
     WNT_NOT_EARLIER = 13,
-    /* Of wnt_unresolve and wnt_unresolve_with alone: no input has these bytes as its output. Place: 0. */
+    /* Only from wnt_unresolve and wnt_unresolve_with: no input has these bytes as its output. Place: 0. */
     WNT_NO_INPUT = 14
 };
 
-/* What a refusal means, by its number; `wnt` says the same of those that it gives. */
+/* What a refusal means, by its number. The program `wnt` prints the same words for the refusals that it gives. */
 static inline const char *wnt_text(uint32_t number)
 {
     switch (number) {
@@ -166,12 +165,12 @@ static inline const char *wnt_text(uint32_t number)
     }
 }
 
-/* The stack that is enough for any call. Measured on x86-64 (compare/stack.c) at the driver of the examples and at 32 open
+/* This much stack is enough for any call. Measured on x86-64 (compare/stack.c) at the driver of the examples and at 32 open
  * scopes: wnt_resolve 67,248 and 97,324 bytes, wnt_resolve_told 67,280 and 97,356, wnt_moved 67,328 and 97,404, wnt_sheet
  * 67,360 and 97,436, wnt_check 67,376 and 97,452, wnt_share 116,608 and 146,684, wnt_unresolve 128,552 and 158,700,
  * wnt_mend 5,783, wnt_compare 5,832, wnt_convert 5,688, wnt_meant 576; at the driver in itself and at 31 open scopes
  * wnt_member 155,280 and 184,348, wnt_batch 96,520 and 124,860. The functions whose tables are lent take 7,320 to 14,008
- * bytes at the driver, and at the 64 scopes of version 2 at most 71,948. It does not depend on the rows. */
+ * bytes at the driver, and at the 64 scopes of version 2 at most 71,948. How many rows a form has makes no difference. */
 #define WNT_STACK_SIZE 196608
 
 /* The answer's upper half: one of the numbers above. */
@@ -180,10 +179,11 @@ static inline const char *wnt_text(uint32_t number)
 /* The answer's lower half after a refusal: its place. */
 #define WNT_PLACE(answer) ((uint32_t)((answer) & 0xffffffffu))
 
-/* The answer's lower half after acceptance: how many rows were written. */
+/* The answer's lower half after acceptance: the number of rows written. */
 #define WNT_ROWS(answer) ((uint32_t)((answer) & 0xffffffffu))
 
-/* Resolves the form into `out`, and answers a number in the upper half, a place or a number of rows in the lower.
+/* Resolves the form into `out`. The answer's upper half is one of the numbers above, its lower half a place or a number
+ * of rows.
  *
  * What `out` holds afterwards:
  *
@@ -191,28 +191,28 @@ static inline const char *wnt_text(uint32_t number)
  *   1 to 5     unchanged                                         unchanged
  *   6 to 12    zero                                              unchanged
  *   accepted   WNT_FORM_SIZE(WNT_ROWS(answer)) bytes are the     unchanged
- *              resolved form, those after it zero
+ *              resolved form, and those after it are zero
  *
  * The two buffers must not overlap, and nothing else may write to them, or read `out`, while the call lasts. A pointer
- * may be null only if its length is 0: an empty form is refusal 1, an empty output refusal 3 if not 1 or 2. The form is
- * only read. Nothing is allocated and nothing is kept from one call to the next: calls from several threads are safe if
- * no call's `out` overlaps a buffer of another; they may share a form. */
+ * may be null only if its length is 0: an empty form is refusal 1, and an empty output is refusal 3 unless 1 or 2 comes
+ * first. The form is only read. Nothing is allocated and nothing is kept from one call to the next: calls from several
+ * threads are safe if no call's `out` overlaps a buffer of another; they may share a form. */
 uint64_t wnt_resolve(const uint8_t *form, size_t form_len, uint8_t *out, size_t out_len);
 
 /* ---- Larger forms.
  *
  * A form of version 2 is a header of 16 bytes (`WNT`, the version 2 as two bytes, the rule set, the row count as four
- * bytes, six zeros) and 1 to 16383 rows as those of version 1; 64 scopes may be open in it. wnt_resolve takes version 1
- * alone and answers 1 to any other header; wnt_resolve_with takes both, and for version 2 the refusals above read: 1 fewer
- * than 16 bytes, or bytes 0 to 5 or 10 to 15 wrong; 2 a row count of 0 or above 16383, or another length than
- * WNT_FORM_SIZE_2 of it; 3 an output shorter than WNT_OUT_SIZE_2 of it; 5 a scope while 64 are open.
+ * bytes, six zeros) and 1 to 16383 rows like those of version 1; 64 scopes may be open in it. wnt_resolve takes only version
+ * 1 and answers refusal 1 to any other header. wnt_resolve_with takes both, and for version 2 the refusals above mean: 1
+ * there are fewer than 16 bytes, or bytes 0 to 5 or 10 to 15 are wrong; 2 the row count is 0 or above 16383, or the length
+ * is not WNT_FORM_SIZE_2 of it; 3 the output is shorter than WNT_OUT_SIZE_2 of it; 5 a scope is opened while 64 are open.
  *
- * The rule set is 0, as in version 1, or in version 2 also 1, that of the newer tools: there a heap type is a core type, and
- * a name may mean only what an earlier field declares, else it is refusal 13 (docs/RULES.md, Rule set 1).
+ * The rule set of version 1 is 0. That of version 2 is 0 or 1; 1 is the rule set of the newer tools: there a heap type is a
+ * core type, and a name may mean only what an earlier field declares, else it is refusal 13 (docs/RULES.md, Rule set 1).
  *
- * Each function below whose name ends in `_with` takes version 1 and version 2 under either rule set, in working areas that
- * are lent; the sizes of these go by the version alone. The function without `_with` takes version 1, and for version 1 both
- * say and leave the same. */
+ * Each function below whose name ends in `_with` takes version 1 and version 2 under either rule set, and works in areas
+ * that the caller lends; their sizes depend on the version alone. The function without `_with` takes only version 1, and
+ * for version 1 both give the same answer and leave the same bytes. */
 #define WNT_HEADER_SIZE_2 16
 #define WNT_MAX_ROWS_2 16383
 #define WNT_FORM_SIZE_2(rows) (16u + 16u * (rows))
@@ -220,16 +220,16 @@ uint64_t wnt_resolve(const uint8_t *form, size_t form_len, uint8_t *out, size_t 
 #define WNT_MAX_FORM_SIZE_2 262144
 #define WNT_MAX_OUT_SIZE_2 1048528
 
-/* The working areas that wnt_resolve_with is lent, by the form's version: two tables of slots, an index for each, and the
- * ends of fields, all counted in elements. Areas for version 2 are large enough for version 1 too. */
+/* The sizes of the working areas lent to wnt_resolve_with, for each version of the form: two tables of slots, an index for
+ * each, and the ends of fields, all counted in elements. Areas for version 2 are large enough for version 1 too. */
 typedef uint32_t wnt_slot[6];
 #define WNT_SLOTS_1 1024
 #define WNT_LINKS_1 2048
 #define WNT_SLOTS_2 16384
 #define WNT_LINKS_2 32768
 
-/* All areas for a version in one piece: 61440 bytes, and 983040. Both are too large for many a thread's stack; where one
- * is static or allocated it need not be zeroed before the first call. */
+/* All areas for a version in one piece: 61440 bytes for version 1, 983040 for version 2. Either may be too large for the
+ * stack of a thread, so make it static or allocate it; it need not be zeroed before the first call. */
 struct wnt_work_1 {
     wnt_slot entered[WNT_SLOTS_1], names[WNT_SLOTS_1];
     uint32_t ends[WNT_SLOTS_1];
@@ -241,7 +241,7 @@ struct wnt_work_2 {
     uint16_t known[WNT_LINKS_2], chains[WNT_LINKS_2];
 };
 
-/* The last ten arguments of wnt_resolve_with, by a pointer to one of these. */
+/* The last ten arguments of wnt_resolve_with, taken from a pointer to one of these. */
 #define WNT_LENT(work)                                                                                                  \
     (work)->entered, sizeof (work)->entered / sizeof(wnt_slot), (work)->names, sizeof (work)->names / sizeof(wnt_slot), \
         (work)->known, sizeof (work)->known / 2, (work)->chains, sizeof (work)->chains / 2, (work)->ends,               \
@@ -253,39 +253,40 @@ struct wnt_work_2 {
  *     uint64_t answer = wnt_resolve_with(form, form_len, out, out_len, WNT_LENT(&work));
  *
  * The answer, and what `out` holds afterwards, are as for wnt_resolve, with the limits of the form's version and under its
- * rule set, which `out` repeats; refusal 13 leaves `out` as 6 to 12 do. An area
- * with fewer elements than its size for that version is refusal 3, as an output that is too short. What the areas hold
- * before does not matter. After every return, refusals too, each is zero up to its size for the form's version, or to its
- * end where it is shorter, and unchanged beyond; a header of no version and rule set counts as version 1 there. No area may
- * overlap another buffer. A call takes less than 72 KiB of stack. */
+ * rule set, which `out` repeats; refusal 13 leaves `out` as 6 to 12 do. An area with fewer elements than its size for that
+ * version is refusal 3, like an output that is too short. What the areas hold before the call does not matter. After every
+ * return, also after a refusal, each is zero up to its size for the form's version, or to its end if it is shorter, and
+ * unchanged beyond. For these sizes a form whose header is wrong counts as version 1. No area may overlap
+ * another buffer. A call takes less than 72 KiB of stack. */
 uint64_t wnt_resolve_with(const uint8_t *form, size_t form_len, uint8_t *out, size_t out_len, wnt_slot *entered,
                           size_t entered_len, wnt_slot *names, size_t names_len, uint16_t *known, size_t known_len,
                           uint16_t *chains, size_t chains_len, uint32_t *ends, size_t ends_len);
 
-/* Writes a form as one of the version of this number, 1 or 2, to the front of `out`: the same rows behind the other
- * header. It means what it meant: both versions are resolved to the same rows, or refused alike. A form that has that
- * version already is copied. From 1 to 2 every form goes; from 2 to 1 one that is within version 1's limits and has rule
- * set 0. The answer has 0 in its upper half and the rows in its lower, or a refusal, and then `out` is as it was:
+/* Writes a form to the front of `out` as a form of `version`, 1 or 2: the same rows behind the header of that version. The
+ * meaning stays: both are resolved to the same rows, or refused alike. A form that has that version already is copied.
+ * Every form of version 1 can be written in version 2. One of version 2 can be written in version 1 if it is within version
+ * 1's limits and has rule set 0. The answer's upper half is 0 and its lower half the number of rows; or it is a refusal, and
+ * then `out` is unchanged. The refusals, in this order:
  *
- *   1        the header is of no version, or there is no version of this number
- *   2, 3     the form's own row count or length; `out` has no room for the converted form
- *   4, 5     the form is none; the place is the row
- *   1, 2, 5  then: version 1 has not the form's rule set, not so many rows, not so many scopes
+ *   1        the header is wrong, or `version` is neither 1 nor 2
+ *   2, 3     the form's own row count or length is wrong; `out` has no room for the converted form
+ *   4, 5     a row breaks the form, or opens one scope too many for its own version; the place is the row
+ *   1, 2, 5  version 1 lacks the form's rule set, or does not allow as many rows, or as many open scopes
  *
- * A version 2 form with 1 in byte 5, the rule set of the newer tools, is taken as well and keeps it. The two buffers must
- * not overlap, and for the rest what is said of wnt_resolve holds. */
+ * A form of version 2 with 1 in byte 5, the rule set of the newer tools, is taken as well and keeps it. The two buffers must
+ * not overlap; everything else is as said of wnt_resolve. */
 uint64_t wnt_convert(const uint8_t *form, size_t form_len, uint32_t version, uint8_t *out, size_t out_len);
-/* How many numbers wnt_resolve_told tells, and which: the space of the name (0 to 12, refusals 6, 8 and 9; of 9 at a path
- * that of the path's instance), and the place of the first declaration of the name (refusal 6). */
+/* How many numbers wnt_resolve_told tells, and where each stands: the space of the name (0 to 12, after refusals 6, 8 and 9;
+ * after 9 at a path it is the space of the path's instance), and the place of the name's first declaration (after 6). */
 #define WNT_TOLD 2
 #define WNT_TOLD_SPACE 0
 #define WNT_TOLD_FIRST 1
 
-/* The same as wnt_resolve, and tells what a refusal is about: the first WNT_TOLD of `told` are then what is said above, or
- * 0 where the answer has no such number. Those behind them never change. If `told_len` is below WNT_TOLD, the answer is
- * that to an output of no bytes (1, 2 or 3), and `out` and `told` stay as they were.
+/* Does the same as wnt_resolve, and also tells what a refusal is about: the first WNT_TOLD numbers of `told` are then those
+ * named above, each 0 where the answer has no such number. Later ones never change. If `told_len` is below WNT_TOLD, the
+ * answer is the one for an output of 0 bytes (1, 2 or 3), and `out` and `told` are unchanged.
  *
- * The three buffers must not overlap, and for the rest what is said of wnt_resolve holds. */
+ * The three buffers must not overlap; everything else is as said of wnt_resolve. */
 uint64_t wnt_resolve_told(const uint8_t *form, size_t form_len, uint8_t *out, size_t out_len, uint32_t *told,
                           size_t told_len);
 /* The sizes of the working areas of wnt_unresolve, in bytes. */
@@ -293,34 +294,36 @@ uint64_t wnt_resolve_told(const uint8_t *form, size_t form_len, uint8_t *out, si
 #define WNT_AGAIN_SIZE WNT_MAX_OUT_SIZE
 
 /* Gives an input back for a resolved form: its inserted aliases are left out, and the references that they served are names
- * and paths again; every other number stays. The input is written to the front of `out`, and wnt_resolve gives for it the
- * very bytes of `form`. It succeeds exactly if there is an input that does; of several it is always the same one.
+ * and paths again; every other number stays. The input is written to the front of `out`, and wnt_resolve turns it into the
+ * very bytes of `form`. It succeeds exactly if such an input exists; where there are several it always gives the same one.
  *
- * On success the upper half is 0 and the lower the rows of the input: WNT_FORM_SIZE of them are written, and later bytes of
- * `out` are as they were. A refusal is at place 0 and leaves all of `out` as it was. They come in this order:
+ * On success the answer's upper half is 0 and its lower half the number of rows of the input: WNT_FORM_SIZE of that number
+ * is how many bytes are written, and later bytes of `out` are unchanged. A refusal has place 0 and leaves all of `out`
+ * unchanged. The refusals come in this order:
  *
  *   3        `restored` has fewer than WNT_RESTORED_SIZE bytes, or `again` fewer than WNT_AGAIN_SIZE
- *   14       no input has these bytes as its output, whatever they are
+ *   14       no input has the bytes of `form` as its output; they may be any bytes
  *   3        the input is longer than `out`
  *
- * The two areas may hold anything. After every return they are zero up to those sizes, all of them where they are shorter,
- * and later bytes are as they were. No two buffers may overlap, and for the rest what is said of wnt_resolve holds. */
+ * The two areas may hold anything. After every return they are zero up to those sizes, or to their ends if they are
+ * shorter, and later bytes are unchanged. No two buffers may overlap; everything else is as said of wnt_resolve. */
 uint64_t wnt_unresolve(const uint8_t *form, size_t form_len, uint8_t *out, size_t out_len, uint8_t *restored,
                        size_t restored_len, uint8_t *again, size_t again_len);
 
-/* The sizes of the three areas of wnt_unresolve_with besides those of wnt_resolve_with, by the version: bytes for
- * `restored` and `again`, and notes of two numbers of four bytes, one for each row of the longest resolved form. All eight
- * are 176,032 bytes for version 1 and 2,817,968 for version 2. */
+/* The sizes of the three areas that wnt_unresolve_with needs besides those of wnt_resolve_with, for each version: bytes for
+ * `restored` and `again`, and one note for each row of the longest resolved form; a note is two numbers of four bytes. All
+ * eight areas together have 176,032 bytes for version 1 and 2,817,968 for version 2. */
 typedef uint32_t wnt_note[2];
 #define WNT_RESTORED_SIZE_2 WNT_MAX_FORM_SIZE_2
 #define WNT_AGAIN_SIZE_2 WNT_MAX_OUT_SIZE_2
 #define WNT_NOTES 4092
 #define WNT_NOTES_2 65532
 
-/* The same for a resolved form of version 1 or 2 under either rule set: wnt_resolve_with gives for the input the very bytes
- * of `form`, and WNT_FORM_SIZE or WNT_FORM_SIZE_2 of its rows are written. The first 3 above is then that one of the eight
- * areas is smaller than its size for the form's version. After every return all of them are zero up to these sizes, or to
- * their ends where they are shorter, and as they were beyond; a header of no version and rule set counts as version 1 there:
+/* The same for a resolved form of version 1 or 2 under either rule set: wnt_resolve_with turns the input into the very bytes
+ * of `form`, and as many bytes are written as WNT_FORM_SIZE or WNT_FORM_SIZE_2 gives for its rows. The first refusal 3 above
+ * then means that one of the eight areas is smaller than its size for the form's version. After every return all of them are
+ * zero up to these sizes, or to their ends if they are shorter, and unchanged beyond. For these sizes a form whose
+ * header is wrong counts as version 1:
  *
  *     wnt_unresolve_with(form, form_len, out, out_len, restored, WNT_RESTORED_SIZE_2, again, WNT_AGAIN_SIZE_2, noted,
  *                        WNT_NOTES_2, WNT_LENT(&work)) */
@@ -332,29 +335,29 @@ uint64_t wnt_unresolve_with(const uint8_t *form, size_t form_len, uint8_t *out, 
 /* Mends the form in the first `length` bytes of `buffer`, of either version and rule set; the other bytes of `buffer` are
  * room for added rows, and no working area is needed. A part row is dropped, rows after the root's CLOSE are cut, missing
  * CLOSE rows are added at the end, the row count is set to the rows that there are, and what must be zero is zeroed.
- * Nothing else changes. The answer has 0 in its upper half and the number of changes in the lower, which is 0 for a sound
- * form; or a refusal, and then nothing is written:
+ * Nothing else changes. The answer's upper half is 0 and its lower half the number of changes, which is 0 for a sound form;
+ * or it is a refusal, and then nothing is written:
  *
- *   1        bytes 0 to 4 are not those of a header, or `length` is below that header's (8, or 16 for version 2), or byte 5
- *            of version 2 is no rule set; byte 5 of version 1 is zeroed
- *   2        `length` is above `buffer_len`, or the mended form would have no row or more than its version may have
- *   3        `buffer` has no room for the mended form, or `list` none for the list
- *   4, 5     the mended form is still none; the place is a row of it
+ *   1        bytes 0 to 4 are not those of a header, or `length` is below the length of that header (8, or 16 for version
+ *            2), or byte 5 of version 2 is not a rule set; byte 5 of version 1 is zeroed
+ *   2        `length` is above `buffer_len`, or the mended form would have no row, or more rows than its version allows
+ *   3        `buffer` has no room for the mended form, or `list` has no room for the list
+ *   4, 5     the mended form would still be refused with that number; the place is a row of it
  *
- * Afterwards `buffer` begins with the mended form, whose length its header says. If that is shorter than `length`, zeros
- * stand up to `length`; bytes behind the longer of the two never change. `list` begins with the changes, in the form's
- * order, each of three little-endian uint32_t and bytes: the offset in the mended form, how many bytes stood there before,
- * how many stand there now, and the bytes before, with zeros up to a multiple of four. Taking them back from the first to
- * the last gives the old bytes. Bytes of `list` behind that never change.
+ * Afterwards `buffer` begins with the mended form; its length follows from its header. If it is shorter than `length`, the
+ * bytes from its end up to `length` are zero; bytes behind the longer of the two never change. `list` begins with the
+ * changes, in the form's order. Each is three little-endian uint32_t and then bytes: the offset in the mended form, how many
+ * bytes stood there before, how many stand there now, and the bytes that stood there before, padded with zeros to a multiple
+ * of four. Taking the changes back from the first to the last gives the old bytes. Later bytes of `list` never change.
  *
- * The two buffers must not overlap, and for the rest what is said of wnt_resolve holds. */
+ * The two buffers must not overlap; everything else is as said of wnt_resolve. */
 uint64_t wnt_mend(uint8_t *buffer, size_t buffer_len, size_t length, uint8_t *list, size_t list_len);
 
-/* The answer's lower half after mending: how many changes were made. */
+/* The answer's lower half after mending: the number of changes made. */
 #define WNT_CHANGES(answer) ((uint32_t)((answer) & 0xffffffffu))
 
-/* The bits of the choice of wnt_compare. Places (z of every row) do not count; which fresh name it is (those from
- * 2147483648 up, which inserted fields have) does not count. Higher bits are passed over. */
+/* The bits of the argument `choice` of wnt_compare. With the first, places (z of every row) do not count. With the second,
+ * all fresh names (those from 2147483648 up, which inserted fields have) count as the same. Higher bits are ignored. */
 #define WNT_IGNORE_PLACES 1u
 #define WNT_IGNORE_FRESH 2u
 
@@ -366,46 +369,47 @@ enum wnt_kind {
     WNT_LEFT_ONLY = 2,
     /* A field of the root is only in the right. */
     WNT_RIGHT_ONLY = 3,
-    /* Two lone fields of one code are left over, and differ. */
+    /* One field is left over on each side, both have the same code, and they differ. */
     WNT_DIFFERING = 4
 };
 
 /* The bytes of an entry before the right's rows: five little endian numbers of four bytes. They are the kind, the first
- * row in the left and how many, the first row in the right and how many. Where a side has none its row is the one before
- * which they are missing, and the count 0. The rows of the right follow, 16 bytes each. */
+ * row in the left and the number of rows there, the first row in the right and the number of rows there. Where a side has
+ * no rows, its number is 0 and its row is the one before which they are missing. The rows of the right follow, 16 bytes
+ * each. */
 #define WNT_ENTRY_SIZE 20
 
 /* The answer's lower half after a comparison: the bytes of the list. */
 #define WNT_LIST_SIZE(answer) ((uint32_t)((answer) & 0xffffffffu))
 
-/* Compares two resolved forms: `list` then holds what differs, entry behind entry, and is as it was beyond them. The
- * list is empty exactly if the forms are equal as far as the choice lets them count; applied to the left, entry by entry,
- * it gives the right.
+/* Compares two resolved forms: `list` then holds what differs, one entry after another, and is unchanged beyond them. The
+ * list is empty exactly if the forms are equal in everything that the choice lets count; applied to the left, entry by
+ * entry, it gives the right.
  *
  * A resolved form may have names up to 4294967295 and 4092 rows. The left's refusals 1, 2, 4 and 5 come first, then 1 if
- * the right has another header but for the count, then the right's 2, 4 and 5, then 3 if the list has no room. A refusal
- * leaves the list as it was. The same holds of buffers and threads as for wnt_resolve; `left` and `right` may overlap or
- * be the same. */
+ * the header of the right differs in more than the row count, then the right's 2, 4 and 5, then 3 if there is no room for
+ * the list. A refusal leaves `list` unchanged. What is said of wnt_resolve about buffers and threads holds here too; `left`
+ * and `right` may overlap or be the same. */
 uint64_t wnt_compare(const uint8_t *left, size_t left_len, const uint8_t *right, size_t right_len, uint32_t choice,
                      uint8_t *list, size_t list_len);
 
 /* The sizes of the two working areas of wnt_check, for an input of version 1: slots of six numbers of four bytes each, and
- * numbers of two bytes. Together they are 55,244 bytes. Those for version 2 are of wnt_check_with and wnt_share_with alone,
- * and are 853,964. */
+ * numbers of two bytes. Together they have 55,244 bytes. Those for version 2 are only for wnt_check_with and wnt_share_with,
+ * and have 853,964 bytes. */
 #define WNT_CHECK_SLOTS 2046
 #define WNT_CHECK_LINKS 3070
 #define WNT_CHECK_SLOTS_2 32766
 #define WNT_CHECK_LINKS_2 33790
 
-/* The upper half of the answer of wnt_check where the claim is no resolved form of the input. */
+/* The upper half of the answer of wnt_check where the claim is not a resolved form of the input. */
 enum wnt_condition {
-    /* It is no form of the input's version, where names from 2147483648 up and 4092 rows are allowed. Row: 0 for the
+    /* It is not a form of the input's version, though names from 2147483648 up and 4092 rows are allowed. Row: 0 for the
      * header, else the place of refusal 4 or 5. */
     WNT_NO_FORM = 101,
-    /* It has a PATH row, or its rows without added fields (those with a DECL name from 2147483648 up) are not the input's,
-     * but for PATH rows and the operands of REF and OUTER. */
+    /* It has a PATH row; or, its added fields (those with a DECL name from 2147483648 up) left out, it differs from the
+     * input in more than PATH rows and the operands of REF and OUTER. */
     WNT_NO_ROWS = 102,
-    /* An added field is no alias, its name is not new in its scope and space, or its operand is a name. */
+    /* An added field is not an alias, or its name is not new in its scope and space, or its operand is a name. */
     WNT_NO_ALIAS = 103,
     /* An operand of the input is not the number that it must be. Row: that of the operand in the claim, also where the
      * fault is in the alias that it reaches. */
@@ -415,23 +419,24 @@ enum wnt_condition {
 /* The answer's lower half after a no: the first claimed row that breaks the condition. */
 #define WNT_CLAIMED_ROW(answer) ((uint32_t)((answer) & 0xffffffffu))
 
-/* Says whether `claim` is a resolved form of `form`, whoever wrote it: where its inserted aliases stand, which references
- * share them, which are unused and what fresh names they have is the writer's choice. The answer is 0 for yes; for no one
- * of the numbers above, the first that is true in their order, with the first row of the claim that breaks it; or the
- * refusal of the form by wnt_resolve, with 3 where `table` has fewer slots or `index` fewer numbers than said above.
+/* Says whether `claim` is a resolved form of `form`, whoever wrote it: the writer chooses where inserted aliases stand,
+ * which references share them, whether some are unused, and what fresh names they have. The answer is 0 for yes. For no it
+ * is one of the numbers above, the first of them that is true, with the first row of the claim that breaks that condition.
+ * If wnt_resolve refuses the form, the answer is that refusal, where 3 means that `table` has fewer slots or `index` fewer
+ * numbers than said above.
  *
- * The areas may hold anything. After every return both are zero up to these sizes, all of them where they are shorter,
- * and as they were beyond. `table_len` counts slots and `index_len` numbers. The areas must overlap nothing; `form` and
- * `claim` may be the same, and for the rest what is said of wnt_resolve holds. */
+ * The areas may hold anything. After every return both are zero up to these sizes, or to their ends if they are shorter,
+ * and unchanged beyond. `table_len` counts slots and `index_len` numbers. The areas must not overlap any other buffer;
+ * `form` and `claim` may be the same, and everything else is as said of wnt_resolve. */
 uint64_t wnt_check(const uint8_t *form, size_t form_len, const uint8_t *claim, size_t claim_len, wnt_slot *table,
                    size_t table_len, uint16_t *index, size_t index_len);
 
-/* The same for an input of version 1 or 2 under either rule set, to whose header but for the count the claim's must be equal
- * (else WNT_NO_FORM, row 0). Under rule set 1 the input's refusals are those of wnt_resolve_with, 13 among them, and the claim
- * has to be a form of that rule set; that its aliases stand before what uses them is asked under neither. `table` and `index`
- * have the sizes of the input's version; the areas of wnt_resolve_with come besides, for the steps on the input. An area that
- * is too small is refusal 3 as above, and after every return all seven are zero up to their sizes for that version; a header
- * of no version and rule set counts as version 1 there:
+/* The same for an input of version 1 or 2 under either rule set. The claim's header must equal the input's in all but the
+ * row count (else WNT_NO_FORM, row 0). Under rule set 1 the input's refusals are those of wnt_resolve_with, 13 among them, and
+ * the claim must be a form of that rule set; neither rule set asks that its aliases stand before what uses them. `table` and
+ * `index` have the sizes for the input's version; the areas of wnt_resolve_with are lent too, for the steps on the input. An
+ * area that is too small is refusal 3 as above, and after every return all seven are zero up to their sizes for that version.
+ * For these sizes a form whose header is wrong counts as version 1:
  *
  *     wnt_check_with(form, form_len, claim, claim_len, table, WNT_CHECK_SLOTS_2, index, WNT_CHECK_LINKS_2,
  *                    WNT_LENT(&work)) */
@@ -442,24 +447,24 @@ uint64_t wnt_check_with(const uint8_t *form, size_t form_len, const uint8_t *cla
 
 /* Resolves a form of version 1 into `out` with fewer aliases: in each scope references to the same outer declaration share
  * one inserted alias, which stands before the first field that needs it. References with PATHs share none, and written
- * numbers keep their digits. It is what wnt_check says yes to, and has no more rows than what wnt_resolve writes.
+ * numbers keep their digits. wnt_check says yes to the result, which has no more rows than what wnt_resolve writes.
  *
- * The answer's refusals, and what `out` holds afterwards, are as for wnt_resolve; the rows and the form are those with
- * shared aliases. `table` and `index` are the areas of wnt_check: one that is smaller than said there is refusal 3 as an
- * output that is too short, and after every return they hold what is said there. */
+ * The refusals, and what `out` holds afterwards, are as for wnt_resolve, except that the form written, and the number of
+ * rows answered, are those with shared aliases. `table` and `index` are the areas of wnt_check: one that is smaller than
+ * said there is refusal 3, like an output that is too short, and after every return they hold what is said there. */
 uint64_t wnt_share(const uint8_t *form, size_t form_len, uint8_t *out, size_t out_len, wnt_slot *table, size_t table_len,
                    uint16_t *index, size_t index_len);
 
-/* The bytes of the area of wnt_share_with in which the form's rows are marked, by the version. With its other areas they are
- * 133,052 for version 1 and 2,099,132 for version 2. */
+/* The bytes of the area of wnt_share_with in which the form's rows are marked, for each version. All its areas together have
+ * 133,052 bytes for version 1 and 2,099,132 for version 2. */
 #define WNT_MARKED_SIZE 16368
 #define WNT_MARKED_SIZE_2 262128
 
-/* The same for a form of version 1 or 2 under either rule set: it is what wnt_check_with says yes to, and the answer's
- * refusals, and what `out` holds afterwards, are as for wnt_resolve_with. `marked` has the bytes said above, `table` and
- * `index` the sizes of wnt_check_with, and its other areas come besides. One that is smaller than its size for the form's
- * version is refusal 3 as an output that is too short, and after every return all eight are zero up to these sizes, or to
- * their ends where they are shorter, and as they were beyond; a header of no version and rule set counts as version 1 there:
+/* The same for a form of version 1 or 2 under either rule set: wnt_check_with says yes to the result, and the refusals, and
+ * what `out` holds afterwards, are as for wnt_resolve_with. `marked` has the size said above, `table` and `index` those of
+ * wnt_check_with, and the areas of wnt_resolve_with are lent too. One that is smaller than its size for the form's version is
+ * refusal 3, like an output that is too short. After every return all eight are zero up to these sizes, or to their ends if
+ * they are shorter, and unchanged beyond. For these sizes a form whose header is wrong counts as version 1:
  *
  *     wnt_share_with(form, form_len, out, out_len, marked, WNT_MARKED_SIZE_2, table, WNT_CHECK_SLOTS_2, index,
  *                    WNT_CHECK_LINKS_2, WNT_LENT(&work)) */
@@ -468,9 +473,10 @@ uint64_t wnt_share_with(const uint8_t *form, size_t form_len, uint8_t *out, size
                         wnt_slot *entered, size_t entered_len, wnt_slot *names, size_t names_len, uint16_t *known,
                         size_t known_len, uint16_t *chains, size_t chains_len, uint32_t *ends, size_t ends_len);
 
-/* A binding sheet: what each reference of a driver must mean, written down once. It has up to 200 slots, each three little
- * endian numbers of four bytes: the meter family (the caller's own), the place of a reference, the name of the declaration
- * that it must mean, not 0. An answer is two: one of the kinds below, and a row or 0. */
+/* A binding sheet: what each reference of a driver must mean, written down once. It has up to 200 slots. A slot is three
+ * little endian numbers of four bytes: the meter family (which the caller chooses), the place of a reference, and the name
+ * of the declaration that it must mean, which is not 0. An answer is two such numbers: one of the kinds below, and a row or
+ * 0. */
 #define WNT_SLOT_SIZE 12
 #define WNT_MAX_SLOTS 200
 #define WNT_ANSWER_SIZE 8
@@ -481,68 +487,70 @@ uint64_t wnt_share_with(const uint8_t *form, size_t form_len, uint8_t *out, size
 enum wnt_binding {
     /* One REF of the form is at the place, and in the resolved form it reaches a declaration of the slot's name. */
     WNT_AS_WRITTEN = 0,
-    /* It reaches another, at this row of the resolved form; row 0: it reaches nothing. */
+    /* It reaches another declaration, at the row of the resolved form that the answer gives; row 0: it reaches nothing. */
     WNT_ELSEWHERE = 1,
-    /* No REF of the form is at the place, or several. */
+    /* No REF of the form is at the place, or several are. */
     WNT_NO_REFERENCE = 2,
     WNT_SEVERAL = 3
 };
 
-/* The upper half of the answer of wnt_sheet, besides 0 and 3, with place 0. */
+/* A number that the upper half of the answer of wnt_sheet can have besides 0 and 3; the place is 0. */
 #define WNT_NOT_ITS_SHEET 15
 
-/* Answers each slot of `sheet`, in order, in the first 8 bytes a slot of `answers`: by what the references of `form` reach in
- * `resolved`, which must be the very bytes that wnt_resolve writes for it. A reference is followed through an inserted outer
- * alias, not through an original one; one with PATHs reaches its inserted export alias, which has no name of the form. The
- * answer's lower half is the number of slots that are not bound as written: the sheet passes if it is 0.
+/* Answers each slot of `sheet`, in order, in 8 bytes at the front of `answers`: by what the references of `form` reach in
+ * `resolved`, which must be the very bytes that wnt_resolve writes for `form`. A reference is followed through an inserted
+ * outer alias, not through an original one; one with PATHs reaches its inserted export alias, whose name is not one of the
+ * form. The answer's lower half is the number of slots that are not bound as written: the sheet passes if it is 0.
  *
- * Refusals, in this order: 15 if `sheet` is no sheet (its length is no multiple of 12, it is over 2400 bytes, a slot has name
- * 0); 3 if `work` is shorter than WNT_SHEET_AREA_SIZE; 15 if `form` is refused or `resolved` is not its resolved form; 3 if
- * `answers` is shorter than 8 bytes a slot. A refusal leaves `answers` as it was, and bytes beyond the answers never change.
+ * Refusals, in this order: 15 if `sheet` is not a sheet (its length is not a multiple of 12, or above 2400 bytes, or a slot
+ * has name 0); 3 if `work` is shorter than WNT_SHEET_AREA_SIZE; 15 if `form` is refused or `resolved` is not its resolved
+ * form; 3 if `answers` is shorter than 8 bytes for each slot. A refusal leaves `answers` unchanged, and bytes beyond the
+ * answers never change.
  *
- * `work` may hold anything. After every return it is zero up to that size, all of it where it is shorter, and as it was
- * beyond. `answers` and `work` must overlap nothing, and for the rest what is said of wnt_resolve holds. */
+ * `work` may hold anything. After every return it is zero up to that size, or to its end if it is shorter, and unchanged
+ * beyond. `answers` and `work` must not overlap any other buffer; everything else is as said of wnt_resolve. */
 uint64_t wnt_sheet(const uint8_t *form, size_t form_len, const uint8_t *resolved, size_t resolved_len,
                    const uint8_t *sheet, size_t sheet_len, uint8_t *answers, size_t answers_len, uint8_t *work,
                    size_t work_len);
 
-/* The same for forms of version 1 or 2 under either rule set, in the working areas of wnt_resolve_with besides `work`, which
- * has to have the bytes of the longest output of the form's version: WNT_SHEET_AREA_SIZE, or WNT_MAX_OUT_SIZE_2. An area that
- * is too small is refusal 3 at the place of a `work` that is too small, and after every return all of them are zero up to
- * their sizes for that version; a header of no version and rule set counts as version 1 there. */
+/* The same for forms of version 1 or 2 under either rule set, in the working areas of wnt_resolve_with and `work`, which must
+ * be as long as the longest output of the form's version: WNT_SHEET_AREA_SIZE, or WNT_MAX_OUT_SIZE_2. An area that is too
+ * small is refusal 3, where it would be for a `work` that is too small in the order above, and after every return all of them
+ * are zero up to their sizes for that version. For these sizes a form whose header is wrong counts as version 1. */
 uint64_t wnt_sheet_with(const uint8_t *form, size_t form_len, const uint8_t *resolved, size_t resolved_len,
                         const uint8_t *sheet, size_t sheet_len, uint8_t *answers, size_t answers_len, uint8_t *work,
                         size_t work_len, wnt_slot *entered, size_t entered_len, wnt_slot *names, size_t names_len,
                         uint16_t *known, size_t known_len, uint16_t *chains, size_t chains_len, uint32_t *ends,
                         size_t ends_len);
 
-/* The bytes of an entry of the two lists of wnt_moved, and of the lists by the rows of the form. An entry of the first is
- * four little endian numbers of four bytes: the place, the space, the row of the form that declares what the number meant,
- * the row of the resolved form that declares what it gets. One of the second is three: the place, the space, the number.
- * With PATHs the number is that of the instance where the path begins, and the space the instance's. */
+/* The bytes of an entry in each of the two lists of wnt_moved, and of each list for a form of `rows` rows. An entry of the
+ * first is four little endian numbers of four bytes: the place, the space, the row of the form that declares what the number
+ * meant, and the row of the resolved form that declares what it means there. An entry of the second is three: the place, the
+ * space, the number. With PATHs the number and the space are those of the instance where the path begins. */
 #define WNT_MOVED_SIZE 16
 #define WNT_APART_SIZE 12
 #define WNT_MOVED_LIST_SIZE(rows) (16u * (rows))
 #define WNT_APART_LIST_SIZE(rows) (12u * (rows))
 
-/* The answer's lower half after acceptance: how many entries each list has. */
+/* The two parts of the answer's lower half after acceptance: how many entries each list has. */
 #define WNT_MOVED(answer) ((uint32_t)((answer) & 0xffffu))
 #define WNT_APART(answer) ((uint32_t)(((answer) >> 16) & 0xffffu))
 
-/* Resolves the form into `out` as wnt_resolve does, and lists its written numbers, of references and of outer aliases:
- * `moved` those that mean another declaration in the resolved form than they did in the form, since inserted aliases come
- * before what they meant, and `apart` those that counted to no declaration. Each list is in the order of the form's rows.
+/* Resolves the form into `out` as wnt_resolve does, and lists numbers that were written in references and outer aliases: in
+ * `moved` those that mean another declaration in the resolved form than they did in the form, because inserted aliases come
+ * before what they meant; in `apart` those that counted to no declaration. Each list is in the order of the form's rows.
  *
- * The refusals are those of wnt_resolve, and 3 also where `moved` is shorter than WNT_MOVED_LIST_SIZE of the row count or
- * `apart` than WNT_APART_LIST_SIZE. A refusal leaves both lists as they were, and `out` as after wnt_resolve; one by the
- * lists' sizes leaves it as it was. After acceptance those first bytes of each list are the entries and then zeros; bytes
- * beyond never change. No two of the four buffers may overlap, and for the rest what is said of wnt_resolve holds. */
+ * The refusals are those of wnt_resolve; it is 3 also where `moved` is shorter than WNT_MOVED_LIST_SIZE of the row count, or
+ * `apart` shorter than WNT_APART_LIST_SIZE of it. A refusal leaves both lists unchanged, and `out` as wnt_resolve leaves it;
+ * one because a list is too short leaves `out` unchanged. After acceptance the first bytes of each list, up to that size, are
+ * the entries and then zeros; bytes beyond never change. No two of the four buffers may overlap; everything else is as said
+ * of wnt_resolve. */
 uint64_t wnt_moved(const uint8_t *form, size_t form_len, uint8_t *out, size_t out_len, uint8_t *moved, size_t moved_len,
                    uint8_t *apart, size_t apart_len);
 
-/* The same for a form of version 1 or 2 under either rule set, in the working areas of wnt_resolve_with: 64 bytes a row of
- * `out` and its header are then those of the form's version. An area that is too small is refusal 3, and after every return,
- * refusals too, the areas are zero up to their sizes for that version, as after wnt_resolve_with:
+/* The same for a form of version 1 or 2 under either rule set, in the working areas of wnt_resolve_with; `out` is as long as
+ * that function asks for the form's version. An area that is too small is refusal 3, and after every return, also after a
+ * refusal, the areas are zero up to their sizes for that version, as after wnt_resolve_with:
  *
  *     wnt_moved_with(form, form_len, out, out_len, moved, moved_len, apart, apart_len, WNT_LENT(&work)) */
 uint64_t wnt_moved_with(const uint8_t *form, size_t form_len, uint8_t *out, size_t out_len, uint8_t *moved,
@@ -550,32 +558,33 @@ uint64_t wnt_moved_with(const uint8_t *form, size_t form_len, uint8_t *out, size
                         wnt_slot *names, size_t names_len, uint16_t *known, size_t known_len, uint16_t *chains,
                         size_t chains_len, uint32_t *ends, size_t ends_len);
 
-/* The bytes of the working area of wnt_member: the output of a prelude of as many rows as a form may have. */
+/* The bytes of the working area of wnt_member: enough for the output of a prelude with as many rows as a form may have. */
 #define WNT_MEMBER_WORK 65480
 
-/* What is added to the number of a prelude's refusal, so that it is told from the member's own. */
+/* What is added to the number of a prelude's refusal, so that it can be told from a refusal of the member. */
 #define WNT_OF_PRELUDE 200u
 
 /* Resolves a member into `out` as if its root lay inside the root of the resolved prelude. Names are looked for in that
- * root too, behind the member's own, counts grow by one scope, fresh names start again, and the member may open 31
- * scopes, its root included. What is answered and written depends on the prelude, the member and the length of `out`
- * alone.
+ * root too, after the member's own scopes; outer counts have one scope more to count; fresh names start again from the
+ * first; and the member may have 31 scopes open, its root included. The answer and what is written depend on nothing but the
+ * prelude, the member and the length of `out`.
  *
- * Both are inputs of version 1. A refused prelude is answered with its number plus WNT_OF_PRELUDE and its place, and `out`
- * is as it was; so is a working area that is too short, with 3 plus WNT_OF_PRELUDE behind the prelude's 1 and 2. A member
- * of another version is refused with 1. For the rest `out` and the answer are those of wnt_resolve.
+ * Both are inputs of version 1. If the prelude is refused, the answer is its number plus WNT_OF_PRELUDE with its place, and
+ * `out` is unchanged. A working area that is too short counts as the prelude's refusal 3, after its 1 and 2. A member of
+ * another version is refused with 1. Otherwise `out` and the answer are as for wnt_resolve.
  *
- * After every return the first WNT_MEMBER_WORK bytes of `work`, or all if there are fewer, are zero, and later ones as
- * they were. The buffers must not overlap. */
+ * After every return the first WNT_MEMBER_WORK bytes of `work`, or all if there are fewer, are zero, and later ones are
+ * unchanged. The buffers must not overlap. */
 uint64_t wnt_member(const uint8_t *prelude, size_t prelude_len, const uint8_t *member, size_t member_len, uint8_t *out,
                     size_t out_len, uint8_t *work, size_t work_len);
 
-/* The bytes of `work` of wnt_member_with for a prelude of version 2; for one of version 1 they are WNT_MEMBER_WORK. */
+/* The bytes of `work` of wnt_member_with for a prelude of version 2. For a prelude of version 1 they are WNT_MEMBER_WORK. */
 #define WNT_MEMBER_WORK_2 WNT_MAX_OUT_SIZE_2
 
-/* The tables of wnt_member_with and wnt_batch_with, in one piece for each version: those of wnt_resolve_with, but `names`
- * has twice the slots, since the prelude's root is in it too, and `chains`, its index, half as many numbers again. They are
- * 88,064 bytes, and 1,409,024. WNT_LENT gives the last ten arguments by a pointer to one of these as well. */
+/* The tables of wnt_member_with and wnt_batch_with, in one piece for each version. They are those of wnt_resolve_with, except
+ * that `names` has twice as many slots, since the prelude's root is in it too, and `chains`, its index, has one and a half
+ * times as many numbers. They have 88,064 bytes for version 1 and 1,409,024 for version 2. WNT_LENT gives the last ten
+ * arguments from a pointer to one of these as well. */
 struct wnt_member_work_1 {
     wnt_slot entered[WNT_SLOTS_1], names[2 * WNT_SLOTS_1];
     uint32_t ends[WNT_SLOTS_1];
@@ -587,12 +596,12 @@ struct wnt_member_work_2 {
     uint16_t known[WNT_LINKS_2], chains[3 * WNT_SLOTS_2];
 };
 
-/* The same for a prelude of version 1 or 2 under either rule set. A member of version 2 may open 63 scopes, its root
- * included; one whose version or rule set is not the prelude's is refused with 1. Under rule set 1 all that the prelude's
- * root declares is earlier than the member. `work` and the tables go by the prelude's version: one that is too small is 3
- * plus WNT_OF_PRELUDE as above, and after every return all six are zero up to their sizes for that version, or to their ends
- * where they are shorter, and as they were beyond; a prelude whose header is of no version and rule set counts as one of
- * version 1 there:
+/* The same for a prelude of version 1 or 2 under either rule set. A member of version 2 may have 63 scopes open, its root
+ * included. A member whose version or rule set is not the prelude's is refused with 1. Under rule set 1 everything that the
+ * prelude's root declares is earlier than the member. The sizes of `work` and the tables depend on the prelude's version: one
+ * that is too small is 3 plus WNT_OF_PRELUDE as above. After every return all six are zero up to their sizes for that version,
+ * or to their ends if they are shorter, and unchanged beyond. For these sizes a prelude whose header is wrong
+ * counts as version 1:
  *
  *     static struct wnt_member_work_2 tables;
  *     wnt_member_with(prelude, prelude_len, member, member_len, out, out_len, work, WNT_MEMBER_WORK_2, WNT_LENT(&tables)) */
@@ -601,47 +610,48 @@ uint64_t wnt_member_with(const uint8_t *prelude, size_t prelude_len, const uint8
                          wnt_slot *names, size_t names_len, uint16_t *known, size_t known_len, uint16_t *chains,
                          size_t chains_len, uint32_t *ends, size_t ends_len);
 
-/* The most members of a batch, and the bytes of the answer to one. */
+/* How many members a batch may have, and the bytes of the answer for one member. */
 #define WNT_MAX_MEMBERS 8
 #define WNT_MEMBER_ANSWER_SIZE 8
 
 /* Resolves a batch: the prelude into `prelude_out` as wnt_resolve does, and each member inside its root as wnt_member
- * does. `members` holds 1 to WNT_MAX_MEMBERS inputs one behind another, and `lengths` how many bytes each has. Each member
+ * does. `members` holds 1 to WNT_MAX_MEMBERS inputs one after another, and `lengths` the number of bytes of each. Each member
  * has an equal share of `outs`, by position: `outs_len` divided by their number, rounded down. Its answer, which is like
- * that of wnt_resolve, goes into WNT_MEMBER_ANSWER_SIZE bytes of `answers`, by position too, little endian. Bytes behind
- * the last share and the last answer never change.
+ * that of wnt_resolve, goes into WNT_MEMBER_ANSWER_SIZE bytes of `answers`, also by position, little endian. Bytes after the
+ * last share and the last answer never change.
  *
- * The answer is that of wnt_resolve for the prelude; if it is refused, `outs` and `answers` are as they were. Ahead of all
- * else come 2, place 0, where there is no member, or more than WNT_MAX_MEMBERS, or the lengths do not add up to
- * `members_len`, and 3, place 0, where `answers` is shorter than the answers: then `prelude_out` is as it was, too.
+ * The answer is that of wnt_resolve for the prelude; if the prelude is refused, `outs` and `answers` are unchanged. Two
+ * refusals come before everything else, at place 0, and leave `prelude_out` unchanged too: 2 if there is no member, or there
+ * are more than WNT_MAX_MEMBERS, or the lengths do not add up to `members_len`; and 3 if `answers` is too short for the
+ * answers.
  *
- * What a member is answered, and its share, depend on the prelude, the member and the length of the share alone: of a
- * member that is refused, or too long, the others notice nothing. A member whose version or rule set is not the prelude's
- * is refused with 1. No two of the buffers may overlap. */
+ * The answer for a member, and what its share then holds, depend on nothing but the prelude, the member and the length of
+ * the share: a member that is refused, or too long, changes nothing for the others. A member whose version or rule set is
+ * not the prelude's is refused with 1. No two of the buffers may overlap. */
 uint64_t wnt_batch(const uint8_t *prelude, size_t prelude_len, const uint8_t *members, size_t members_len,
                    const uint32_t *lengths, size_t lengths_len, uint8_t *prelude_out, size_t prelude_out_len,
                    uint8_t *outs, size_t outs_len, uint8_t *answers, size_t answers_len);
 
-/* The same for a prelude of version 1 or 2 under either rule set, and each member as wnt_member_with has it. The prelude and
- * the members are resolved in one set of tables, those of wnt_member_with, by the prelude's version: one that is too small is
- * refusal 3 of the prelude, behind its 1 and 2, and leaves `prelude_out`, `outs` and `answers` as they were. After every
- * return the tables are zero up to their sizes for that version, or to their ends where they are shorter, and as they were
- * beyond; a prelude whose header is of no version and rule set counts as one of version 1 there. */
+/* The same for a prelude of version 1 or 2 under either rule set; each member is resolved as wnt_member_with does. The prelude
+ * and the members are resolved in one set of tables, those of wnt_member_with for the prelude's version: one that is too small
+ * is refusal 3 of the prelude, after its 1 and 2, and leaves `prelude_out`, `outs` and `answers` unchanged. After every return
+ * the tables are zero up to their sizes for that version, or to their ends if they are shorter, and unchanged beyond. For
+ * these sizes a prelude whose header is wrong counts as version 1. */
 uint64_t wnt_batch_with(const uint8_t *prelude, size_t prelude_len, const uint8_t *members, size_t members_len,
                         const uint32_t *lengths, size_t lengths_len, uint8_t *prelude_out, size_t prelude_out_len,
                         uint8_t *outs, size_t outs_len, uint8_t *answers, size_t answers_len, wnt_slot *entered,
                         size_t entered_len, wnt_slot *names, size_t names_len, uint16_t *known, size_t known_len,
                         uint16_t *chains, size_t chains_len, uint32_t *ends, size_t ends_len);
 
-/* Which declaration the name in a row of a member means, where the member's root lies inside the root of a prelude. Both
+/* Says which declaration the name in a row of a member means, if the member's root lies inside the root of a prelude. Both
  * are inputs, not resolved forms. A walked name is looked for in the scopes of the member around it and then in the
- * prelude's root; a here-only name and the instance where a path begins in their own scope alone; a named index of an
- * OUTER in the scope that is asked for, and the prelude's root is one scope behind the member's.
+ * prelude's root; a here-only name, and the instance where a path begins, only in their own scope; a named index of an
+ * OUTER in the scope that the OUTER asks for, where the prelude's root is one scope further out than the member's.
  *
- * The answer's upper half is one of the three below, its lower half the row of the DECL in that form, counted from 0. A
- * row that holds no such name, or is not there, means nothing. Nothing is written and nothing is refused: of bytes that
- * are no forms the rows are looked at as they stand. For version 2, whose header has 16 bytes, rows are counted behind
- * those. */
+ * The answer's upper half is one of the three numbers below, its lower half the row of the DECL in that form, counted from
+ * 0. A row that holds no such name, or is not there, means nothing. Nothing is written and nothing is refused: if the bytes
+ * are not forms, their rows are looked at as they stand. In version 2, whose header has 16 bytes, rows are counted from
+ * behind that header. */
 #define WNT_NOTHING_MEANT 0u
 #define WNT_MEANT_IN_MEMBER 1u
 #define WNT_MEANT_IN_PRELUDE 2u

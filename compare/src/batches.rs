@@ -56,7 +56,7 @@ impl Batch {
         }
     }
 
-    /// Buffers for so many members, with some bytes left over.
+    /// Buffers for `count` members, with some bytes left over.
     fn buffers(&self, count: usize, byte: u8, chance: &mut Chance) -> Buffers {
         Buffers {
             prelude: filled(self.version.output_size(self.prelude.len()) + chance.below(80), chance),
@@ -173,8 +173,8 @@ fn changed(form: &[u8], chance: &mut Chance) -> Vec<u8> {
     bytes
 }
 
-/// Resolves so many batches, and prints a summary line; answers whether there was no difference. Where areas are lent they are of
-/// both versions and rule sets.
+/// Resolves this number of batches, and prints a summary line; answers whether there was no difference. Where areas are
+/// lent they are of both versions and rule sets.
 pub fn run(comparison: &Comparison, seed: u64, batches: u64, lending: bool) -> bool {
     let mut found: BTreeMap<(bool, u32), u64> = BTreeMap::new();
     let mut lender = lending.then(Lender::new);

@@ -35,7 +35,7 @@ fn name(chance: &mut Chance) -> u32 {
     }
 }
 
-/// A field of a component, at most so many scopes deep.
+/// A field of a component, at most `depth` scopes deep.
 fn field(chance: &mut Chance, depth: u32) -> Field {
     let z = below(chance, 3);
     let kinds = if depth == 0 { 4 } else { 5 };
@@ -343,7 +343,7 @@ fn pair(chance: &mut Chance) -> Result<(), String> {
     Ok(())
 }
 
-/// Compares so many pairs; the first that differs is printed and ends the run.
+/// Compares `pairs` pairs; the first that differs is printed and ends the run.
 pub fn run(pairs: u64, seed: u64) -> bool {
     let mut chance = Chance::new(seed);
     for done in 0..pairs {

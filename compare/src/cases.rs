@@ -220,7 +220,7 @@ type Opener = (u8, u8, u8);
 const COMPONENT_FIELD: Opener = (6, 11, 0);
 const TYPE_FIELD: Opener = (14, 9, 1);
 
-/// Scopes of both kinds, so many one in another.
+/// Scopes of both kinds, `depth` of them one inside another.
 pub fn deep(depth: usize) -> [Vec<Row>; 2] {
     [COMPONENT_FIELD, TYPE_FIELD].map(|opener| nested(depth, opener))
 }

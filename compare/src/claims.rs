@@ -35,7 +35,7 @@ pub struct Field {
     added: bool,
 }
 
-/// A scope: its name, the field that opens it, which the root has not, and the rows of its DECLs.
+/// A scope: its name, the field that opens it, which the root does not have, and the rows of its DECLs.
 pub struct Scope {
     name: u32,
     field: Option<usize>,

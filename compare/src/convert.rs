@@ -123,7 +123,7 @@ fn fixed(rules: &Rules) -> Vec<Asked> {
     all
 }
 
-/// Compares so many conversions, the fixed ones first, and prints a summary; answers whether there was no difference.
+/// Compares `count` conversions, the fixed ones first, and prints a summary; answers whether there was no difference.
 pub fn run(seed: u64, count: u64) -> bool {
     let start = Instant::now();
     let rules = Rules { shapes: [Shapes::new(), Shapes::newer()] };

@@ -281,7 +281,7 @@ fn depth(form: &[u8]) -> usize {
     most
 }
 
-/// Compares so many forms, the fixed ones first, and prints a summary; answers whether there was no difference.
+/// Compares `count` forms, the fixed ones first, and prints a summary; answers whether there was no difference.
 pub fn run(comparison: &Comparison, seed: u64, count: u64) -> bool {
     if !stated_cases_hold(comparison) {
         return false;

@@ -183,7 +183,7 @@ fn write_samples(arguments: &[String], folder: &str) -> bool {
     is_written(folder, samples::write_to(Path::new(folder), &comparison(), seed, count))
 }
 
-/// A run with this seed over so many forms, pairs or outputs; it answers whether there was no difference.
+/// A run with a seed, over a number of forms, pairs or outputs; it answers whether there was no difference.
 type Run = fn(&compare::Comparison, u64, u64) -> bool;
 
 /// The runs by their names.

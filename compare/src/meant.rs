@@ -171,7 +171,7 @@ pub fn pair_of(version: Version, shapes: &Shapes, chance: &mut Chance) -> (Vec<R
     (prelude, member)
 }
 
-/// Asks for every row of so many members, and prints a summary line; answers whether there was no difference.
+/// Asks for every row of this number of members, and prints a summary line; answers whether there was no difference.
 pub fn run(seed: u64, pairs: u64) -> bool {
     let shapes = Shapes::new();
     let mut found: BTreeMap<(u8, u64), u64> = BTreeMap::new();

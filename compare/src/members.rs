@@ -61,8 +61,8 @@ fn depth(form: &[Row]) -> usize {
     most
 }
 
-/// The rows of the scope that the last field of a form holds. Insertions are numbered from the first again: so many came
-/// before it.
+/// The rows of the scope that the last field of a form holds. Insertions are numbered from the first again: `before` of them
+/// came before it.
 fn last_scope(tree: &[Row], before: u32) -> Vec<Row> {
     let mut open = 0;
     let mut start = 0;
@@ -103,7 +103,7 @@ pub fn expected(comparison: &Comparison, version: Version, prelude: &[Row], memb
     }
 }
 
-/// What the output of a member with so many rows holds then.
+/// What the output of a member with this number of rows holds after the answer.
 pub fn output(version: Version, answer: &Answer, member: usize, old: &[u8]) -> Vec<u8> {
     let size = version.output_size(member);
     let mut out = old.to_vec();
@@ -145,8 +145,8 @@ pub fn are_small(version: Version, prelude: &[Row], member: &[Row]) -> bool {
     prelude.len() <= most && member.len() <= most && depth(prelude) <= scopes && depth(member) < scopes
 }
 
-/// Resolves so many members, and prints a summary line; answers whether there was no difference. Where areas are lent the forms
-/// are of both versions and rule sets, and some are damaged.
+/// Resolves this number of members, and prints a summary line; answers whether there was no difference. Where areas are
+/// lent the forms are of both versions and rule sets, and some are damaged.
 pub fn run(comparison: &Comparison, seed: u64, pairs: u64, lending: bool) -> bool {
     let mut found: BTreeMap<u32, u64> = BTreeMap::new();
     let mut lender = lending.then(Lender::new);

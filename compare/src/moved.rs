@@ -44,7 +44,7 @@ impl Scopes {
         Scopes { all, of_row }
     }
 
-    /// A scope so many out, or the innermost of a name.
+    /// The scope that is as far out as a number says, or the innermost of a name.
     pub fn outer(&self, scope: usize, row: &Row) -> Option<usize> {
         let around = std::iter::successors(Some(scope), |s| self.all[*s].around);
         if row.e & 1 == 1 {
@@ -257,7 +257,7 @@ fn one(
     Err(format!("{words}\n{}", rows.join("\n")))
 }
 
-/// Compares on so many forms; the first that differs is printed and ends the run. Where areas are lent the forms are of both
+/// Compares on `forms` forms; the first that differs is printed and ends the run. Where areas are lent the forms are of both
 /// versions and rule sets.
 pub fn run(comparison: &Comparison, seed: u64, forms: u64, lending: bool) -> bool {
     let mut counts = Counts::default();

@@ -287,8 +287,8 @@ fn try_damaged(called: &mut Called, claim: &[u8], counts: &mut Counts) -> bool {
     refused || called.goes_round(claim, answer, &out)
 }
 
-/// Sends so many outputs round, with damaged ones beside them, and prints a summary line; answers whether all was right. Where
-/// areas are lent they are of both versions and rule sets.
+/// Sends this number of outputs there and back, with damaged ones beside them, and prints a summary line; answers whether
+/// all was right. Where areas are lent they are of both versions and rule sets.
 pub fn run(comparison: &Comparison, seed: u64, outputs: u64, lending: bool) -> bool {
     let (mut counts, mut called) = (Counts::default(), Called::new(lending));
     let mut number = 0;

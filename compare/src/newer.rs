@@ -23,7 +23,7 @@ mod stated;
 /// The refusal of a name that no earlier field declares.
 const NOT_EARLIER: u32 = 13;
 
-/// One of so many forms is damaged.
+/// One form out of this many is damaged.
 const DAMAGED: u64 = 8;
 
 /// What the crate says of the rows of a form: its answer, carried back, and when it refuses.
@@ -176,7 +176,7 @@ impl Tally {
     }
 }
 
-/// Compares on so many forms under rule set 1, and on the same rows under rule set 0; answers whether there was no difference.
+/// Compares on `count` forms under rule set 1, and on the same rows under rule set 0; answers whether there was no difference.
 pub fn run(comparison: &Comparison, seed: u64, count: u64) -> bool {
     if !stated_cases_hold(comparison) {
         return false;
@@ -214,7 +214,7 @@ pub fn run(comparison: &Comparison, seed: u64, count: u64) -> bool {
     true
 }
 
-/// Reads so many forms under rule set 1 without the library; answers whether the stated cases hold and each deliberate error shows.
+/// Reads `count` forms under rule set 1 without the library; answers whether the stated cases hold and each deliberate error shows.
 pub fn read(comparison: &Comparison, seed: u64, count: u64) -> bool {
     if !stated_cases_hold(comparison) {
         return false;

@@ -49,7 +49,7 @@ pub fn sized(version: Version, form: &[u8]) -> Result<usize, Refusal> {
     if sound { Ok(count) } else { Err((2, 0)) }
 }
 
-/// Refusals 4 and 5, where at most so many scopes may be open.
+/// Refusals 4 and 5, where at most `most` scopes may be open.
 pub fn read_within(shapes: &Shapes, rows: &[Row], most: usize) -> Result<(), Refusal> {
     let mut reading = Reading { shapes, most, scopes: Vec::new(), paths: 0 };
     for (place, row) in rows.iter().enumerate() {

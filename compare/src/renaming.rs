@@ -23,7 +23,7 @@ impl Mapping {
         Mapping { new_of: HashMap::new(), old_of: HashMap::new(), chance, highest }
     }
 
-    /// 0 is no name, and those of inserted fields are none of an input.
+    /// 0 is no name, and an input does not have the names of inserted fields.
     fn name(&mut self, old: u32) -> u32 {
         if old == 0 || old >= FIRST_INSERTED {
             return old;
@@ -95,7 +95,7 @@ fn is_renamed(old: &(u64, Vec<u8>), new: &(u64, Vec<u8>), mapping: &mut Mapping)
     expected == new.1[..end] && old.1[end..] == new.1[end..]
 }
 
-/// Renames so many random forms, and prints a summary line; answers whether there was no difference.
+/// Renames `forms` random forms, and prints a summary line; answers whether there was no difference.
 pub fn run(comparison: &Comparison, seed: u64, forms: u64) -> bool {
     let (mut accepted, mut refused) = (0, 0);
     for number in 0..forms {

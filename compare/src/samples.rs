@@ -7,7 +7,7 @@ use std::fs::write;
 use std::io::Result;
 use std::path::Path;
 
-/// Writes so many forms into a folder, each as `N.wnt` beside `N-resolved.wnt`.
+/// Writes `count` forms into a folder, each as `N.wnt` beside `N-resolved.wnt`.
 pub fn write_to(folder: &Path, comparison: &Comparison, seed: u64, count: u64) -> Result<()> {
     let cases = (0..).map(|number| source::random(&comparison.shapes, seed, number).1);
     let accepted = cases.filter_map(|case| match comparison.expected(&case) {

@@ -177,7 +177,7 @@ enum Outcome {
     Wrong,
 }
 
-/// Runs so many forms, and prints a summary; answers whether all came out right. Where areas are lent the forms are of both
+/// Runs `forms` forms, and prints a summary; answers whether all came out right. Where areas are lent the forms are of both
 /// versions and rule sets.
 pub fn run(comparison: &Comparison, seed: u64, forms: u64, lending: bool) -> bool {
     let mut run = Run { comparison, lender: lending.then(Lender::new) };

@@ -13,7 +13,7 @@ enum Meant {
     Inserted(usize),
 }
 
-/// What an alias is of: a declaration so many scopes out, or what an instance exports.
+/// What an alias is of: a declaration `out` scopes out, or what an instance exports.
 enum Of {
     Outer { out: u32, decl: usize },
     Export { instance: Meant, export: u32 },

@@ -274,7 +274,7 @@ fn one(
     Err(format!("{words}\n{}", rows.join("\n")))
 }
 
-/// Compares on so many forms; the first that differs is printed and ends the run. Where more areas are lent the forms are of
+/// Compares on `forms` forms; the first that differs is printed and ends the run. Where more areas are lent the forms are of
 /// both versions and rule sets.
 pub fn run(comparison: &Comparison, seed: u64, forms: u64, lending: bool) -> bool {
     let mut counts = Counts::default();

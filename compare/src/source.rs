@@ -18,7 +18,7 @@ pub enum Stage {
     Damaged,
 }
 
-/// One of so many random forms is damaged.
+/// One random form out of this many is damaged.
 const DAMAGED: u64 = 4;
 
 /// How many of the trees that a form of the sweep stands for are tried.

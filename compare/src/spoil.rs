@@ -110,7 +110,7 @@ fn spoilt(shapes: &[Shapes; 2], chance: &mut Chance) -> Spoilt {
     Spoilt { buffer, long, list }
 }
 
-/// Mends so many spoilt forms on both sides; answers whether both left the same each time.
+/// Mends `count` spoilt forms on both sides; answers whether both left the same bytes each time.
 pub fn run(seed: u64, count: u64) -> bool {
     let shapes = [Shapes::new(), Shapes::newer()];
     let mut answers: BTreeMap<u64, u64> = BTreeMap::new();
@@ -186,7 +186,7 @@ pub fn vectors(seed: u64, sample: &mut Sample) {
     }
 }
 
-/// Takes a form in a buffer with room for two rows, and a list of so many bytes.
+/// Takes a form in a buffer with room for two rows, and a list of `space` bytes.
 fn offer(shapes: &[Shapes; 2], form: &[u8], long: usize, space: usize, sample: &mut Sample) {
     let buffer = [form, &[FILLED; 40]].concat();
     let left = mend(shapes, &buffer, long, &vec![FILLED; space]);

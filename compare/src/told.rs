@@ -99,7 +99,7 @@ fn is_short_right(case: &Case) -> bool {
     answer == library::resolve(&case.form, &mut []) && out == case.pattern() && told == [FILLING]
 }
 
-/// Compares on so many forms; answers whether there was no difference.
+/// Compares on `forms` forms; answers whether there was no difference.
 pub fn run(comparison: &Comparison, seed: u64, forms: u64) -> bool {
     let mut tally = Tally::default();
     let fixed = source::fixed(&comparison.shapes).into_iter();

@@ -274,7 +274,7 @@ impl<'a> Builder<'a> {
         CoreType { span: place(head), id, name: None, def }
     }
 
-    /// A core type that takes at most so many of the references that come.
+    /// A core type that takes at most `most` of the references that come.
     fn plain_core_type(&mut self, head: Row, id: Option<Id<'a>>, most: usize) -> core::Type<'a> {
         let def = self.core_type_def(most);
         core::Type { span: place(head), id, name: None, def }

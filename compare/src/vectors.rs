@@ -52,12 +52,12 @@ impl Lent {
         Lent { length: content.len(), written: content[..written].to_vec(), cleared: changed }
     }
 
-    /// One of so many elements, to whose front these bytes are written.
+    /// A buffer of `length` elements, to whose front these bytes are written.
     pub fn written(length: usize, bytes: Vec<u8>) -> Lent {
         Lent { length, cleared: bytes.len(), written: bytes }
     }
 
-    /// An area of so many elements, which is then zero up to this size.
+    /// An area of `length` elements, which is then zero up to this size.
     pub fn cleared(length: usize, size: usize) -> Lent {
         Lent { length, written: Vec::new(), cleared: length.min(size) }
     }

@@ -201,7 +201,7 @@ fn counted(verdict: Verdict) -> String {
     }
 }
 
-/// Checks so many pairs, and prints a summary; answers whether there was no difference. Where areas are lent the inputs are of
+/// Checks `pairs` pairs, and prints a summary; answers whether there was no difference. Where areas are lent the inputs are of
 /// both versions and rule sets.
 pub fn run(comparison: &Comparison, seed: u64, pairs: u64, lending: bool) -> bool {
     let mut lender = lending.then(Lender::new);

@@ -1,7 +1,7 @@
-/* Resolves the form IN and prints the rows that became of it, or the refusal; writes the file OUT if there is one.
+/* Resolves the form IN and prints the resolved rows, or the refusal; writes the resolved form to OUT if one is given.
  * examples/README.md says how it is built.
  *
- * The exit status is 0 if the form was resolved, and all was written, else 1. A refused form leaves OUT alone. */
+ * The exit status is 0 if the form was resolved and everything was written, else 1. A refused form leaves OUT alone. */
 #include <inttypes.h>
 #include <stdio.h>
 

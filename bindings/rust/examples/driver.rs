@@ -1,4 +1,4 @@
-//! Builds the driver of `examples/driver`, row by row, resolves it, and prints how many rows became of it.
+//! Builds the driver of `examples/driver`, row by row, resolves it, and prints how many rows the resolved form has.
 
 use wnt::{component, Field, Name, Operand, Scope, Space};
 

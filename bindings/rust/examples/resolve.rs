@@ -1,6 +1,7 @@
-//! Resolves the form IN and prints the rows that became of it, or the refusal; writes the file OUT if there is one.
+//! Resolves the form IN and prints the resolved rows, or the refusal; writes the resolved form to the file OUT if one is
+//! given.
 //!
-//! The exit status is 0 if the form was resolved, and all was written, else 1. A refused form leaves OUT alone.
+//! The exit status is 0 if the form was resolved and everything was written, else 1. A refused form leaves OUT alone.
 
 use std::env;
 use std::fs;
@@ -26,7 +27,7 @@ fn run(input: &str, output: Option<&str>) -> ExitCode {
     }
 }
 
-/// Resolves a form, writes it to the file if there is one, and says what became of it.
+/// Resolves a form, writes the result to the file if one is given, and prints it or the refusal.
 fn resolve(form: &[u8], output: Option<&str>) -> ExitCode {
     let resolved = match wnt::resolve(form) {
         Ok(resolved) => resolved,
@@ -51,7 +52,7 @@ fn fail(file: &str, what: &str, problem: io::Error) -> ExitCode {
     ExitCode::FAILURE
 }
 
-/// The rows in words, a line each.
+/// The rows in words, one on each line.
 fn lines(rows: &[u8]) -> String {
     let mut text = format!("accepted: {} rows\n", rows.len() / wnt::ROW_SIZE);
     text.extend(rows.chunks_exact(wnt::ROW_SIZE).map(line));

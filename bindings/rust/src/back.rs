@@ -1,4 +1,4 @@
-//! Back to names: an input whose output a resolved form is.
+//! Back to names: an input that resolves to a given resolved form.
 
 use crate::versions::rows_or_refusal;
 use crate::{Refusal, Version, WorkingArea, MAX_FORM_SIZE, MAX_OUT_SIZE};
@@ -40,8 +40,8 @@ extern "C" {
 
 /// Gives an input that [`resolve`](crate::resolve) turns into the very bytes of the form, if there is one.
 ///
-/// Inserted aliases are left out, and the references that they served are names and paths again; other numbers stay. The
-/// buffers have the room that is needed, so it is never refused with [`Refusal::Room`].
+/// Inserted aliases are left out, and the references that they served are names and paths again; other numbers stay. It
+/// makes buffers that are long enough, so [`Refusal::Room`] never occurs.
 ///
 /// ```
 /// // The empty component has no names, and is its own input.
@@ -60,10 +60,10 @@ pub fn unresolve(form: &[u8]) -> Result<Vec<u8>, Refusal> {
     Ok(out)
 }
 
-/// The same with buffers that are lent, and gives the rows of the input.
+/// The same in buffers that the caller lends; it gives the number of rows of the input.
 ///
-/// `restored` needs [`MAX_FORM_SIZE`] bytes and `again` [`MAX_OUT_SIZE`]; up to there both are zero afterwards. A refusal
-/// leaves `out` as it was, success what lies behind the input.
+/// `restored` needs [`MAX_FORM_SIZE`] bytes and `again` [`MAX_OUT_SIZE`]; both are zero up to there afterwards. A refusal
+/// leaves all of `out` unchanged, and success leaves the bytes behind the input unchanged.
 pub fn unresolve_into(form: &[u8], out: &mut [u8], restored: &mut [u8], again: &mut [u8]) -> Result<usize, Refusal> {
     // SAFETY: all buffers are valid for their lengths while the call lasts; those that are written are borrowed alone.
     let answer = unsafe {
@@ -81,11 +81,11 @@ pub fn unresolve_into(form: &[u8], out: &mut [u8], restored: &mut [u8], again: &
     rows_or_refusal(answer)
 }
 
-/// The same as [`unresolve`] for a resolved form of either version and rule set, in a working area that is lent: the input is
-/// one that [`resolve_with`](crate::resolve_with) turns into the very bytes of the form.
+/// The same as [`unresolve`] for a resolved form of either version and rule set, in a lent working area: the input is one
+/// that [`resolve_with`](crate::resolve_with) turns into the very bytes of the form.
 ///
-/// The other buffers have the room that is needed. So it is refused with [`Refusal::Room`] only if the form is of version 2
-/// and the area for version 1.
+/// It makes other buffers that are long enough. So [`Refusal::Room`] occurs only if the form is of version 2 and the area
+/// is one for version 1.
 pub fn unresolve_with(form: &[u8], area: &mut WorkingArea) -> Result<Vec<u8>, Refusal> {
     let version = Version::of(form).unwrap_or(Version::One);
     let most = version.max_rows();

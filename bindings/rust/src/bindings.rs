@@ -1,4 +1,4 @@
-//! A binding sheet held against a form and its resolved form.
+//! Binding sheets: what each reference of a form must mean, checked against its resolved form.
 
 use crate::{Refusal, Version, WorkingArea};
 
@@ -54,11 +54,11 @@ extern "C" {
 /// What a reference must mean.
 #[derive(Clone, Copy, Debug, PartialEq, Eq, Hash)]
 pub struct Slot {
-    /// The meter family. It is the caller's own.
+    /// The meter family, a number that the caller chooses.
     pub family: u32,
     /// The place of the reference.
     pub place: u32,
-    /// The name of the declaration that it must mean, not 0.
+    /// The name of the declaration that the reference must mean. It is not 0.
     pub name: u32,
 }
 
@@ -69,16 +69,16 @@ pub enum Binding {
     AsWritten,
     /// It reaches another declaration.
     Elsewhere {
-        /// The row of the resolved form that declares it, 0 if nothing is reached.
+        /// The row of the resolved form that declares it, or 0 if the reference reaches nothing.
         row: usize,
     },
     /// No reference of the form is at the place.
     NoReference,
-    /// Several references of the form are.
+    /// Several references of the form are at the place.
     Several,
 }
 
-/// A sheet as bytes: three little-endian numbers a slot.
+/// A sheet as bytes: three little-endian numbers for each slot.
 pub fn sheet_bytes(slots: &[Slot]) -> Vec<u8> {
     slots.iter().flat_map(|slot| [slot.family, slot.place, slot.name]).flat_map(u32::to_le_bytes).collect()
 }
@@ -86,20 +86,20 @@ pub fn sheet_bytes(slots: &[Slot]) -> Vec<u8> {
 /// Answers each slot, in order: by what the reference at its place reaches in `resolved`, which must be the very bytes that
 /// [`crate::resolve`] gives for `form`. The sheet passes if all are [`Binding::AsWritten`].
 ///
-/// It is refused with [`Refusal::NotItsSheet`] alone: there are more than [`MAX_SLOTS`] slots, one has name 0, the form is
-/// refused, or the other is not its resolved form.
+/// The only refusal is [`Refusal::NotItsSheet`]: there are more than [`MAX_SLOTS`] slots, or one has name 0, or `form` is
+/// refused, or `resolved` is not its resolved form.
 pub fn sheet(form: &[u8], resolved: &[u8], slots: &[Slot]) -> Result<Vec<Binding>, Refusal> {
     let mut answers = vec![0; ANSWER_SIZE * slots.len()];
     sheet_into(form, resolved, &sheet_bytes(slots), &mut answers, &mut vec![0; SHEET_AREA_SIZE])?;
     Ok(answers.chunks_exact(ANSWER_SIZE).map(binding).collect())
 }
 
-/// The same in lent buffers: `answers` then holds eight bytes a slot, the kind (0 to 3, as [`Binding`] has them) and the row or
-/// 0, and the number of slots that are not bound as written is answered. A refusal leaves `answers` as it was.
+/// The same in lent buffers, and gives the number of slots that are not bound as written. `answers` then holds eight bytes
+/// for each slot: the kind, 0 to 3 in the order of [`Binding`], and the row or 0. A refusal leaves `answers` unchanged.
 ///
-/// `work` may hold anything; afterwards it is zero up to [`SHEET_AREA_SIZE`], all of it where it is shorter. It is refused with
-/// [`Refusal::Room`] also: a working area that is too small, once the sheet is one, and answers with no room, once all else is
-/// right.
+/// `work` may hold anything; afterwards it is zero up to [`SHEET_AREA_SIZE`], or all of it if it is shorter. Here
+/// [`Refusal::Room`] can occur too: after the sheet is tested, if `work` is too small, and after everything else is tested,
+/// if `answers` is too short.
 pub fn sheet_into(
     form: &[u8],
     resolved: &[u8],
@@ -129,10 +129,10 @@ pub fn sheet_into(
     }
 }
 
-/// The same as [`sheet`] for forms of either version and rule set, in a working area that is lent. `resolved` must be what
+/// The same as [`sheet`] for forms of either version and rule set, in a lent working area. `resolved` must be what
 /// [`crate::resolve_with`] gives for `form`.
 ///
-/// It is refused with [`Refusal::Room`] also: the form is of version 2 and the area for version 1.
+/// Here [`Refusal::Room`] can occur too: if the form is of version 2 and the area is one for version 1.
 pub fn sheet_with(
     form: &[u8],
     resolved: &[u8],
@@ -174,7 +174,7 @@ pub fn sheet_with(
     }
 }
 
-/// An answer out of its eight bytes.
+/// The answer for a slot, from its eight bytes.
 fn binding(answer: &[u8]) -> Binding {
     let word = |i: usize| u32::from_le_bytes(answer[i..i + 4].try_into().expect("four bytes are four"));
     match word(0) {

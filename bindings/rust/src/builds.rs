@@ -1,4 +1,4 @@
-//! Two builds compared: the list of what differs between two resolved forms.
+//! Comparing two builds: the list of what differs between two resolved forms.
 
 use crate::{Refusal, ROW_SIZE};
 
@@ -25,7 +25,7 @@ const ENTRY_SIZE: usize = 20;
 pub struct Choice {
     /// Places, which are z of every row.
     pub ignore_places: bool,
-    /// Which fresh name it is: those from 2147483648 up count as one.
+    /// Which fresh name it is: all names from 2147483648 up count as the same.
     pub ignore_fresh: bool,
 }
 
@@ -38,7 +38,7 @@ pub enum Kind {
     LeftOnly,
     /// A field of the root that only the right has.
     RightOnly,
-    /// Two lone fields of one code that are left over.
+    /// One field is left over on each side, and both have the same code.
     Differing,
 }
 
@@ -49,18 +49,18 @@ pub struct Entry {
     pub kind: Kind,
     /// The first row in the left.
     pub left: usize,
-    /// How many rows it has there.
+    /// The number of rows there.
     pub left_rows: usize,
     /// The first row in the right.
     pub right: usize,
-    /// The rows that it has there, 16 bytes each.
+    /// The rows there, 16 bytes each.
     pub rows: Vec<u8>,
 }
 
-/// Compares two resolved forms and lists what differs; the list is empty exactly if they are equal as the choice lets them
-/// count.
+/// Compares two resolved forms and lists what differs. The list is empty exactly if they are equal in everything that the
+/// choice lets count.
 ///
-/// The list has the room that it needs, so it is never refused with [`Refusal::Room`].
+/// It makes a list that is long enough, so [`Refusal::Room`] never occurs.
 pub fn compare(left: &[u8], right: &[u8], choice: Choice) -> Result<Vec<Entry>, Refusal> {
     let mut list = vec![0; MAX_LIST_SIZE];
     let bits = u32::from(choice.ignore_places) + 2 * u32::from(choice.ignore_fresh);
@@ -76,7 +76,7 @@ pub fn compare(left: &[u8], right: &[u8], choice: Choice) -> Result<Vec<Entry>, 
     }
 }
 
-/// The entries that a list has, one behind the other.
+/// The entries of a list, in order.
 fn entries(mut list: &[u8]) -> Vec<Entry> {
     let mut found = Vec::new();
     while !list.is_empty() {
@@ -94,13 +94,13 @@ fn entries(mut list: &[u8]) -> Vec<Entry> {
     found
 }
 
-/// The number at that place of five.
+/// One of the five numbers of an entry, by its position.
 fn number(numbers: &[u8], place: usize) -> usize {
     let four = numbers[4 * place..4 * place + 4].try_into().expect("four bytes are four");
     u32::from_le_bytes(four) as usize
 }
 
-/// The kind of that number.
+/// The kind with that number.
 fn kind(number: usize) -> Kind {
     match number {
         1 => Kind::Opening,

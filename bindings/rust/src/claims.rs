@@ -1,18 +1,18 @@
-//! Another assembler's output, checked.
+//! Checking another assembler's output.
 
 use crate::refusal::Refusal;
 use crate::{Version, WorkingArea};
 
-/// The slots that the table must have, six numbers each.
+/// How many slots the table must have, for an input of version 1. A slot is six numbers.
 pub const CHECK_SLOTS: usize = 2046;
 
-/// The numbers that the index must have.
+/// How many numbers the index must have, for an input of version 1.
 pub const CHECK_LINKS: usize = 3070;
 
-/// The slots for an input of version 2.
+/// How many slots the table must have, for an input of version 2.
 pub const CHECK_SLOTS_2: usize = 32_766;
 
-/// The numbers for an input of version 2.
+/// How many numbers the index must have, for an input of version 2.
 pub const CHECK_LINKS_2: usize = 33_790;
 
 extern "C" {
@@ -48,12 +48,12 @@ extern "C" {
     ) -> u64;
 }
 
-/// What a claimed output must be, in the order in which it is tried.
+/// What a claimed output must meet; the conditions are tried in this order.
 #[derive(Clone, Copy, Debug, PartialEq, Eq, Hash)]
 pub enum Condition {
     /// 1: it is a form like the input's, with names from 2147483648 up and four times the rows allowed.
     Form,
-    /// 2: without its added fields it has the input's rows, but for PATH rows and the operands.
+    /// 2: without its added fields it has the input's rows, except for PATH rows and operands.
     Rows,
     /// 3: its added fields are aliases with new names, and their operands are numbers.
     Aliases,
@@ -66,7 +66,7 @@ pub enum Condition {
 pub enum Verdict {
     /// It is a resolved form of the input.
     Yes,
-    /// It is none.
+    /// It is not a resolved form of the input.
     No {
         /// The first condition that is broken.
         condition: Condition,
@@ -75,17 +75,17 @@ pub enum Verdict {
     },
 }
 
-/// Says whether `claim` is a resolved form of `form`, whoever wrote it; an input that is refused has none.
+/// Says whether `claim` is a resolved form of `form`, whoever wrote it. If `form` is refused, that refusal is given.
 ///
-/// Its areas have the sizes that the check needs, so it is never refused with [`Refusal::Room`].
+/// It makes areas that are large enough, so [`Refusal::Room`] never occurs.
 pub fn check(form: &[u8], claim: &[u8]) -> Result<Verdict, Refusal> {
     let (mut table, mut index) = (vec![[0; 6]; CHECK_SLOTS], vec![0; CHECK_LINKS]);
     check_with(form, claim, &mut table, &mut index)
 }
 
-/// The same in lent areas, of [`CHECK_SLOTS`] and [`CHECK_LINKS`], or more.
+/// The same in lent areas, which need [`CHECK_SLOTS`] slots and [`CHECK_LINKS`] numbers.
 ///
-/// Whatever they held, both are zero afterwards up to these sizes, and as they were beyond.
+/// Whatever they held, both are zero up to these sizes afterwards, and unchanged beyond.
 pub fn check_with(form: &[u8], claim: &[u8], table: &mut [[u32; 6]], index: &mut [u16]) -> Result<Verdict, Refusal> {
     let (slots, links) = (table.len(), index.len());
     // SAFETY: the four buffers are valid for their lengths while the call lasts, and the areas overlap nothing, since they
@@ -105,10 +105,10 @@ pub fn check_with(form: &[u8], claim: &[u8], table: &mut [[u32; 6]], index: &mut
     verdict(answer)
 }
 
-/// The same for an input of either version and rule set; the claim must have its header but for the count.
+/// The same for an input of either version and rule set. The claim's header must equal the input's in all but the row count.
 ///
-/// Its table and index have the sizes that the check needs. So it is refused with [`Refusal::Room`] only if the input is of
-/// version 2 and the working area for version 1.
+/// It makes a table and an index that are large enough. So [`Refusal::Room`] occurs only if the input is of version 2 and the
+/// working area is one for version 1.
 pub fn check_either(form: &[u8], claim: &[u8], area: &mut WorkingArea) -> Result<Verdict, Refusal> {
     let (slots, links) = match Version::of(form) {
         Some(Version::Two) => (CHECK_SLOTS_2, CHECK_LINKS_2),
@@ -117,10 +117,10 @@ pub fn check_either(form: &[u8], claim: &[u8], area: &mut WorkingArea) -> Result
     check_either_with(form, claim, &mut vec![[0; 6]; slots], &mut vec![0; links], area)
 }
 
-/// The same in lent areas: for an input of version 1 of [`CHECK_SLOTS`] and [`CHECK_LINKS`], or more, for one of version 2
-/// of [`CHECK_SLOTS_2`] and [`CHECK_LINKS_2`].
+/// The same in lent areas, which need [`CHECK_SLOTS`] slots and [`CHECK_LINKS`] numbers for an input of version 1, and
+/// [`CHECK_SLOTS_2`] and [`CHECK_LINKS_2`] for one of version 2.
 ///
-/// Whatever they held, all are zero afterwards up to the sizes of the input's version, and as they were beyond.
+/// Whatever they held, all are zero afterwards up to the sizes for the input's version, and unchanged beyond.
 pub fn check_either_with(
     form: &[u8],
     claim: &[u8],
@@ -155,7 +155,7 @@ pub fn check_either_with(
     verdict(answer)
 }
 
-/// What the library answered.
+/// The verdict or the refusal that the library answered.
 fn verdict(answer: u64) -> Result<Verdict, Refusal> {
     let (number, row) = ((answer >> 32) as u32, answer as u32);
     match number {

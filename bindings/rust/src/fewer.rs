@@ -44,7 +44,7 @@ extern "C" {
 /// Resolves a form so that in each scope references to the same outer declaration share one inserted alias, which stands
 /// before the first field that needs it.
 ///
-/// It is refused as [`crate::resolve`] refuses it, and has no more rows than what that gives.
+/// The refusals are those of [`crate::resolve`], and the result has no more rows than that function gives.
 pub fn share(form: &[u8]) -> Result<Vec<u8>, Refusal> {
     let mut out = vec![0; out_size(rows_in(form))];
     let (mut table, mut index) = (vec![[0; 6]; CHECK_SLOTS], vec![0; CHECK_LINKS]);
@@ -53,10 +53,10 @@ pub fn share(form: &[u8]) -> Result<Vec<u8>, Refusal> {
     Ok(out)
 }
 
-/// The same into `out`, of which [`crate::resolve_into`] says what it holds then, in lent areas of [`CHECK_SLOTS`] and
-/// [`CHECK_LINKS`], or more; gives the number of rows written.
+/// The same into `out`, and gives the number of rows written. [`crate::resolve_into`] says what `out` holds afterwards. The
+/// lent areas need [`CHECK_SLOTS`] slots and [`CHECK_LINKS`] numbers.
 ///
-/// Whatever the areas held, both are zero afterwards up to these sizes, and as they were beyond.
+/// Whatever the areas held, both are zero up to these sizes afterwards, and unchanged beyond.
 pub fn share_into(form: &[u8], out: &mut [u8], table: &mut [[u32; 6]], index: &mut [u16]) -> Result<usize, Refusal> {
     let (slots, links) = (table.len(), index.len());
     // SAFETY: the four buffers are valid for their lengths while the call lasts, and those that are written overlap
@@ -76,9 +76,9 @@ pub fn share_into(form: &[u8], out: &mut [u8], table: &mut [[u32; 6]], index: &m
     rows_or_refusal(answer)
 }
 
-/// The same as [`share`] for a form of either version and rule set, in a working area that is lent.
+/// The same as [`share`] for a form of either version and rule set, in a lent working area.
 ///
-/// It is refused as [`crate::resolve_with`] refuses it. Its other buffers have the room that the form needs.
+/// The refusals are those of [`crate::resolve_with`]. It makes other buffers that are long enough.
 pub fn share_with(form: &[u8], area: &mut WorkingArea) -> Result<Vec<u8>, Refusal> {
     let version = Version::of(form).unwrap_or(Version::One);
     let (slots, links) = match version {

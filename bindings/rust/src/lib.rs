@@ -78,20 +78,20 @@ extern "C" {
     ) -> u64;
 }
 
-/// The bytes of a form with so many rows.
+/// How many bytes a form of `rows` rows has.
 pub const fn form_size(rows: usize) -> usize {
     HEADER_SIZE + ROW_SIZE * rows
 }
 
-/// The bytes that the output must have at least for an input of so many rows: a resolved form has at most four times as
-/// many.
+/// How many bytes the output must have at least for an input of `rows` rows: a resolved form has at most four times as
+/// many rows as its input.
 pub const fn out_size(rows: usize) -> usize {
     HEADER_SIZE + 4 * ROW_SIZE * rows
 }
 
-/// Resolves a form and gives the resolved one, without anything behind it.
+/// Resolves a form and gives the resolved form, with no bytes after it.
 ///
-/// Its output has the room that the form needs, so it is never refused with [`Refusal::Room`].
+/// It makes an output that is long enough, so [`Refusal::Room`] never occurs.
 pub fn resolve(form: &[u8]) -> Result<Vec<u8>, Refusal> {
     let mut out = vec![0; out_size(rows_in(form))];
     let rows = resolve_into(form, &mut out)?;
@@ -101,9 +101,9 @@ pub fn resolve(form: &[u8]) -> Result<Vec<u8>, Refusal> {
 
 /// Resolves a form into `out` and gives the number of rows written.
 ///
-/// `out` needs [`out_size`] bytes for the form's rows. Bytes beyond these are never changed. After acceptance the first
-/// [`form_size`] of the rows written are the resolved form and the rest of the needed bytes zero; after refusals 1 to 5
-/// all is as it was; after 6 to 12 the needed bytes are zero.
+/// `out` needs [`out_size`] bytes for the form's rows. Bytes beyond these are never changed. After acceptance the resolved
+/// form stands in front, [`form_size`] of the rows written, and the rest of the needed bytes are zero; after refusals 1 to
+/// 5 everything is unchanged; after 6 to 12 the needed bytes are zero.
 pub fn resolve_into(form: &[u8], out: &mut [u8]) -> Result<usize, Refusal> {
     let mut told = [0; 2];
     // SAFETY: the three buffers are valid for their lengths while the call lasts, and do not overlap, since `out` is
@@ -118,7 +118,7 @@ pub fn resolve_into(form: &[u8], out: &mut [u8]) -> Result<usize, Refusal> {
     }
 }
 
-/// How many rows a form of that length has, if its header says so too; no more than any may have.
+/// How many rows a form of this length has if its header is right, at most [`MAX_ROWS`].
 fn rows_in(form: &[u8]) -> usize {
     (form.len().saturating_sub(HEADER_SIZE) / ROW_SIZE).min(MAX_ROWS)
 }

@@ -1,4 +1,4 @@
-//! Members inside a prelude: one of them resolved, a batch of them, and which declaration a name means.
+//! Members inside a prelude: resolving one of them or a batch of them, and which declaration a name means.
 
 use crate::versions::rows_or_refusal;
 use crate::{out_size, rows_in, Refusal, Version, WorkingArea, HEADER_SIZE, MAX_OUT_SIZE, ROW_SIZE};
@@ -83,7 +83,7 @@ extern "C" {
 pub enum Of {
     /// The member itself.
     Member,
-    /// The prelude in whose root it lies.
+    /// The prelude in whose root the member lies.
     Prelude,
 }
 
@@ -98,7 +98,7 @@ pub struct Refused {
 
 /// Resolves a member as if its root lay inside the root of the resolved prelude, and gives the resolved member.
 ///
-/// Both are inputs of version 1. What is given depends on these two alone, and on nothing of another member.
+/// Both are inputs of version 1. The result depends on these two alone, not on any other member.
 pub fn member(prelude: &[u8], member: &[u8]) -> Result<Vec<u8>, Refused> {
     let mut out = vec![0; out_size(rows_in(member))];
     let mut work = vec![0; MAX_OUT_SIZE];
@@ -121,11 +121,11 @@ pub fn member(prelude: &[u8], member: &[u8]) -> Result<Vec<u8>, Refused> {
     Ok(out)
 }
 
-/// The same for a prelude and a member of either version and rule set, in a working area of
-/// [`WorkingArea::for_members`] that is lent. A member whose version or rule set is not the prelude's is refused with
+/// The same for a prelude and a member of either version and rule set, in a lent working area from
+/// [`WorkingArea::for_members`]. A member whose version or rule set is not the prelude's is refused with
 /// [`Refusal::Header`].
 ///
-/// The other buffers have the room that is needed. So the prelude is refused with [`Refusal::Room`] only if the area is too
+/// It makes other buffers that are long enough. So the prelude is refused with [`Refusal::Room`] only if the area is too
 /// small for its version.
 pub fn member_with(prelude: &[u8], member: &[u8], area: &mut WorkingArea) -> Result<Vec<u8>, Refused> {
     let version = Version::of(prelude).unwrap_or(Version::One);
@@ -160,7 +160,7 @@ pub fn member_with(prelude: &[u8], member: &[u8], area: &mut WorkingArea) -> Res
     Ok(out)
 }
 
-/// The rows of a member that an answer says, or which form is refused.
+/// The number of rows of a member that an answer gives, or which form is refused and why.
 fn rows_or_refused(answer: u64) -> Result<usize, Refused> {
     let (number, rest) = ((answer >> 32) as u32, answer as u32);
     match number {
@@ -170,13 +170,13 @@ fn rows_or_refused(answer: u64) -> Result<usize, Refused> {
     }
 }
 
-/// The most members of a batch.
+/// The most members that a batch may have.
 pub const MAX_MEMBERS: usize = 8;
 
-/// The bytes of the answer to a member.
+/// The bytes of the answer for a member.
 const ANSWER: usize = 8;
 
-/// What a batch comes to whose prelude is not refused.
+/// The result of a batch whose prelude is not refused.
 #[derive(Clone, Debug, PartialEq, Eq, Hash)]
 pub struct Batch {
     /// The resolved prelude.
@@ -187,14 +187,14 @@ pub struct Batch {
 
 /// Resolves a prelude, and members inside its root, each as [`member`] does.
 ///
-/// A refusal is that of the prelude, or [`Refusal::RowCount`] where there is no member or more than [`MAX_MEMBERS`]. What
-/// a member comes to depends on the prelude and on the member alone.
+/// A refusal is that of the prelude, or [`Refusal::RowCount`] where there is no member or more than [`MAX_MEMBERS`]. The
+/// result for a member depends on the prelude and on that member alone.
 pub fn batch(prelude: &[u8], members: &[&[u8]]) -> Result<Batch, Refusal> {
     batch_as(Version::One, prelude, members, batch_into)
 }
 
-/// The same for forms of either version and rule set, each member as [`member_with`] does, in a working area of
-/// [`WorkingArea::for_members`] that is lent. A member whose version or rule set is not the prelude's is refused with
+/// The same for forms of either version and rule set, each member as [`member_with`] does, in a lent working area from
+/// [`WorkingArea::for_members`]. A member whose version or rule set is not the prelude's is refused with
 /// [`Refusal::Header`], and the prelude with [`Refusal::Room`] if the area is too small for its version.
 pub fn batch_with(prelude: &[u8], members: &[&[u8]], area: &mut WorkingArea) -> Result<Batch, Refusal> {
     let version = Version::of(prelude).unwrap_or(Version::One);
@@ -203,7 +203,7 @@ pub fn batch_with(prelude: &[u8], members: &[&[u8]], area: &mut WorkingArea) -> 
     })
 }
 
-/// A batch of this version, which is resolved into lent buffers by `into`.
+/// A batch of this version; `into` resolves it into buffers that are made here.
 fn batch_as(
     version: Version,
     prelude: &[u8],
@@ -228,7 +228,7 @@ fn batch_as(
 
 /// Resolves a prelude into `out`, and members into equal shares of `outs`, and gives the number of rows of the prelude.
 ///
-/// The members lie one behind another, and `lengths` has the length of each. The answer to each goes into eight bytes of
+/// The members stand one after another, and `lengths` has the length of each. The answer for each goes into eight bytes of
 /// `answers`, little endian: a refusal's number times 2^32 plus its place, or the number of rows.
 pub fn batch_into(
     prelude: &[u8],
@@ -259,7 +259,7 @@ pub fn batch_into(
     rows_or_refusal(answer)
 }
 
-/// The same for forms of either version and rule set, in a working area of [`WorkingArea::for_members`] that is lent.
+/// The same for forms of either version and rule set, in a lent working area from [`WorkingArea::for_members`].
 pub fn batch_into_with(
     prelude: &[u8],
     members: &[u8],
@@ -303,7 +303,7 @@ pub fn batch_into_with(
 /// A declaration that a name means.
 #[derive(Clone, Copy, Debug, PartialEq, Eq, Hash)]
 pub struct Meant<'a> {
-    /// In which form it stands.
+    /// The form in which it stands.
     pub of: Of,
     /// The row of its DECL there, counted from 0.
     pub row: usize,
@@ -311,10 +311,10 @@ pub struct Meant<'a> {
     pub bytes: &'a [u8],
 }
 
-/// Which declaration the name in a row of a member means, where the member's root lies inside the prelude's.
+/// Says which declaration the name in a row of a member means, if the member's root lies inside the prelude's.
 ///
-/// Both are inputs, not resolved forms. A row without a name, or that is not there, means nothing; of bytes that are no
-/// forms the rows are looked at as they stand.
+/// Both are inputs, not resolved forms. A row that has no name, or is not there, means nothing. If the bytes are not forms,
+/// their rows are looked at as they stand.
 pub fn meant<'a>(prelude: &'a [u8], member: &'a [u8], row: u32) -> Option<Meant<'a>> {
     // SAFETY: both buffers are valid for their lengths while the call lasts. The library only reads them and keeps no
     // pointer.
@@ -327,7 +327,7 @@ pub fn meant<'a>(prelude: &'a [u8], member: &'a [u8], row: u32) -> Option<Meant<
     }
 }
 
-/// A row of a form; the header of version 2 is twice as long.
+/// A row of a form. The header of version 2 is twice as long as that of version 1.
 fn row_of(form: &[u8], row: usize) -> &[u8] {
     let header = if form[3] == 2 { 2 * HEADER_SIZE } else { HEADER_SIZE };
     let at = header + ROW_SIZE * row;

@@ -1,8 +1,8 @@
-//! Mending: a form that an old editor spoilt, and the changes that make one of it again.
+//! Mending a form that an old editor spoilt, with a list of the changes.
 
 use crate::{Refusal, Version};
 
-/// What a mending changed at one place.
+/// What mending changed at one place.
 #[derive(Clone, Debug, PartialEq, Eq, Hash)]
 pub struct Change {
     /// The byte of the mended form at which it begins.
@@ -17,14 +17,16 @@ extern "C" {
     fn wnt_mend(buffer: *mut u8, buffer_len: usize, length: usize, list: *mut u8, list_len: usize) -> u64;
 }
 
-/// The most bytes of a list but for those that a cut takes away: three parts of the header, five of each row, and the cut.
+/// The most bytes that a list can have, not counting the bytes that a cut takes away: changes of three parts of the header
+/// and of five parts of each row, and the cut.
 const fn most_listed(version: Version) -> usize {
     3 * 20 + version.max_rows() * 5 * 16 + 16
 }
 
-/// Mends a form of either version and gives the mended one with the changes, in its order; a sound form stays, with no change.
+/// Mends a form of either version and gives the mended form and the changes, in the order of the form. A sound form stays as
+/// it is, with no change.
 ///
-/// Both buffers have the room that is needed, so it is never refused with [`Refusal::Room`].
+/// It makes buffers that are long enough, so [`Refusal::Room`] never occurs.
 pub fn mend(form: &[u8]) -> Result<(Vec<u8>, Vec<Change>), Refusal> {
     let version = Version::of(form).unwrap_or(Version::One);
     let mut buffer = form.to_vec();
@@ -42,7 +44,7 @@ pub fn mend(form: &[u8]) -> Result<(Vec<u8>, Vec<Change>), Refusal> {
     Ok((buffer, changes(&list, rest as usize)))
 }
 
-/// So many changes, as the list has them.
+/// The first `count` changes of a list.
 fn changes(list: &[u8], count: usize) -> Vec<Change> {
     let word = |at: usize| u32::from_le_bytes(list[at..at + 4].try_into().expect("four bytes")) as usize;
     let mut all = Vec::with_capacity(count);

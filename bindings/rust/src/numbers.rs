@@ -44,7 +44,7 @@ pub struct Moved {
     pub space: u32,
     /// The row of the input that declares what it meant.
     pub meant: usize,
-    /// The row of the resolved form that declares what it now gets.
+    /// The row of the resolved form that declares what it means there.
     pub gets: usize,
 }
 
@@ -59,20 +59,22 @@ pub struct Apart {
     pub number: u32,
 }
 
-/// A resolved form, and the written numbers of its input that have moved or had no item, each list in row order.
+/// A resolved form, and two lists of written numbers of its input, each in row order: those that have moved, and those that
+/// counted to no declaration.
 #[derive(Clone, Debug, PartialEq, Eq, Hash)]
 pub struct Numbers {
     /// What [`crate::resolve`] gives.
     pub resolved: Vec<u8>,
     /// The numbers that have moved.
     pub moved: Vec<Moved>,
-    /// The numbers that had no item.
+    /// The numbers that counted to no declaration.
     pub apart: Vec<Apart>,
 }
 
-/// Resolves a form and lists its written numbers that inserted aliases have moved, and apart those that had no item.
+/// Resolves a form and lists its written numbers that inserted aliases have moved and, in a list of their own, those that
+/// counted to no declaration.
 ///
-/// The buffers have the room that the form needs, so it is never refused with [`Refusal::Room`].
+/// It makes buffers that are long enough, so [`Refusal::Room`] never occurs.
 pub fn moved(form: &[u8]) -> Result<Numbers, Refusal> {
     let rows = rows_in(form);
     let (mut out, mut moved, mut apart) = (vec![0; out_size(rows)], vec![0; 16 * rows], vec![0; 12 * rows]);
@@ -95,10 +97,10 @@ pub fn moved(form: &[u8]) -> Result<Numbers, Refusal> {
     Ok(Numbers { resolved: out, moved, apart })
 }
 
-/// The same for a form of either version and rule set, in a working area that is lent.
+/// The same for a form of either version and rule set, in a lent working area.
 ///
-/// The buffers have the room that the form needs. So it is refused with [`Refusal::Room`] only if the form is of version 2
-/// and the area for version 1.
+/// It makes other buffers that are long enough. So [`Refusal::Room`] occurs only if the form is of version 2 and the area
+/// is one for version 1.
 pub fn moved_with(form: &[u8], area: &mut WorkingArea) -> Result<Numbers, Refusal> {
     let version = Version::of(form).unwrap_or(Version::One);
     let rows = version.rows_in(form);
@@ -148,7 +150,7 @@ fn listed(answer: u64, moved: &[u8], apart: &[u8]) -> Result<(Vec<Moved>, Vec<Ap
     Ok((moved.collect(), apart.collect()))
 }
 
-/// The first entries of a list, so many of N numbers each.
+/// The first `count` entries of a list, each of N numbers.
 fn entries<const N: usize>(list: &[u8], count: usize) -> impl Iterator<Item = [u32; N]> + '_ {
     let word = |four: &[u8]| u32::from_le_bytes(four.try_into().expect("four bytes are four"));
     list.chunks_exact(4 * N).take(count).map(move |entry| std::array::from_fn(|i| word(&entry[4 * i..4 * i + 4])))

@@ -6,9 +6,9 @@ use std::fmt;
 
 /// Why a form was refused, and where.
 ///
-/// A `row` is counted from 0. A `place` is the last part of a row, which the form's author chose. What is told besides is
-/// `None` where the function that refuses does not tell it: [`crate::resolve`] and [`crate::resolve_into`] always do. The
-/// limits named here are those of version 1; a form of version 2 has a header of 16 bytes, 16,383 rows and 64 scopes.
+/// A `row` is counted from 0. A `place` is the last part of a row, which the form's author chose. What else a refusal
+/// carries is `None` where the function that refuses does not tell it; [`crate::resolve`] and [`crate::resolve_into`] always
+/// do. The limits named here are those of version 1; version 2 has a header of 16 bytes, up to 16,383 rows and 64 scopes.
 #[derive(Clone, Copy, Debug, PartialEq, Eq, Hash)]
 pub enum Refusal {
     /// 1: fewer than 8 bytes, or bytes 0 to 5 are not those of the header.
@@ -41,18 +41,18 @@ pub enum Refusal {
         /// The reference's.
         place: u32,
     },
-    /// 8: the name means something of a scope further out that is no core module, core type, type or component.
+    /// 8: the name means something in a scope further out, and it is not a core module, core type, type or component.
     NotOuter {
         /// The reference's.
         place: u32,
         /// The space asked for.
         space: Option<Space>,
     },
-    /// 9: no scope in which it is looked up declares the name.
+    /// 9: no scope in which the name is looked up declares it.
     UnknownName {
         /// The reference's or the outer alias's.
         place: u32,
-        /// The space asked for; of a path, that of its instance.
+        /// The space asked for; for a path, the space of its instance.
         space: Option<Space>,
     },
     /// 10: no open scope has the name of the outer scope.
@@ -70,21 +70,21 @@ pub enum Refusal {
         /// The second case's.
         place: u32,
     },
-    /// 13, under rule set 1 alone: no earlier field declares the name.
+    /// 13, only under rule set 1: no earlier field declares the name.
     NotEarlier {
         /// The reference's or the outer alias's.
         place: u32,
     },
-    /// 14, on the way back alone: no input has these bytes as its output.
+    /// 14, only on the way back: no input has these bytes as its output.
     NoInput,
-    /// 15: these bytes are no binding sheet, or the form is refused, or the other form is not its resolved form.
+    /// 15: the sheet is not a binding sheet, or the form is refused, or the other form is not its resolved form.
     NotItsSheet,
 }
 
 impl Refusal {
-    /// The refusal of that number at that place.
+    /// The refusal with that number at that place.
     ///
-    /// Panics if there is none of that number, which the library's contract excludes.
+    /// Panics if no refusal has that number, which the library's contract excludes.
     pub(crate) fn of(number: u32, place: u32) -> Refusal {
         match number {
             1 => Refusal::Header,
@@ -106,7 +106,7 @@ impl Refusal {
         }
     }
 
-    /// The same with what the library tells besides: the space, and the place of the first declaration.
+    /// The same with what else the library tells: the space, and the place of the first declaration.
     pub(crate) fn told(number: u32, place: u32, told: [u32; 2]) -> Refusal {
         let space = u8::try_from(told[0]).ok().and_then(Space::of);
         match number {
@@ -117,7 +117,7 @@ impl Refusal {
         }
     }
 
-    /// Its number: 1 to 12, 13 under rule set 1, 14 on the way back, 15 of a binding sheet.
+    /// Its number: 1 to 12; 13 under rule set 1, 14 on the way back, 15 for a binding sheet.
     pub fn number(self) -> u32 {
         match self {
             Refusal::Header => 1,
@@ -154,7 +154,7 @@ impl Refusal {
         }
     }
 
-    /// The space of the name, of refusals 6, 8 and 9.
+    /// The space of the name, for refusals 6, 8 and 9.
     pub fn space(self) -> Option<Space> {
         match self {
             Refusal::DuplicateName { space, .. }
@@ -164,7 +164,7 @@ impl Refusal {
         }
     }
 
-    /// The place of the first declaration of the name, of refusal 6.
+    /// The place of the name's first declaration, for refusal 6.
     pub fn first(self) -> Option<u32> {
         match self {
             Refusal::DuplicateName { first, .. } => first,
@@ -172,7 +172,7 @@ impl Refusal {
         }
     }
 
-    /// What it means, but for what is told besides.
+    /// What it means, without what else is told.
     fn meaning(self) -> &'static str {
         match self {
             Refusal::Header => "this is no form: it does not begin with WNT and version 1",
@@ -195,7 +195,7 @@ impl Refusal {
         }
     }
 
-    /// What is told besides.
+    /// Writes what else is told.
     fn write_told(self, f: &mut fmt::Formatter<'_>) -> fmt::Result {
         if let Some(space) = self.space() {
             write!(f, " among the {space}")?;

@@ -1,7 +1,7 @@
 //! Rows as types, a builder whose rows are sound in themselves, and iteration over the rows of a form.
 //!
-//! That each row is sound does not make them a form: which rows may follow each other is in `docs/RULES.md`, and
-//! [`crate::resolve`] says which row breaks it.
+//! Sound rows alone do not make a form: `docs/RULES.md` says which rows may follow each other, and [`crate::resolve`] says
+//! which row breaks the form.
 
 use crate::{HEADER_SIZE, MAX_ROWS, ROW_SIZE};
 
@@ -288,7 +288,7 @@ impl Row {
         bytes
     }
 
-    /// The row of sixteen bytes, if they are one: a part that is to be zero is, and codes and names are some.
+    /// The row that these sixteen bytes are, if they are a row: what must be zero is zero, and codes and names are valid.
     pub fn of(bytes: &[u8; ROW_SIZE]) -> Option<Row> {
         let word = |at: usize| u32::from_le_bytes([bytes[at], bytes[at + 1], bytes[at + 2], bytes[at + 3]]);
         let (b, e, x, y, place) = (bytes[1], u16::from_le_bytes([bytes[2], bytes[3]]), word(4), word(8), word(12));
@@ -312,15 +312,15 @@ impl Row {
     }
 }
 
-/// The rows of a form of version 1, in order; `None` for sixteen bytes that are no row. What is behind the last whole row
-/// is left out.
+/// The rows of a form of version 1, in order; `None` for sixteen bytes that are not a row. Bytes after the last whole row
+/// are left out.
 pub fn rows(form: &[u8]) -> impl Iterator<Item = Option<Row>> + '_ {
     let behind = form.get(HEADER_SIZE..).unwrap_or(&[]);
     behind.chunks_exact(ROW_SIZE).map(|row| Row::of(row.try_into().expect("sixteen bytes are sixteen")))
 }
 
-/// Rows that are put one behind the other. Scopes are closed as they are opened, PATH rows follow their reference and are
-/// counted, and a field's inner scope has the field's name, so that no row can be broken in itself.
+/// Puts rows one after another. Every scope that is opened is closed, PATH rows follow their reference and are counted, and
+/// a field's inner scope has the field's name, so that each row is sound in itself.
 ///
 /// ```
 /// use wnt::{component, Field, Name, Operand, Space};
@@ -348,7 +348,7 @@ impl Builder {
         self.put(Row::Field { field, e: 0, place })
     }
 
-    /// Begins a builtin's field, by its code.
+    /// Begins the field of a builtin, given by its code.
     pub fn builtin(&mut self, code: u16, place: u32) -> &mut Builder {
         self.put(Row::Field { field: Field::Builtin, e: code, place })
     }
@@ -358,7 +358,7 @@ impl Builder {
         self.put(Row::Field { field: Field::Export, e: 1, place })
     }
 
-    /// Declares something, with a name or without.
+    /// Declares something, with or without a name.
     pub fn declare(&mut self, space: Space, name: impl Into<Option<Name>>, place: u32) -> &mut Builder {
         self.put(Row::Declaration { space, name: name.into(), place })
     }
@@ -390,7 +390,7 @@ impl Builder {
         self.put(Row::Export(export))
     }
 
-    /// A scope inside the field whose declaration was put last, with its name.
+    /// A scope inside the field whose declaration was put last. It has the name of that declaration.
     pub fn scope(&mut self, scope: Scope, inside: impl FnOnce(&mut Builder)) -> &mut Builder {
         let name = match self.rows.last() {
             Some(Row::Declaration { name, .. }) => *name,
@@ -406,7 +406,7 @@ impl Builder {
     }
 }
 
-/// The bytes of a form of version 1 whose root is a component, with a name or without; `None` if it has more rows than an
+/// The bytes of a form of version 1 whose root is a component, with or without a name; `None` if it has more rows than an
 /// input may have.
 pub fn component(name: impl Into<Option<Name>>, inside: impl FnOnce(&mut Builder)) -> Option<Vec<u8>> {
     let mut builder = Builder::default();

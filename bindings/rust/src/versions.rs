@@ -35,7 +35,7 @@ pub enum Version {
 }
 
 impl Version {
-    /// The version that a form's header says; none where it says another.
+    /// The version that a form's header states; `None` where it states neither.
     pub fn of(form: &[u8]) -> Option<Version> {
         match form.get(..5)? {
             b"WNT\x01\x00" => Some(Version::One),
@@ -68,12 +68,12 @@ impl Version {
         }
     }
 
-    /// The bytes of a form with so many rows.
+    /// How many bytes a form of `rows` rows has.
     pub const fn form_size(self, rows: usize) -> usize {
         self.header_size() + ROW_SIZE * rows
     }
 
-    /// The bytes that the output must have at least for an input of so many rows.
+    /// How many bytes the output must have at least for an input of `rows` rows.
     pub const fn out_size(self, rows: usize) -> usize {
         self.header_size() + 4 * ROW_SIZE * rows
     }
@@ -86,7 +86,7 @@ impl Version {
         }
     }
 
-    /// How many rows a form of that length has, if its header says so too; no more than any may have.
+    /// How many rows a form of this length has if its header is right, at most [`max_rows`](Version::max_rows).
     pub(crate) fn rows_in(self, form: &[u8]) -> usize {
         (form.len().saturating_sub(self.header_size()) / ROW_SIZE).min(self.max_rows())
     }
@@ -104,19 +104,20 @@ pub struct WorkingArea {
 }
 
 impl WorkingArea {
-    /// An area for forms of that version: 61,440 bytes for the first, 983,040 for the second, which serves both.
+    /// An area for forms of that version: 61,440 bytes for version 1, 983,040 for version 2. The second serves both
+    /// versions.
     pub fn new(version: Version) -> WorkingArea {
         WorkingArea::with_more(version, 0)
     }
 
-    /// An area for members inside a prelude too, whose root is then among their names: 88,064 bytes for the first version,
-    /// 1,409,024 for the second. [`member_with`](crate::member_with) and [`batch_with`](crate::batch_with) need it, and it
+    /// An area with room for the names of a prelude's root as well, for members inside it: 88,064 bytes for version 1,
+    /// 1,409,024 for version 2. [`member_with`](crate::member_with) and [`batch_with`](crate::batch_with) need it, and it
     /// serves every other function as well.
     pub fn for_members(version: Version) -> WorkingArea {
         WorkingArea::with_more(version, version.max_rows() + 1)
     }
 
-    /// An area whose second table has so many slots more.
+    /// An area whose second table has `more` additional slots.
     fn with_more(version: Version, more: usize) -> WorkingArea {
         let slots = version.max_rows() + 1;
         WorkingArea {
@@ -129,10 +130,11 @@ impl WorkingArea {
     }
 }
 
-/// Resolves a form of either version and rule set and gives the resolved one, of the same, without anything behind it.
+/// Resolves a form of either version and rule set and gives the resolved form, which has the same version and rule set,
+/// with no bytes after it.
 ///
-/// Its output has the room that the form needs. So it is refused with [`Refusal::Room`] only if the form is of version 2
-/// and the area for version 1.
+/// It makes an output that is long enough. So [`Refusal::Room`] occurs only if the form is of version 2 and the area is
+/// one for version 1.
 pub fn resolve_with(form: &[u8], area: &mut WorkingArea) -> Result<Vec<u8>, Refusal> {
     let version = Version::of(form).unwrap_or(Version::One);
     let mut out = vec![0; version.out_size(version.rows_in(form))];
@@ -143,8 +145,8 @@ pub fn resolve_with(form: &[u8], area: &mut WorkingArea) -> Result<Vec<u8>, Refu
 
 /// Resolves a form of either version and rule set into `out` and gives the number of rows written.
 ///
-/// What `out` needs, and what it holds afterwards, is as for [`resolve_into`](crate::resolve_into), with the sizes of the
-/// form's version.
+/// How long `out` must be, and what it holds afterwards, is as for [`resolve_into`](crate::resolve_into), with the sizes
+/// of the form's version.
 pub fn resolve_into_with(form: &[u8], out: &mut [u8], area: &mut WorkingArea) -> Result<usize, Refusal> {
     let WorkingArea { entered, names, known, chains, ends } = area;
     // SAFETY: every buffer is valid for its length while the call lasts, and all that are written are borrowed alone, so
@@ -170,9 +172,10 @@ pub fn resolve_into_with(form: &[u8], out: &mut [u8], area: &mut WorkingArea) ->
     rows_or_refusal(answer)
 }
 
-/// Converts a form to that version: the same rows behind the other header. A form that has it already is given back.
+/// Converts a form to that version: the same rows behind the header of that version. A form that already has the version
+/// is given back.
 ///
-/// The output has the room that is needed, so it is never refused with [`Refusal::Room`].
+/// It makes an output that is long enough, so [`Refusal::Room`] never occurs.
 pub fn convert(form: &[u8], version: Version) -> Result<Vec<u8>, Refusal> {
     let mut out = vec![0; form.len() + HEADER_SIZE];
     // SAFETY: both buffers are valid for their lengths while the call lasts, and `out` is borrowed alone. The library
@@ -183,7 +186,7 @@ pub fn convert(form: &[u8], version: Version) -> Result<Vec<u8>, Refusal> {
     Ok(out)
 }
 
-/// The rows that an answer says, or its refusal.
+/// The number of rows that an answer gives, or its refusal.
 pub(crate) fn rows_or_refusal(answer: u64) -> Result<usize, Refusal> {
     let (number, rest) = ((answer >> 32) as u32, answer as u32);
     match number {

@@ -1,7 +1,7 @@
 //! The runs that tools/runs_with.py writes, through the wrapper: P1 to P10 in both versions, both sides of each limit of
 //! version 2, areas that are too small, and conversions.
 //!
-//! A run begins with a name of sixteen bytes and four words, little endian: how long the form is, and how long the output;
+//! A run begins with a name of sixteen bytes and four words, little endian: the length of the form, and of the output;
 //! the version whose area is lent; and 0 to resolve the form, or the version to convert it to. The form follows.
 
 use std::fs;
@@ -50,7 +50,7 @@ fn run(rest: &mut &[u8]) -> (String, (u32, u32), Option<u32>) {
     (name, numbers(answer), Some(sum_of(&out)))
 }
 
-/// Conversions that the wrapper's own room or its type of versions leaves no way to ask for.
+/// Whether this is a conversion that the wrapper cannot ask for, since it makes the output itself and has a type of versions.
 fn is_left_out(name: &str) -> bool {
     matches!(name.trim_end(), "c: a byte short" | "c: to version 3")
 }

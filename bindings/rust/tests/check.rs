@@ -32,7 +32,7 @@ fn input() -> Vec<u8> {
     form(&[&[ROOT][..], &TYPE, &INNER, &refers, &[CLOSE, CLOSE]].concat())
 }
 
-/// A partner's output of it: one alias behind the field that needs it, for both references.
+/// A partner's output for it: both references share one alias, which stands after the field that needs it.
 fn shared(count: u32, first: u32, second: u32) -> Vec<u8> {
     let refers: [Row; 4] = [[1, 12, 0, 0, 0, 5], [2, 9, 0, 7, 0, 6], [3, 9, 0, first, 0, 70], [3, 9, 0, second, 0, 71]];
     let alias: [Row; 3] = [[1, 11, 0, 0, 0, 0], [2, 9, 0, 4_000_000_000, 0, 0], [5, 9, 0, count, 0, 0]];

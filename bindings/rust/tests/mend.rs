@@ -1,4 +1,4 @@
-//! Mending by the safe function: a sound form, spoilt ones, and one that cannot be mended.
+//! Mending, as seen through the wrapper: a sound form, spoilt ones, and one that cannot be mended.
 
 use wnt::{mend, Change, Refusal};
 

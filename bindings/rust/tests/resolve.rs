@@ -77,7 +77,7 @@ fn form(rows: &[Row]) -> Vec<u8> {
     bytes
 }
 
-/// A root with so many rows, all but two of them custom sections.
+/// A form of `rows` rows: a root and, inside it, custom sections alone.
 fn customs(rows: usize) -> Vec<u8> {
     let mut all = vec![CUSTOM; rows];
     all[0] = OPEN;

@@ -24,14 +24,14 @@ fn form(name: u32, rows: &[Row]) -> Vec<u8> {
     out
 }
 
-/// The same form as one of version 2 under the rule set of this number.
+/// The same form in version 2, under the rule set of this number.
 fn under(rules: u8, form: &[u8]) -> Vec<u8> {
     let mut out = convert(form, Version::Two).expect("every form of version 1 goes");
     out[5] = rules;
     out
 }
 
-/// Two types 1 and 2, and a component 3 in which each of so many types names type 2, all at place 70.
+/// Two types 1 and 2, and a component 3 with `count` types that each name type 2, all at place 70.
 fn driver(count: u32) -> Vec<u8> {
     let types = [[1, 12, 0, 0, 0, 0], [2, 9, 0, 1, 0, 0], [1, 12, 0, 0, 0, 0], [2, 9, 0, 2, 0, 0]];
     let opens = [[1, 6, 0, 0, 0, 0], [2, 11, 0, 3, 0, 0], [7, 0, 0, 3, 0, 0]];
@@ -89,7 +89,7 @@ fn back_to_names_under_each_setting() {
         let larger = under(rules, &plain);
         let out = resolve_with(&larger, &mut area()).expect("it is accepted");
         assert_eq!(unresolve_with(&out, &mut area()), Ok(larger.clone()));
-        // names are none of an output
+        // an output has no operand that is a name
         assert_eq!(unresolve_with(&larger, &mut area()), Err(Refusal::NoInput));
         assert_eq!(unresolve_with(&out, &mut WorkingArea::new(Version::One)), Err(Refusal::Room));
     }

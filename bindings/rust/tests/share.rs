@@ -21,7 +21,7 @@ fn form(rows: &[Row]) -> Vec<u8> {
     out
 }
 
-/// A type 1, and a component inside with so many types that each refer to it.
+/// A type 1, and a component with `count` types that each refer to it.
 fn naming(count: u32) -> Vec<u8> {
     let mut rows = vec![ROOT, [1, 12, 0, 0, 0, 1], [2, 9, 0, 1, 0, 2], [1, 6, 0, 0, 0, 3], [2, 11, 0, 0, 0, 4], ROOT];
     for at in 0..count {

@@ -1,4 +1,4 @@
-//! Back to names by the safe functions: forms that go round, those that none resolves to, and buffers that are lent.
+//! Back to names, as seen through the wrapper: outputs that come back, bytes that are not an output, and lent buffers.
 
 use wnt::{resolve, unresolve, unresolve_into, Refusal, MAX_FORM_SIZE, MAX_OUT_SIZE};
 
@@ -65,7 +65,7 @@ fn a_name_and_a_path_come_back() {
 
 #[test]
 fn bytes_that_are_no_output_are_refused() {
-    // names that an output has not
+    // an output has no operand that is a name
     assert_eq!(unresolve(&named()), Err(Refusal::NoInput));
     // another fresh name, another place
     let resolved = resolve(&named()).expect("accepted");

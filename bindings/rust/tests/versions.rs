@@ -10,12 +10,12 @@ const OPEN: [u8; 16] = [7, 0, 0, 0, 0, 0, 0, 0, 0, 0, 0, 0, 0, 0, 0, 0];
 const CLOSE: [u8; 16] = [8, 0, 0, 0, 0, 0, 0, 0, 0, 0, 0, 0, 0, 0, 0, 0];
 const CUSTOM: [u8; 16] = [1, 25, 0, 0, 0, 0, 0, 0, 0, 0, 0, 0, 0, 0, 0, 0];
 
-/// The header of version 2 for so many rows.
+/// The header of a form of version 2 with `rows` rows.
 fn header(rows: usize) -> Vec<u8> {
     [b"WNT\x02\x00\x00", &(rows as u32).to_le_bytes()[..], &[0; 6]].concat()
 }
 
-/// A root of version 2 with so many rows, all but two of them custom sections.
+/// A form of version 2 with `rows` rows: a root and, inside it, custom sections alone.
 fn customs(rows: usize) -> Vec<u8> {
     let mut form = header(rows);
     form.extend(OPEN);
@@ -24,7 +24,7 @@ fn customs(rows: usize) -> Vec<u8> {
     form
 }
 
-/// So many components one in another, as a form of version 2.
+/// A form of version 2 with components one inside another, `scopes` of them.
 fn nested(scopes: usize) -> Vec<u8> {
     let field = |code: u8, b: u8| [&[code, b][..], &[0; 14]].concat();
     let mut form = header(4 * scopes - 2);
@@ -73,7 +73,7 @@ fn an_area_is_used_again_and_again() {
     for _ in 0..3 {
         assert_eq!(resolve_with(&driver, &mut area), resolve(&driver));
         assert_eq!(resolve_with(&customs(16_383), &mut area), Ok(customs(16_383)));
-        // which does not tell what `resolve` tells besides
+        // it does not tell the space and the first place, as `resolve` does
         let why = Refusal::DuplicateName { place: 20, space: None, first: None };
         assert_eq!(resolve_with(&example("refused/6"), &mut area), Err(why));
     }

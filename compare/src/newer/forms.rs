@@ -96,7 +96,7 @@ fn turn(rows: &mut [Row], at: usize, outline: &Outline, names: &Names, chance: &
             }
         }
         _ => {
-            // An instance further out is none for a path: refusal 9.
+            // A path cannot begin with an instance further out: refusal 9.
             let stays = row.y > 0 && chance.percent(80);
             let space = if row.y == 0 { row.b } else { instance_space(row.b) };
             let scopes = if stays { &around[..1] } else { scopes };

@@ -131,7 +131,7 @@ module _ (here : List Declaration) (outside : List (List Declaration)) where
           let same : isNumber (find here space (s .decl .name)) n ≡ eqb (s .number) n = ap (λ (x : ℕ). isNumber (find here x (s .decl .name)) n) (sym (eqb-true (s .decl .space) space t)) ∙ s .numbered n in
           rw same
 
-  -- ---- inserted fields that stand one behind the other, the last first, behind rows that are none
+  -- ---- inserted fields that stand one behind the other, the last first, behind rows that are not inserted fields
 
   pub data Waits (before : List Noted) : List Head → List Noted → Type 0 where
     all : Waits before [] before

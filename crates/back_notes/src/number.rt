@@ -33,7 +33,7 @@ fn low(row: usize) -> u32
     (row % 65536) as u32
 }
 
-// The row of the OPEN of the scope that is so far out; that of the innermost is 0 scopes out.
+// The row of the OPEN of the scope that is this far out; the innermost is 0 scopes out.
 fn scope_out(scopes: &[Scope], depth: usize, out: u32) -> u32
     ensures { λ r. ⌜ r ≡ outT (openIn (now (scopes .entry)) depth) out ⌝ }
 {

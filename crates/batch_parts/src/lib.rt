@@ -25,7 +25,7 @@ fn wide(n: u32) -> usize
     n as usize
 }
 
-// Whether the lengths add up to so much; what is left of it falls, so that no sum can wrap.
+// Whether the lengths add up to this number; what is left of it falls, so that no sum can wrap.
 fn adds_up(lengths: &[u32], total: usize) -> bool
     ensures { λ r. ⌜ r ≡ eqb (sum (now (lengths .entry))) total ⌝ }
 {

@@ -27,7 +27,7 @@ pub record Prelude : Type 0 where
   pub setting : Setting
   pub resolved : Scope
 
--- the refusals of the prelude; `room` is the length of the buffer in which it is resolved
+-- the resolved prelude under this setting, or its refusal; `room` is the length of the buffer in which it is resolved
 unfoldable pub preludeIn : Option Setting → (prelude : List ℕ) (room : ℕ) → AnswerOf Prelude
 preludeIn none prelude room = AnswerOf.refused 1 0 []
 preludeIn (some s) prelude room = mapAnswer (λ t. record { setting = s; resolved = t }) (formIn [] s prelude room)
@@ -42,20 +42,22 @@ preludeOf settings prelude room = preludeIn (settingOf settings prelude) prelude
 abbrev pub insideAnswer : Setting → (root : Env) → (member : List ℕ) (room : ℕ) → Answer
 insideAnswer s root member room = answerInside (root ∷ []) (s ∷ []) member room
 
+-- what a member's output then holds, if it held `old` before
 abbrev pub insideOutput : Setting → (root : Env) → (member old : List ℕ) → List ℕ
 insideOutput s root member old = outputInside (root ∷ []) (s ∷ []) member old
 
 -- ---- one member by itself
 
--- what is added to the number of a prelude that is refused, so that it is told from the member's own
+-- what is added to the number of a prelude's refusal, so that it can be told from a refusal of the member
 abbrev pub ofPrelude : ℕ
 ofPrelude = 200
 
+-- the answer to a member after that for the prelude
 abbrev pub memberAfter : AnswerOf Prelude → (member : List ℕ) (room : ℕ) → Answer
 memberAfter (AnswerOf.refused number place carried) member room = AnswerOf.refused (ofPrelude + number) place carried
 memberAfter (accepted p) member room = insideAnswer (p .setting) (rootOf (p .resolved)) member room
 
--- the output of a member stays if the prelude is refused
+-- what a member's output holds after that answer: it stays if the prelude is refused
 abbrev pub memberWrites : AnswerOf Prelude → (member old : List ℕ) → List ℕ
 memberWrites (AnswerOf.refused number place carried) member old = old
 memberWrites (accepted p) member old = insideOutput (p .setting) (rootOf (p .resolved)) member old
@@ -72,12 +74,12 @@ memberOutput settings prelude work member old = memberWrites (preludeOf settings
 -- ---- the members of a batch
 
 module _ (s : Setting) (root : Env) (share : ℕ) where
-  -- each by itself: it has nothing of the others
+  -- the answers to the members, each by itself: it has nothing of the others
   unfoldable pub memberAnswers : List (List ℕ) → List Answer
   memberAnswers [] = []
   memberAnswers (m ∷ ms) = insideAnswer s root m share ∷ memberAnswers ms
 
-  -- each in its share of the buffer, by position; "left-over bytes stay"
+  -- the members' outputs, each in its share of the buffer, by position; "left-over bytes stay"
   unfoldable pub memberOutputs : List (List ℕ) → (old : List ℕ) → List ℕ
   memberOutputs [] old = old
   memberOutputs (m ∷ ms) old = insideOutput s root m (take share old) ++ memberOutputs ms (drop share old)
@@ -112,6 +114,7 @@ unfoldable pub sharesAfter : AnswerOf Prelude → (members : List (List ℕ)) (o
 sharesAfter (AnswerOf.refused number place carried) members old = old
 sharesAfter (accepted p) members old = memberOutputs (p .setting) (rootOf (p .resolved)) (shareOf members (length old)) members old
 
+-- what the prelude's output and the members' then hold, if they held these before
 unfoldable pub batchOutputs : List Setting → (prelude : List ℕ) (members : List (List ℕ)) (oldPrelude old : List ℕ) → List ℕ × List ℕ
 batchOutputs settings prelude members oldPrelude old =
     if between 1 8 (length members)

@@ -12,7 +12,7 @@ use Rattle.batching.specs.Batch.{BatchAnswer, refused, done, batchAnswer
 
 -- ---- the members
 
--- the lengths together
+-- the sum of the lengths
 unfoldable pub sum : List ℕ → ℕ
 sum [] = 0
 sum (n ∷ ns) = n + sum ns
@@ -34,7 +34,7 @@ unfoldable pub answersBytes : List Answer → List ℕ
 answersBytes [] = []
 answersBytes (a ∷ more) = bytes 8 (packed a) ++ answersBytes more
 
--- of the batch: a refusal, or the number of rows that were written of the prelude
+-- the same of a batch: a refusal, or the number of rows that were written of the prelude
 unfoldable pub packedBatch : BatchAnswer → ℕ
 packedBatch (refused number place carried) = number * 4294967296 + place
 packedBatch (done prelude members) = length prelude
@@ -55,13 +55,13 @@ pub record Buffers : Type 0 where
   pub outs : List ℕ
   pub answers : List ℕ
 
--- the answers at the front, if there are any; bytes behind them stay
+-- what the buffer of the answers holds: the answers at the front, if there are any; bytes behind them stay
 unfoldable pub answersAfter : BatchAnswer → (old : List ℕ) → List ℕ
 answersAfter (refused number place carried) old = old
 answersAfter (done prelude members) old = answersBytes members ++ drop (length (answersBytes members)) old
 
 module _ (settings : List Setting) (prelude members lengths : List ℕ) where
-  -- the lengths of the prelude's buffer, the members' and that of the answers
+  -- the answer to a batch, by the lengths of the prelude's buffer, the members' and that of the answers
   unfoldable pub bytesAnswer : (preludeRoom room answersRoom : ℕ) → BatchAnswer
   bytesAnswer preludeRoom room answersRoom =
       if badMembers lengths members then refused 2 0 []

@@ -37,7 +37,7 @@ module _ (settings : List Setting) (short : Bool) (prelude : List ℕ) where
   batchCall members lengths old =
       packedBatch (bytesAnswer settings prelude members lengths (roomWith short (length (old .prelude))) (length (old .outs)) (length (old .answers)))
 
-  -- a prelude that has no room leaves all as it was
+  -- what it leaves in the buffers: a prelude that has no room leaves all as it was
   unfoldable pub batchLeaves : (members lengths : List ℕ) → Buffers → Buffers
   batchLeaves members lengths old = if short then old else bytesBuffers settings prelude members lengths old
 

@@ -24,15 +24,16 @@ pub data Meant : Type 0 where
 unfoldable pub seat : (prelude : Scope) → List ℕ
 seat prelude = length (originals (fieldsOf prelude)) ∷ []
 
--- only the prelude's root lies around the member, and its way is none
+-- whether a place is the prelude's or the member's: only the prelude's root lies around the member, and the way to it is empty
 unfoldable pub placed : (way : List ℕ) (field at : ℕ) → Meant
 placed [] field at = inPrelude (record { way = []; field = field; at = at })
 placed (n ∷ way) field at = inMember (record { way = way; field = field; at = at })
 
+-- the declaration at a place that is told from the prelude's root
 unfoldable pub meantBy : Place → Meant
 meantBy p = placed (p .way) (p .field) (p .at)
 
--- outward, over the two inputs: `p` is a place of the member
+-- the outward reading, over the two inputs: `p` is a place of the member
 unfoldable pub memberOutward : (prelude member : Scope) → (p : Place) → Option Meant
 memberOutward prelude member p = Option·map meantBy (outwardInside (seat prelude) (root prelude ∷ []) member p)
 
@@ -41,7 +42,7 @@ unfoldable pub meantEarlier : Meant → (p : Place) → Bool
 meantEarlier (inPrelude d) p = true
 meantEarlier (inMember d) p = isEarlier d p
 
--- counting, in the two outputs
+-- the counting reading, in the two outputs
 unfoldable pub memberCounting : (prelude member : Scope) → (p : Place) → Option Meant
 memberCounting prelude member p = Option·map meantBy (countingInside (seat prelude) (root prelude ∷ []) member p)
 
@@ -52,7 +53,7 @@ unfoldable pub outTo : (names : List ℕ) → Index → Option ℕ
 outTo names (Num d) = some d
 outTo names (Id name) = nearestNamed names name
 
--- what the scope declares that is so far out
+-- what the scope `d` further out declares
 unfoldable pub declaredOut : List Level → (d space name : ℕ) → Option Place
 declaredOut ls d space name = getElem? ls d then λ l. declared l space name
 
@@ -66,7 +67,7 @@ nameIn code names ls (outer space up (Num n) z) = none
 nameIn code names ls (outer space up (Id name) z) = outTo names up then λ d. declaredOut ls d space name
 nameIn code names ls (case name z) = none
 
--- the name in the operand at a place of the member
+-- what the name in the operand at a place of the member means
 unfoldable pub memberMeans : (prelude member : Scope) → (p : Place) → Option Meant
 memberMeans prelude member p =
     Option·map meantBy
@@ -75,6 +76,7 @@ memberMeans prelude member p =
 
 -- ---- the row itself
 
+-- the DECL `at` of a field in the first of these scopes
 unfoldable pub declIn : List Level → (field at : ℕ) → Option Declaration
 declIn [] field at = none
 declIn (l ∷ ls) field at = getElem? (originals (l .fields)) field then λ i. getElem? (headOf i .decls) at
@@ -83,13 +85,14 @@ declIn (l ∷ ls) field at = getElem? (originals (l .fields)) field then λ i. g
 unfoldable pub declAt : Scope → Place → Option Declaration
 declAt s p = around (p .way) (root s) [] then λ ls. declIn ls (p .field) (p .at)
 
--- out of the prelude's form, or out of the member's
+-- the DECL that is meant, out of the prelude's form or out of the member's
 unfoldable pub meantDecl : (prelude member : Scope) → Meant → Option Declaration
 meantDecl prelude member (inPrelude p) = declAt prelude p
 meantDecl prelude member (inMember p) = declAt member p
 
 -- ---- the explainer: every field counts, also in the way to the member's root
 
+-- the way to the member's root, if every field of the prelude counts
 unfoldable pub fullSeat : (prelude : Scope) → List ℕ
 fullSeat prelude = length (items (fieldsOf prelude)) ∷ []
 

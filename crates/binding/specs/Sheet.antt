@@ -1,6 +1,6 @@
 -- R-13, the binding sheet: which declaration each reference must mean, and whether it does.
 -- A slot names a reference by its place and a declaration by its name. The answer goes by what the reference reaches in the output.
--- Only REF rows count as references: an OUTER that stands at a slot's place is none. A number that was written counts by what it reaches in
+-- Only REF rows count as references: an OUTER that stands at a slot's place is not one. A number that was written counts by what it reaches in
 -- the output, like any other. A reference with PATHs reaches its last inserted export alias, whose name no input has.
 use mathlib.Core.Bool.{Bool, true, false, _&&_, _||_, not}
 use mathlib.Core.Option.{Option, none, some}
@@ -19,12 +19,13 @@ use Rattle.rules.specs.Readings.{Place, Spot, original, inserted, useAt}
 use Rattle.places.specs.PlaceRows.{Floor, floorsAt, Located, countedRow}
 use Rattle.moving.specs.Moved.{places, collect}
 
--- meter family, place of a reference, name of the declaration that it must mean
+-- a slot: the meter family, the place of a reference, the name of the declaration that it must mean
 pub record Slot : Type 0 where
   pub family : ℕ
   pub place : ℕ
   pub name : ℕ
 
+-- the answer to a slot
 pub data Binding : Type 0 where
   -- bound as written
   asWritten : Binding
@@ -36,11 +37,13 @@ pub data Binding : Type 0 where
 
 -- ---- the references at a place
 
+-- is the operand a REF with `z` for its place?
 unfoldable pub isRefAt : (z : ℕ) → Operand → Bool
 isRefAt z (ref space at paths z′) = eqb z z′
 isRefAt z (outer space up at z′) = false
 isRefAt z (case name z′) = false
 
+-- the place of the operand there, if it is such a REF
 unfoldable pub refAt : Scope → (z : ℕ) → Place → Option Place
 refAt s z p = useAt s p then λ u. only (isRefAt z (u .operand)) p
 
@@ -65,6 +68,7 @@ unfoldable pub follow : List Floor → Spot → Located → Option Located
 follow fs (original field at) x = some x
 follow fs (inserted h) x = if eqb (h .code) 11 then outerTo fs (h .operands) else some x
 
+-- what an operand reaches, in the first of these scopes
 unfoldable pub reachedFrom : List Floor → Operand → Option Located
 reachedFrom [] o = none
 reachedFrom (f ∷ fs) (ref space (Num n) paths z) = countedRow f space n then λ x. follow (f ∷ fs) (x .standing .spot) x
@@ -72,27 +76,32 @@ reachedFrom (f ∷ fs) (ref space (Id name) paths z) = none
 reachedFrom (f ∷ fs) (outer space up at z) = none
 reachedFrom (f ∷ fs) (case name z) = none
 
+-- what the reference at a place reaches
 unfoldable pub reached : Scope → Place → Option Located
 reached s p = useAt s p then λ u. floorsAt s (p .way) then λ fs. reachedFrom fs (u .operand)
 
 -- ---- the answer to a slot
 
--- has what is reached that name?
+-- bound as written, if what is reached has that name
 unfoldable pub boundTo : (name : ℕ) → Option Located → Binding
 boundTo name none = elsewhere 0
 boundTo name (some x) = if eqb (x .standing .decl .name) name then asWritten else elsewhere (x .row)
 
+-- the answer, where the references at the slot's place stand at these places
 unfoldable pub bound : (after : Scope) (name : ℕ) → List Place → Binding
 bound after name [] = noReference
 bound after name (p ∷ []) = boundTo name (reached after p)
 bound after name (p ∷ q ∷ ps) = several
 
+-- the answer to a slot, by the trees of the input and of the output
 unfoldable pub binding : (before after : Scope) → Slot → Binding
 binding before after slot = bound after (slot .name) (refsAt before (slot .place))
 
+-- the answers to all slots, in their order
 unfoldable pub bindings : (before after : Scope) → List Slot → List Binding
 bindings before after slots = map (binding before after) slots
 
+-- is the slot bound as written?
 unfoldable pub isAsWritten : Binding → Bool
 isAsWritten asWritten = true
 isAsWritten (elsewhere row) = false
@@ -104,13 +113,14 @@ unfoldable pub passes : List Binding → Bool
 passes [] = true
 passes (b ∷ bs) = isAsWritten b && passes bs
 
--- how many are not bound as written
+-- how many slots are not bound as written
 unfoldable pub failing : List Binding → ℕ
 failing [] = 0
 failing (b ∷ bs) = if isAsWritten b then failing bs else suc (failing bs)
 
 -- ---- a sheet as bytes: three little-endian numbers a slot
 
+-- `count` slots, twelve bytes each
 unfoldable pub slotsOf : (count : ℕ) → List ℕ → List Slot
 slotsOf zero bs = []
 slotsOf (suc count) bs =
@@ -125,27 +135,31 @@ allNamed (s ∷ ss) = not (eqb (s .name) 0) && allNamed ss
 unfoldable pub slots : List ℕ → List Slot
 slots sheet = slotsOf (length sheet / 12) sheet
 
--- at most 200 slots, each with a name
+-- is it a sheet? At most 200 slots, each with a name
 unfoldable pub soundSheet : List ℕ → Bool
 soundSheet sheet = eqb (length sheet % 12) 0 && (leb (length sheet) 2400 && allNamed (slots sheet))
 
 -- ---- an accepted input, whatever the output buffer
 
+-- an accepted input: its tree, that of its output, and its resolved form as bytes
 pub record Run : Type 0 where
   pub before : Scope
   pub after : Scope
   -- the resolved form
   pub bytes : List ℕ
 
+-- the tree, if the rows are a form
 unfoldable pub formOf : RowsRead → Option Scope
 formOf (bad place) = none
 formOf (deep place) = none
 formOf (form s) = some s
 
+-- the tree of the output, if the steps accept
 unfoldable pub resultOf : Result (Scope × ℕ) → Option Scope
 resultOf (Result.refused why place) = none
 resultOf (Result.ok r) = some (r .0)
 
+-- the run of an input under one setting, if it is accepted
 unfoldable pub runIn : Setting → (input : List ℕ) → Option Run
 runIn v input =
     let rows = rowCount (v .version) input in
@@ -165,11 +179,12 @@ unfoldable pub areaOf : Option Setting → ℕ
 areaOf none = 0
 areaOf (some v) = v .version .header + 64 * v .version .rows
 
+-- the first of these settings
 unfoldable pub firstOf : List Setting → Option Setting
 firstOf [] = none
 firstOf (v ∷ vs) = some v
 
--- by the input's version; that of the first setting, if the header is of none
+-- how long the working area has to be, by the input's version; by that of the first setting, if the header is not that of any
 unfoldable pub workSize : List Setting → (input : List ℕ) → ℕ
 workSize settings input = areaOf (settingOf settings input orElse firstOf settings)
 
@@ -199,18 +214,19 @@ sheetAnswer settings input resolved sheet room work =
     else if ltb work (workSize settings input) then refused 3 0 []
     else answerFor (runOf settings input) resolved (slots sheet) room
 
--- 0 as written, 1 elsewhere, 2 none, 3 several; then the row or 0
+-- the bytes of an answer: 0 as written, 1 elsewhere, 2 no reference, 3 several; then the row or 0
 unfoldable pub bindingBytes : Binding → List ℕ
 bindingBytes asWritten = bytes 4 0 ++ bytes 4 0
 bindingBytes (elsewhere row) = bytes 4 1 ++ bytes 4 row
 bindingBytes noReference = bytes 4 2 ++ bytes 4 0
 bindingBytes several = bytes 4 3 ++ bytes 4 0
 
+-- the bytes of the answers, eight for each slot
 unfoldable pub answersBytes : List Binding → List ℕ
 answersBytes [] = []
 answersBytes (b ∷ bs) = bindingBytes b ++ answersBytes bs
 
--- a refusal leaves the buffer as it was; the bytes beyond the answers stay
+-- what the buffer for the answers holds: a refusal leaves it as it was; the bytes beyond the answers stay
 unfoldable pub answersAfter : SheetAnswer → (old : List ℕ) → List ℕ
 answersAfter (refused number place carried) old = old
 answersAfter (accepted bs) old = answersBytes bs ++ drop (8 * length bs) old

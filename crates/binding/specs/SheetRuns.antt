@@ -154,7 +154,7 @@ no-room :
 unfolding asked resolvedForm form mixed slot Examples.inputBytes Examples.rawsBytes Tools.computes Rows.computes Tree.computes Shapes.computes Reader.computes Rules.computes Answer.computes Readings.computes PlaceRows.computes Moved.computes Sheet.computes
 no-room = (refl, refl)
 
--- 200 slots are a sheet, and 201 are none
+-- 200 slots are a sheet, and 201 are not
 most-slots : (soundSheet (replicate 2400 1) ≡ true) × (soundSheet (replicate 2412 1) ≡ false)
 unfolding Tools.computes Rows.computes Sheet.computes
 most-slots = (refl, refl)

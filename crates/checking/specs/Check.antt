@@ -25,6 +25,7 @@ pub data Verdict : Type 0 where
 -- ---- condition 2: "no PATH row, the same root OPEN, and scope by scope its fields without a DECL of such a name are the input's in order,
 -- equal but for PATH rows and e, x, y of REF and OUTER"
 
+-- is it a PATH row?
 unfoldable pub isPath : Raw → Bool
 isPath (raw code b e x y z) = eqb code 4
 
@@ -32,10 +33,12 @@ isPath (raw code b e x y z) = eqb code 4
 unfoldable pub kept : Raw → Raw
 kept (raw code b e x y z) = if isIn code (3 ∷ 5 ∷ []) then raw code b 0 0 0 z else raw code b e x y z
 
+-- are all parts of two rows equal?
 unfoldable pub sameParts : (r r′ : Raw) → Bool
 sameParts (raw code b e x y z) (raw code′ b′ e′ x′ y′ z′) =
     eqb code code′ && (eqb b b′ && (eqb e e′ && (eqb x x′ && (eqb y y′ && eqb z z′))))
 
+-- these rows without the PATH rows
 unfoldable pub withoutPaths : List Row → List Row
 withoutPaths [] = []
 withoutPaths (r ∷ rs) = if isPath (encode r) then withoutPaths rs else r ∷ withoutPaths rs
@@ -47,13 +50,16 @@ pub data Claimed : Type 0 where
 
 -- the rows of a claim; all rows of an added field are added, those of a scope that it holds too
 unfoldable mutual
+  -- of a scope: its OPEN and its CLOSE are the input's
   pub scopeClaimed : Scope → List Claimed
   scopeClaimed (scope kind name fs) = own (Open kind name) ∷ (fieldsClaimed fs ++ (own Close ∷ []))
 
+  -- of fields, in order
   pub fieldsClaimed : Fields → List Claimed
   fieldsClaimed end = []
   fieldsClaimed (i ▸ fs) = (if isInserted (headOf i) then map added (itemRows i) else itemClaimed i) ++ fieldsClaimed fs
 
+  -- of a field that is not added
   pub itemClaimed : Item → List Claimed
   itemClaimed (plain h) = map own (headRows h)
   itemClaimed (holds h s) = map own (headRows h) ++ scopeClaimed s
@@ -69,41 +75,47 @@ differs n (own c ∷ cs) (r ∷ rs) =
     else if sameParts (kept (encode c)) (kept (encode r)) then differs (suc n) cs rs
     else some n
 
+-- the first claimed row that breaks condition 2
 unfoldable pub condition2 : (input claim : Scope) → Option ℕ
 condition2 input claim = differs 0 (scopeClaimed claim) (withoutPaths (flatten input))
 
 -- ---- condition 3: "every other field is an alias (codes 9 to 11), its name new in that scope and space, its operands numbers"
 
+-- is it a number, and not a name?
 unfoldable pub isNumber : Index → Bool
 isNumber (Num n) = true
 isNumber (Id name) = false
 
+-- are all numbers or names of an operand numbers?
 unfoldable pub hasNumbers : Operand → Bool
 hasNumbers (ref space at paths z) = isNumber at
 hasNumbers (outer space up at z) = isNumber up && isNumber at
 hasNumbers (case name z) = true
 
--- the first that is not so; `n` is the row of the first, `before` are the scope's DECLs before these
+-- the row of the first DECL whose name is not new; `n` is the row of the first of these, `before` are the scope's DECLs before them
 unfoldable pub notNew : (n : ℕ) (before ds : List Declaration) → Option ℕ
 notNew n before [] = none
 notNew n before (d ∷ ds) =
     if isJust (find before (d .space) (d .name)) then some n else notNew (suc n) (before ++ (d ∷ [])) ds
 
+-- the row of the first operand that has a name; `n` is the row of the first of these
 unfoldable pub notNumber : (n : ℕ) → List Operand → Option ℕ
 notNumber n [] = none
 notNumber n (o ∷ os) = if hasNumbers o then notNumber (suc n) os else some n
 
--- an added field, whose FIELD is row n
+-- the first row of an added field that breaks condition 3; its FIELD is row n
 unfoldable pub noAlias : (n : ℕ) (before : List Declaration) → Head → Option ℕ
 noAlias n before h =
     if isIn (h .code) (9 ∷ 10 ∷ 11 ∷ []) then notNew (suc n) before (h .decls) orElse notNumber (suc n + length (h .decls)) (h .operands)
     else some n
 
--- the first row of an added field that breaks it; row n is the scope's OPEN, the first field, or what follows the item's head
+-- the first row of an added field that breaks condition 3
 unfoldable mutual
+  -- of a scope, whose OPEN is row n
   pub scopeAdded : (n : ℕ) → Scope → Option ℕ
   scopeAdded n (scope kind name fs) = fieldsAdded (suc n) [] fs
 
+  -- of fields, the first of which begins at row n; `before` are the scope's DECLs before these
   pub fieldsAdded : (n : ℕ) (before : List Declaration) → Fields → Option ℕ
   fieldsAdded n before end = none
   fieldsAdded n before (i ▸ fs) =
@@ -111,10 +123,12 @@ unfoldable mutual
       orElse (itemAdded (n + length (headRows (headOf i))) i
       orElse fieldsAdded (n + length (itemRows i)) (before ++ headOf i .decls) fs)
 
+  -- of the scope that a field holds, whose OPEN is row n
   pub itemAdded : (n : ℕ) → Item → Option ℕ
   itemAdded n (plain h) = none
   itemAdded n (holds h s) = scopeAdded n s
 
+-- the first claimed row that breaks condition 3
 unfoldable pub condition3 : (claim : Scope) → Option ℕ
 condition3 claim = scopeAdded 0 claim
 
@@ -122,12 +136,14 @@ condition3 claim = scopeAdded 0 claim
 -- Conditions 2 and 3 have passed: without added fields the fields and operands of the claim (`now`) and of the input (`was`) go together.
 -- A name is looked up as in step C, but among the claim's declarations: the input's are there, and added ones have other names.
 
+-- the number of a REF, if it is one
 unfoldable pub refNumber : Operand → Option ℕ
 refNumber (ref space (Num n) paths z) = some n
 refNumber (ref space (Id name) paths z) = none
 refNumber (outer space up at z) = none
 refNumber (case name z) = none
 
+-- the two numbers of an OUTER, if both are numbers
 unfoldable pub outerNumbers : Operand → Option (ℕ × ℕ)
 outerNumbers (ref space at paths z) = none
 outerNumbers (outer space (Num d) (Num n) z) = some (d, n)
@@ -135,25 +151,29 @@ outerNumbers (outer space (Num d) (Id name) z) = none
 outerNumbers (outer space (Id name) at z) = none
 outerNumbers (case name z) = none
 
+-- the first of these operands
 unfoldable pub first : List Operand → Option Operand
 first [] = none
 first (o ∷ os) = some o
 
+-- what 01 finds, if it does not refuse
 unfoldable pub found : {A : Type 0} → Result A → Option A
 found (Result.refused why place) = none
 found (ok a) = some a
 
--- both there, and equal
+-- both numbers there, and equal
 unfoldable pub same : Option ℕ → Option ℕ → Bool
 same none b = false
 same (some m) none = false
 same (some m) (some n) = eqb m n
 
+-- both pairs there, and equal
 unfoldable pub samePair : Option (ℕ × ℕ) → Option (ℕ × ℕ) → Bool
 samePair none b = false
 samePair (some m) none = false
 samePair (some m) (some n) = eqb (m .0) (n .0) && eqb (m .1) (n .1)
 
+-- the field of a spot, if it is an added one
 unfoldable pub ifAdded : Spot → Option Head
 ifAdded (original field at) = none
 ifAdded (inserted h) = some h
@@ -187,7 +207,7 @@ instanceSpace space = if leb space 6 then 6 else 10
 unfoldable pub plainly : (name : ℕ) → List Declaration → Env
 plainly name ds = record { name = name; entries = standIn 0 ds; before = [] }
 
--- a claimed scope
+-- a claimed scope, as step C sees it
 unfoldable pub table : Scope → Env
 table (scope kind name fs) = plainly name (declarations fs)
 
@@ -199,6 +219,7 @@ module _ (here : Scope) (outside : List Env) where
   nameRight (some m) space name n = eqb n m
   nameRight none space name n = samePair (throughOuter (fieldsOf here) space n) (walk outside 1 space name)
 
+  -- is `n` the right number for this reference of the input?
   unfoldable pub refRight : (space : ℕ) (at : Index) (paths : List ℕ) (z n : ℕ) → Bool
   -- "the written digits for a written number"
   refRight space (Num m) [] z n = eqb n m
@@ -207,10 +228,12 @@ module _ (here : Scope) (outside : List Env) where
   refRight space at (p ∷ ps) z n =
       same (throughPaths (fieldsOf here) space p ps n) (found (numberIn (table here .entries) (instanceSpace space) at z))
 
+  -- the same where the claim has a number or none
   unfoldable pub refNowRight : (space : ℕ) (at : Index) (paths : List ℕ) (z : ℕ) → Option ℕ → Bool
   refNowRight space at paths z none = false
   refNowRight space at paths z (some n) = refRight space at paths z n
 
+  -- is the claimed operand `now` right for the operand `was` of the input?
   unfoldable pub operandRight : (was now : Operand) → Bool
   operandRight (ref space at paths z) now = refNowRight space at paths z (refNumber now)
   -- "for a named OUTER, the numbers that denote what 01 says"; one of two numbers stays as written
@@ -223,15 +246,17 @@ module _ (here : Scope) (outside : List Env) where
   notRight n (o ∷ now) [] = none
   notRight n (o ∷ now) (w ∷ was) = if operandRight w o then notRight (suc n) now was else some n
 
-  -- those of a field, whose FIELD is row n
+  -- the first claimed operand of a field that is not right; its FIELD is row n
   unfoldable pub headOperands : (n : ℕ) (now was : Head) → Option ℕ
   headOperands n now was = notRight (suc n + length (now .decls)) (now .operands) (was .operands)
 
--- the first row that breaks it; row n is the scope's OPEN, the first field, or the item's FIELD
+-- the first row of an operand that breaks condition 4
 unfoldable mutual
+  -- of a scope, whose OPEN is row n
   pub scopeOperands : (n : ℕ) (now : Scope) (outside : List Env) (was : Scope) → Option ℕ
   scopeOperands n (scope kind name fs) outside was = fieldsOperands (suc n) fs (scope kind name fs) outside (fieldsOf was)
 
+  -- of fields, the first of which begins at row n; added ones are passed over
   pub fieldsOperands : (n : ℕ) (now : Fields) (here : Scope) (outside : List Env) (was : Fields) → Option ℕ
   fieldsOperands n end here outside was = none
   fieldsOperands n (i ▸ now) here outside end = none
@@ -239,23 +264,25 @@ unfoldable mutual
       if isInserted (headOf i) then fieldsOperands (n + length (itemRows i)) now here outside (w ▸ was)
       else (itemOperands n i here outside w orElse fieldsOperands (n + length (itemRows i)) now here outside was)
 
+  -- of a field and of the scope that it holds; its FIELD is row n
   pub itemOperands : (n : ℕ) (now : Item) (here : Scope) (outside : List Env) (was : Item) → Option ℕ
   itemOperands n (plain h) here outside was = headOperands here outside n h (headOf was)
   itemOperands n (holds h s) here outside (plain w) = headOperands here outside n h w
   itemOperands n (holds h s) here outside (holds w t) =
       headOperands here outside n h w orElse scopeOperands (n + length (headRows h)) s (table here ∷ outside) t
 
+-- the first claimed row that breaks condition 4
 unfoldable pub condition4 : (input claim : Scope) → Option ℕ
 condition4 input claim = scopeOperands 0 claim [] input
 
 -- ---- the verdict
 
--- a condition, and then what comes after it
+-- a no where the condition is broken at a row, else the verdict `v`
 unfoldable pub unless : (condition : ℕ) → Option ℕ → Verdict → Verdict
 unless condition none v = v
 unless condition (some row) v = no condition row
 
--- "tried in this order"
+-- conditions 2 to 4, "tried in this order"
 unfoldable pub conditions : (input claim : Scope) → Verdict
 conditions input claim = unless 2 (condition2 input claim) (unless 3 (condition3 claim) (unless 4 (condition4 input claim) yes))
 
@@ -265,19 +292,22 @@ unfoldable pub ofClaim : (input : Scope) → AnswerOf Scope → Verdict
 ofClaim input (AnswerOf.refused number place carried) = no 1 place
 ofClaim input (accepted claim) = conditions input claim
 
+-- the steps' refusal of the input, or the verdict on the claim
 unfoldable pub ofSteps : Result (Scope × ℕ) → (input : Scope) (claim : AnswerOf Scope) → Verdict
 ofSteps (Result.refused why place) input claim = refused (numberOf why) place (carriedBy why)
 ofSteps (ok r) input claim = ofClaim input claim
 
+-- the input's refusal, or the verdict after its steps
 unfoldable pub ofInput : RuleSet → (input claim : AnswerOf Scope) → Verdict
 ofInput rules (AnswerOf.refused number place carried) claim = refused number place carried
 ofInput rules (accepted input) claim = ofSteps (resolve rules input) input claim
 
--- the claim is held to the setting that the input asks for
+-- the verdict under this setting: the claim is held to it too; refusal 1, if the input's header is not that of any
 unfoldable pub verdictFor : Option Setting → (input claim : List ℕ) → Verdict
 verdictFor none input claim = refused 1 0 []
 verdictFor (some s) input claim = ofInput (s .rules) (readForm s input) (readForm (asClaimed s) claim)
 
+-- the verdict on a claimed output of an input
 unfoldable pub verdict : List Setting → (input claim : List ℕ) → Verdict
 verdict settings input claim = verdictFor (settingOf settings input) input claim
 

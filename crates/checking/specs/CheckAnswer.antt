@@ -23,6 +23,7 @@ linksOf v = 1024 + slotsOf v
 
 -- ---- the answer: refusal 3 has its place behind 1 and 2 of the input
 
+-- the answer under this setting; refusal 1, if the input's header is not that of any
 unfoldable pub checkFor : Option Setting → (input claim : List ℕ) (slots links : ℕ) → Verdict
 checkFor none input claim slots links = refused 1 0 []
 checkFor (some s) input claim slots links =
@@ -32,7 +33,7 @@ checkFor (some s) input claim slots links =
     else if ltb slots (slotsOf v) || ltb links (linksOf v) then refused 3 0 []
     else verdictFor (some s) input claim
 
--- `slots` and `links` are the lengths of the two areas
+-- the answer to an input and a claim; `slots` and `links` are the lengths of the two areas
 unfoldable pub checkAnswer : List Setting → (input claim : List ℕ) (slots links : ℕ) → Verdict
 checkAnswer settings input claim slots links = checkFor (settingOf settings input) input claim slots links
 
@@ -42,11 +43,12 @@ checkAnswer settings input claim slots links = checkFor (settingOf settings inpu
 unfoldable pub cleared : {A : Type 0} → (size : ℕ) (zero : A) → List A → List A
 cleared size zero old = replicate (length (take size old)) zero ++ drop size old
 
--- the size is that of the version which the input asks for; the first's, if it asks for none that there is
+-- the setting by which the areas have their sizes: the one that the input asks for; the first, if it asks for none of these
 unfoldable pub sizedBy : List Setting → (input : List ℕ) → Option Setting
 sizedBy [] input = none
 sizedBy (s ∷ ss) input = settingOf (s ∷ ss) input orElse some s
 
+-- an area after the call, if its size goes by this setting
 unfoldable pub areaFor : {A : Type 0} → (Version → ℕ) → Option Setting → (zero : A) → List A → List A
 areaFor size none zero old = old
 areaFor size (some s) zero old = cleared (size (s .version)) zero old

@@ -27,7 +27,7 @@ fn up_of(scopes: &[Scope], depth: usize, q: Parts) -> Named
     }
 }
 
-// Whether a claimed OUTER leads so far out, and has the index that the input's OUTER has in that scope.
+// Whether a claimed OUTER leads this far out, and has the index that the input's OUTER has in that scope.
 fn at_right(
     table: &[Slot],
     index: &[u16],

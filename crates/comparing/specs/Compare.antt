@@ -27,11 +27,12 @@ blurPlace c z = if c .places then 0 else z
 unfoldable pub blurName : Choice → ℕ → ℕ
 blurName c n = if c .fresh && ltb topName n then suc topName else n
 
+-- an operand as it counts
 unfoldable pub blurIndex : Choice → Index → Index
 blurIndex c (Num n) = Num n
 blurIndex c (Id n) = Id (blurName c n)
 
--- a row as it counts
+-- a row as it counts under the choice
 unfoldable pub blur : Choice → Row → Row
 blur c (Field code builtin z) = Field code builtin (blurPlace c z)
 blur c (Decl space name z) = Decl space (blurName c name) (blurPlace c z)
@@ -45,19 +46,22 @@ blur c (Export name) = Export name
 
 -- ---- are they the same?
 
+-- the six parts of a row as a list
 unfoldable pub sixParts : Raw → List ℕ
 sixParts (raw code b e x y z) = code ∷ b ∷ e ∷ x ∷ y ∷ z ∷ []
 
+-- the parts of rows, one row after another
 unfoldable pub rowsParts : List Row → List ℕ
 rowsParts [] = []
 rowsParts (r ∷ rs) = sixParts (encode r) ++ rowsParts rs
 
--- the same rows, as far as they count
+-- are these the same rows, as far as they count?
 unfoldable pub same : Choice → (left right : List Row) → Bool
 same c left right = sameNumbers (rowsParts (map (blur c) left)) (rowsParts (map (blur c) right))
 
 -- ---- the two forms side by side
 
+-- what an entry of the list says: the root's OPEN rows differ, a field is only in the left, only in the right, or two lone fields differ
 pub data Kind : Type 0 where
   opening : Kind
   leftOnly : Kind
@@ -74,13 +78,15 @@ unfoldable pub items : Fields → List Item
 items end = []
 items (i ▸ fs) = i ∷ items fs
 
+-- a field that is only in the left
 unfoldable pub onlyLeft : Item → Pair
 onlyLeft i = differs leftOnly (itemRows i) []
 
+-- a field that is only in the right
 unfoldable pub onlyRight : Item → Pair
 onlyRight i = differs rightOnly [] (itemRows i)
 
--- what is left of both: two lone fields of one code are a differing pair
+-- what is left over on both sides: two lone fields of one code are a differing pair
 unfoldable pub rest : (left right : List Item) → List Pair
 rest [] rs = map onlyRight rs
 rest (l ∷ []) [] = onlyLeft l ∷ []
@@ -98,7 +104,7 @@ front c go (l ∷ ls) (r ∷ rs) =
     if same c (itemRows l) (itemRows r) then alike (itemRows l) (itemRows r) ∷ front c go ls rs
     else go (l ∷ ls) (r ∷ rs)
 
--- the same from the back
+-- `go` from the back: both sides are reversed, and what it makes of them is reversed again
 unfoldable pub mirrored : (List Item → List Item → List Pair) → (left right : List Item) → List Pair
 mirrored go ls rs = reverse (go (reverse ls) (reverse rs))
 
@@ -110,6 +116,7 @@ fieldPairs c = front c (mirrored (front c (mirrored rest)))
 unfoldable pub openPair : Choice → (left right : List Row) → Pair
 openPair c l r = if same c l r then alike l r else differs opening l r
 
+-- all rows of two forms side by side
 unfoldable pub formPairs : Choice → (left right : Scope) → List Pair
 formPairs c (scope kind name fs) (scope kind′ name′ fs′) =
     openPair c (Open kind name ∷ []) (Open kind′ name′ ∷ [])
@@ -117,7 +124,7 @@ formPairs c (scope kind name fs) (scope kind′ name′ fs′) =
 
 -- ---- the list
 
--- The left's first row and how many; the right's first row and its rows. Where a side has none, its first row is the one before which they are missing.
+-- An entry of the list: the left's first row and the number of rows there, the right's first row and its rows. Where a side has no rows, its first row is the one before which they are missing.
 pub record Entry : Type 0 where
   pub kind : Kind
   pub left : ℕ
@@ -125,7 +132,7 @@ pub record Entry : Type 0 where
   pub right : ℕ
   pub rows : List Row
 
--- `i` and `j` are the next rows of the left and of the right
+-- the entries for these pairs; `i` and `j` are the next rows of the left and of the right
 unfoldable pub entries : (i j : ℕ) → List Pair → List Entry
 entries i j [] = []
 entries i j (alike l r ∷ ps) = entries (i + length l) (j + length r) ps
@@ -150,36 +157,41 @@ unfoldable pub bothRead : Option Setting → (left right : List ℕ) → AnswerO
 bothRead none left right = refused 1 0 []
 bothRead (some s) left right = readForm (asClaimed s) left andThen λ a. readForm (asClaimed s) right andThen λ b. accepted (a, b)
 
+-- the list for two resolved forms as bytes, or a refusal
 unfoldable pub compared : List Setting → Choice → (left right : List ℕ) → AnswerOf (List Entry)
 compared settings c left right =
     bothRead (settingOf settings left) left right andThen λ t. accepted (differences c (t .0) (t .1))
 
 -- ---- the list as bytes
 
+-- the number of a kind in the list
 unfoldable pub kindNumber : Kind → ℕ
 kindNumber opening = 1
 kindNumber leftOnly = 2
 kindNumber rightOnly = 3
 kindNumber differing = 4
 
+-- an entry as bytes: five numbers of four bytes, and then the right's rows
 unfoldable pub entryBytes : Entry → List ℕ
 entryBytes e =
     bytes 4 (kindNumber (e .kind)) ++ (bytes 4 (e .left) ++ (bytes 4 (e .count) ++ (bytes 4 (e .right) ++ (bytes 4 (length (e .rows)) ++ rowsBytes (e .rows)))))
 
+-- the list as bytes, one entry after another
 unfoldable pub listBytes : List Entry → List ℕ
 listBytes [] = []
 listBytes (e ∷ es) = entryBytes e ++ listBytes es
 
--- `room` is the length of the buffer for the list: refusal 3, last
+-- the list, if there is room for it; `room` is the length of the buffer: refusal 3, last
 unfoldable pub listed : List Setting → Choice → (left right : List ℕ) (room : ℕ) → AnswerOf (List Entry)
 listed settings c left right room =
     compared settings c left right andThen λ es. if ltb room (length (listBytes es)) then refused 3 0 [] else accepted es
 
+-- what the buffer for the list holds after this answer
 unfoldable pub listAfter : AnswerOf (List Entry) → List ℕ → List ℕ
 listAfter (refused number place carried) old = old
 listAfter (accepted es) old = listBytes es ++ drop (length (listBytes es)) old
 
--- what the buffer holds then: the list, and beyond it what it held
+-- what the buffer holds after two forms are compared: the list, and beyond it what it held
 unfoldable pub listOutput : List Setting → Choice → (left right old : List ℕ) → List ℕ
 listOutput settings c left right old = listAfter (listed settings c left right (length old)) old
 

@@ -21,6 +21,7 @@ use Rattle.comparing.specs.Compare
 use Rattle.rules.specs.FurtherRuns.{nested}
 use Rattle.comparing.specs.Compare.{Choice, Entry, compared, listBytes, listed}
 
+-- version 1 with rule set 0
 abbrev pub one : Setting
 one = record { version = version1; rules = today }
 
@@ -33,32 +34,38 @@ pub data Wanted : Type 0 where
   refusal : (number place : ℕ) → Wanted
   list : List ℕ → Wanted
 
+-- is the answer the wanted one?
 unfoldable pub agrees : AnswerOf (List Entry) → Wanted → Bool
 agrees (AnswerOf.refused n p c) (refusal n′ p′) = eqb n n′ && eqb p p′
 agrees (AnswerOf.refused n p c) (list bs) = false
 agrees (accepted es) (refusal n p) = false
 agrees (accepted es) (list bs) = sameNumbers (listBytes es) bs
 
+-- a run: the choice, two forms, and what is wanted
 pub record Run : Type 0 where
   pub choice : Choice
   pub left : List ℕ
   pub right : List ℕ
   pub wanted : Wanted
 
+-- do all these runs come out as wanted?
 unfoldable pub all : List Run → Bool
 all [] = true
 all (r ∷ rs) = agrees (compared base (r .choice) (r .left) (r .right)) (r .wanted) && all rs
 
--- the four choices
+-- of the four choices: nothing is ignored
 abbrev pub nothing : Choice
 nothing = record { places = false; fresh = false }
 
+-- places are ignored
 abbrev pub places : Choice
 places = record { places = true; fresh = false }
 
+-- fresh names are ignored
 abbrev pub names : Choice
 names = record { places = false; fresh = true }
 
+-- both are ignored
 abbrev pub both : Choice
 both = record { places = true; fresh = true }
 
@@ -99,6 +106,7 @@ decoder name at =
     ∷ raw 8 0 0 0 0 0
     ∷ []
 
+-- the form that is written for an input, nothing if it is refused
 unfoldable pub written : Answer → List ℕ
 written (AnswerOf.refused n p c) = []
 written (accepted rs) = formBytes one rs
@@ -109,6 +117,7 @@ build rs =
     let input = root 0 (type 1 0 ++ (type 2 0 ++ rs)) in
     written (answer base input (8 + 4 * length input))
 
+-- runs on small forms, one for each rule
 unfoldable pub runs : List Run
 runs =
     -- equal forms
@@ -169,14 +178,17 @@ refusals =
     ∷ record { choice = nothing; left = root 3 (type 1 5); right = root 3 (take 1 (type 1 5)); wanted = refusal 4 2 }
     ∷ []
 
+-- the runs on small forms come out as wanted
 pub runs-right : all runs ≡ true
 unfolding runs all agrees entry root type import component inputBytes rawsBytes Tools.computes Rows.computes Tree.computes Shapes.computes Reader.computes Rules.computes Answer.computes ReadForm.computes Compare.computes
 runs-right = refl
 
+-- the runs on builds of a driver come out as wanted
 pub builds-right : all builds ≡ true
 unfolding builds build decoder written all agrees entry root type component inputBytes rawsBytes Tools.computes Rows.computes Tree.computes Shapes.computes Reader.computes Rules.computes Answer.computes ReadForm.computes Compare.computes
 builds-right = refl
 
+-- the refusals come out as wanted
 pub refusals-right : all refusals ≡ true
 unfolding refusals all agrees entry root type inputBytes rawsBytes Tools.computes Rows.computes Tree.computes Shapes.computes Reader.computes Rules.computes Answer.computes ReadForm.computes Compare.computes
 refusals-right = refl
@@ -218,24 +230,30 @@ unseen c k n =
     let ns : List ℕ = replicate 6 2147483648 ++ replicate 5 0 in
     agrees (compared base c (every ns) (every (set ns k n))) (list [])
 
+-- is something listed for each of these parts?
 unfoldable pub never : Choice → (n : ℕ) → List ℕ → Bool
 never c n [] = true
 never c n (k ∷ ks) = not (unseen c k n) && never c n ks
 
+-- is nothing listed for any of these parts?
 unfoldable pub always : Choice → (n : ℕ) → List ℕ → Bool
 always c n [] = true
 always c n (k ∷ ks) = unseen c k n && always c n ks
 
+-- the parts of `every` that are names
 abbrev pub ofNames : List ℕ
 ofNames = 0 ∷ 1 ∷ 2 ∷ 3 ∷ 4 ∷ 5 ∷ []
 
+-- the parts of `every` that are places
 abbrev pub ofPlaces : List ℕ
 ofPlaces = 6 ∷ 7 ∷ 8 ∷ 9 ∷ 10 ∷ []
 
+-- another fresh name is listed unless fresh names are ignored; an original one always is
 pub names-right : (never places 2147483649 ofNames && (always names 2147483649 ofNames && never both 5 ofNames)) ≡ true
 unfolding every unseen never always agrees root inputBytes rawsBytes Tools.computes Rows.computes Tree.computes Shapes.computes Reader.computes Rules.computes Answer.computes ReadForm.computes Compare.computes
 names-right = refl
 
+-- another place is listed unless places are ignored
 pub places-right : (never names 1 ofPlaces && always places 1 ofPlaces) ≡ true
 unfolding every unseen never always agrees root inputBytes rawsBytes Tools.computes Rows.computes Tree.computes Shapes.computes Reader.computes Rules.computes Answer.computes ReadForm.computes Compare.computes
 places-right = refl

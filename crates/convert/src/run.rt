@@ -51,7 +51,7 @@ fn place_of(version: u32, from: usize) -> usize
     if from == 2 { 2 } else { 1 }
 }
 
-// Whether it has not: version 1 has rule set 0 alone.
+// Whether the version asked for lacks the rule set of the form's setting: version 1 has rule set 0 alone.
 fn lacks(version: u32, from: usize) -> bool
     ensures { λ r. ⌜ r ≡ lacksT version from ⌝ }
 {
@@ -126,7 +126,7 @@ fn convert_sized(form: &[u8], from: usize, rows: usize, version: u32, out: &mut 
     }
 }
 
-// Writes the form as one of the version of this number to the front of `out`. A refusal leaves `out` as it was.
+// Writes the form to the front of `out`, as a form of the version with this number. A refusal leaves `out` as it was.
 pub fn convert(form: &[u8], version: u32, out: &mut [u8]) -> Answer
     ensures { λ r. ⌜ (meaning r ≡ mapAnswer (rowsSaid all) (converted all version (now (form .entry)) (length (now (out .entry))))) × (now (out .exit) ≡ convertedOutput all version (now (form .entry)) (now (out .entry))) ⌝ }
 {

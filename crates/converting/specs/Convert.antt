@@ -19,7 +19,7 @@ unfoldable pub versionOf : List Setting → (number : ℕ) → Option Version
 versionOf [] number = none
 versionOf (s ∷ ss) number = only (eqb (s .version .number) number) (s .version) orElse versionOf ss number
 
--- the setting of these numbers
+-- the setting with this version and this rule set, by their numbers
 unfoldable pub settingWith : List Setting → (version rules : ℕ) → Option Setting
 settingWith [] version rules = none
 settingWith (s ∷ ss) version rules = only (eqb (s .version .number) version && eqb (s .rules .number) rules) s orElse settingWith ss version rules
@@ -49,7 +49,7 @@ ifForm s t input (bad place) = refused 4 place []
 ifForm s t input (deep place) = refused 5 place []
 ifForm s t input (form tree) = withinLimits s t input
 
--- and before them 2, and 3 if the converted form has no room
+-- before them come 2, and 3 if there is no room for the converted form
 unfoldable pub convertedIn : (s : Setting) → Option Setting → (header : ℕ) (input : List ℕ) (room : ℕ) → AnswerOf (List ℕ)
 convertedIn s t header input room =
     let v = s .version in
@@ -58,7 +58,7 @@ convertedIn s t header input room =
     else if ltb room (header + 16 * rows) then refused 3 0 []
     else ifForm s t input (read (s .rules) (v .scopes) (rowsIn s input))
 
--- refusal 1 if the header is that of no setting, or the version asked for is none
+-- refusal 1 if the header is not that of any setting, or there is no version of the number asked for
 unfoldable pub convertedFor : List Setting → Option Setting → Option Version → (version : ℕ) (input : List ℕ) (room : ℕ) → AnswerOf (List ℕ)
 convertedFor settings none to version input room = refused 1 0 []
 convertedFor settings (some s) none version input room = refused 1 0 []
@@ -71,21 +71,21 @@ converted settings version input room = convertedFor settings (settingOf setting
 
 -- ---- the output buffer
 
--- the form, and behind it what was there; a refusal leaves it as it was
+-- what the output buffer holds after this answer: the form, and behind it what was there; a refusal leaves it as it was
 unfoldable pub bufferAfter : AnswerOf (List ℕ) → (old : List ℕ) → List ℕ
 bufferAfter (refused number place carried) old = old
 bufferAfter (accepted new) old = new ++ drop (length new) old
 
--- what the output buffer holds then
+-- what the output buffer holds after an input is converted
 unfoldable pub convertedOutput : List Setting → (version : ℕ) (input old : List ℕ) → List ℕ
 convertedOutput settings version input old = bufferAfter (converted settings version input (length old)) old
 
--- how many rows the header of a form says
+-- the row count in the header of a form, under this setting
 unfoldable pub saidBy : Option Setting → List ℕ → ℕ
 saidBy none input = 0
 saidBy (some s) input = rowCount (s .version) input
 
--- how many rows a form says it has, by the setting that its header asks for
+-- the row count in the header of a form, under the setting that the header asks for
 unfoldable pub rowsSaid : List Setting → List ℕ → ℕ
 rowsSaid settings input = saidBy (settingOf settings input) input
 

@@ -60,7 +60,7 @@ fn say_why(number: u32, is_left: bool) {
     }
 }
 
-// A form that is none cannot be compared.
+// Says why a file cannot be compared.
 fn say_trouble(path: &[u8], refusal: Refusal, is_left: bool) {
     say(STDERR_FILENO, path);
     say(STDERR_FILENO, b": ");
@@ -100,7 +100,7 @@ fn say_equal(set: u8) {
     say(STDOUT_FILENO, b"\n");
 }
 
-// In words, or as objects of JSON, of which there are none if nothing differs.
+// In words, or as objects of JSON; if nothing differs there is no object.
 fn say_listed(names: &[u8], left: &[u8], right: &[u8], list: &[u8], set: u8) -> u8 {
     let before = error_noted();
     if list.len() == 0 {

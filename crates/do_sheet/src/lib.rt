@@ -36,7 +36,7 @@ use told::tell_whole;
 use words::say;
 use words::say_number;
 
-// The refusal of what is no sheet, or none of these forms.
+// The refusal of what is not a sheet, or not one of these forms.
 const NO_SHEET: u32 = 15;
 
 // The last line: whether all slots are bound as written.

@@ -27,6 +27,7 @@ use Rattle.earlier.specs.Tested.{instanceSpace}
 
 -- ---- the field
 
+-- field `f` of a scope, `i`, as the steps let it pass: what step B made of it, and step C of that
 pub record Passed (fs : Fields) (f : ℕ) (ds : List Declaration) (here : Env) (outside : Outside) (i : Item) : Type 0 where
   pub seen : Before
   pub seen-is : seen .decls ≡ outside .before .decls ++ firsts f fs
@@ -90,6 +91,7 @@ passed (i₀ ▸ fs) (suc f) ds here outside b k r i low eq ei =
 
 -- ---- the scope at the end of a way
 
+-- an operand of an accepted run: the scope at the end of `way` that the run came to, its field `f` and operand `o` there, and what the steps let pass
 pub record Came (s : Scope) (outside : Outside) (way : List ℕ) (f o : ℕ) (u : Use) : Type 0 where
   pub kind : ℕ
   pub name : ℕ
@@ -134,6 +136,7 @@ came-further k p seen ep at-n is C =
       passed = C .passed;
     }
 
+-- an accepted run came to every operand
 pub came : (way : List ℕ) (s : Scope) (outside : Outside) (k : ℕ) (r : Scope × ℕ) (w : List ℕ) (ins ls : List Level) (f o : ℕ) (u : Use) → LowScope s → resolveScope s outside k ≡ ok r
     → readings.around way (level w (readings.fieldsOf s)) ins ≡ some ls → readings.useIn ls f o ≡ some u → Came s outside way f o u
 unfolding readings.around resolveScope
@@ -206,12 +209,13 @@ module _ (ds : List Declaration) (outside : Outside) (space name p : ℕ) (ps : 
       operand-on k = unfold expandOperand steps.through in if-both (OkR _) _ _ _ tt (paths-on space name p ps z k)
   operands-on k (x ∷ os) (suc o) e = bind-any _ _ _ (λ x′. bind-ok _ _ _ _ (operands-on (x′ .k) os o e) (λ xs I. record { x = I .x; z = I .z; in-it = in-right (x′ .inserted) (I .in-it); on = I .on }))
 
+  -- of a path in a field, the first inserted alias is on the instance that the path begins with
   pub head-on : (k : ℕ) (h : Head) (o : ℕ) → hereOnly (h .code) ≡ false → getElem? (h .operands) o ≡ some (ref space (Id name) (p ∷ ps) z)
       → OkR (λ e. OnInstance (instanceSpace space ps) name (e .inserted)) (expandHead ds outside k h)
   unfolding expandHead if_then_else_
   head-on k h o c e = rw c (bind-ok _ _ _ _ (operands-on k (h .operands) o e) (λ es I. I))
 
--- what step C let pass of it
+-- what step C let pass of the instance that a path begins with
 pub record InstancePassed (here : Env) (outside : Outside) (os : List Operand) (from name z : ℕ) : Type 0 where
   pub number : ℕ
   pub timely : steps.lateInstance here outside os ≡ false
@@ -224,6 +228,7 @@ resolved-on here outside h from name z on = bind-ok _ _ _ _ (subst (λ (os : Lis
     first-found : OkR (λ os′. (n : ℕ) × (steps.numberIn (here .entries) from (Id name) z ≡ ok n)) (resolveOperands here outside (h .z) [] (ref from (Id name) [] z ∷ []))
     first-found = unfold resolveOperands in bind-eq _ _ _ (λ n e. bind-any _ (ok []) _ (λ os. (n, e)))
 
+-- step C let that instance pass: it is in the table, and not late
 pub instance-passed : (here : Env) (outside : Outside) {x : Head} (from name z : ℕ) (hs : List Head) → In x hs → x .operands ≡ ref from (Id name) [] z ∷ []
     → OkR (λ hs′. InstancePassed here outside (x .operands) from name z) (resolveInserted here outside hs)
 unfolding resolveInserted
@@ -244,10 +249,12 @@ module _ (space : ℕ) (up at : Index) (z : ℕ) where
   operands-keep ds outside k (x ∷ os) zero e = rw (some-same x _ e) (bind-ok _ _ _ _ (operand-keeps ds outside k) (λ x′ q. bind-any _ _ _ (λ xs. ap {B = Option Operand} some q)))
   operands-keep ds outside k (x ∷ os) (suc o) e = bind-any _ _ _ (λ x′. bind-ok _ _ _ _ (operands-keep ds outside (x′ .k) os o e) (λ xs q. q))
 
+  -- step B leaves an OUTER of a field as it is
   pub head-keeps : (ds : List Declaration) (outside : Outside) (k : ℕ) (h : Head) (o : ℕ) → getElem? (h .operands) o ≡ some (outer space up at z) → OkR (λ e. getElem? (e .now .operands) o ≡ some (outer space up at z)) (expandHead ds outside k h)
   unfolding expandHead steps.as-it-is withOperands
   head-keeps ds outside k h o e = if-both (OkR _) _ _ _ e (bind-ok _ _ _ _ (operands-keep ds outside k (h .operands) o e) (λ es q. q))
 
+  -- step C turned the OUTER into numbers
   abbrev pub OuterPassed : (here : Env) (outside : Outside) → Type 0
   OuterPassed here outside = (fz : ℕ) × (x : Operand) × (steps.resolveOuter (outside .early) (opened here outside) fz space up at z ≡ ok x)
 
@@ -259,6 +266,7 @@ module _ (space : ℕ) (up at : Index) (z : ℕ) where
   operands-pass here outside fz seen (outer space₁ up₁ at₁ z₁ ∷ os) (suc o) e = bind-any _ _ _ (λ n. bind-ok _ _ _ _ (operands-pass here outside fz seen os o e) (λ os′ q. q))
   operands-pass here outside fz seen (case name z₁ ∷ os) (suc o) e = if-both (OkR _) _ _ _ tt (bind-ok _ _ _ _ (operands-pass here outside fz (name ∷ seen) os o e) (λ os′ q. q))
 
+  -- so it did with each OUTER of a field
   pub head-passes : (here : Env) (outside : Outside) (h : Head) (o : ℕ) → getElem? (h .operands) o ≡ some (outer space up at z) → OkR (λ h′. OuterPassed here outside) (resolveHead here outside h)
   unfolding resolveHead
   head-passes here outside h o e = bind-ok _ _ _ _ (operands-pass here outside (h .z) [] (h .operands) o e) (λ os q. q)

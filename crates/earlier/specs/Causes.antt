@@ -41,7 +41,7 @@ isLate not-earlier = true
 other : {X : Type 0} {why : Refusal} → isLate why ≡ false → why ≡ not-earlier → X
 other q e = false-not (sym q ∙ ap isLate e)
 
--- what holds of a refusal with 13
+-- where the step refuses with 13, this holds of its place
 abbrev pub Late13 : {A : Type 0} → (ℕ → Type 0) → steps.Result A → Type 0
 Late13 Q m = RefR (Is not-earlier Q) m
 
@@ -73,7 +73,7 @@ pub data Cause (ds : List Declaration) (Table : Env → Type 0) (o : Outside) (h
   by-index : (here : Env) → Table here → (space : ℕ) (up : Index) (name fz d : ℕ) (e : Env) → op ≡ outer space up (Id name) z → o .early ≡ true
       → steps.upNumber (opened here o) up fz ≡ ok d → steps.nth (opened here o) d ≡ some e → steps.comesLater (tableOf e) (e .before) space name ≡ true → Cause ds Table o h op z
 
--- one of these operands
+-- one of these operands is the cause
 pub record Blamed (ds : List Declaration) (Table : Env → Type 0) (o : Outside) (h : Head) (os : List Operand) (z : ℕ) : Type 0 where
   pub at : ℕ
   pub op : Operand
@@ -279,7 +279,7 @@ module _ (here : Env) (outside : Outside) where
   unfolding resolveHead
   head-late h = bind-ref _ _ _ (operands-late (h .z) [] (h .operands)) (λ os _. tt)
 
--- ---- step B leaves an OUTER as it is, and makes none of anything else
+-- ---- step B leaves an OUTER as it is, and makes no OUTER of anything else
 
 abbrev WasOuter : Operand → Operand → Type 0
 WasOuter o now = (space : ℕ) (up at : Index) (z : ℕ) → now ≡ outer space up at z → o ≡ outer space up at z
@@ -320,7 +320,7 @@ module _ (ds : List Declaration) (outside : Outside) where
 
 -- ---- a field, a scope, a run
 
--- at the field `f` of these
+-- the cause is an operand of the field `f` of these
 pub record FieldLate (fs : Fields) (ds : List Declaration) (Table : Env → Type 0) (outside : Outside) (z : ℕ) : Type 0 where
   pub f : ℕ
   pub i : Item
@@ -333,7 +333,7 @@ pub record FieldLate (fs : Fields) (ds : List Declaration) (Table : Env → Type
 abbrev pub TableOf : (name : ℕ) (fs : Fields) (outside : Outside) → Env → Type 0
 TableOf name fs outside e = (k : ℕ) × (p : Env × ℕ) × (prepare name fs outside k ≡ ok p) × (p .0 ≡ e)
 
--- in the scope at the end of a way
+-- the cause is in the scope at the end of a way
 pub record ScopeLate (s : Scope) (outside : Outside) (z : ℕ) : Type 0 where
   pub way : List ℕ
   pub kind : ℕ
@@ -432,6 +432,7 @@ item-stop (holds h s) low L = stop-first low L
 mutual
   unfolding resolveScope
 
+  -- a run that is refused with 13 has such a cause, in one of its scopes
   pub scope-late : (s : Scope) (outside : Outside) (k : ℕ) → LowScope s → Late13 (ScopeLate s outside) (resolveScope s outside k)
   scope-late (scope kind name fs) outside k low =
       bind-ref _ _ _

@@ -90,6 +90,7 @@ arrived-step {way} {w} {w′} {m} {f} {ins} {fs} {gs} {out} {out′} {ls} {i} {i
       in-all = reached-step w way m f out (level (w ++ (f ∷ A .v)) (A .gout)) i′ out′ e₁ e₂ e₃ (rw (snoc-append w f (A .v)) at (A .in-all));
     }
 
+-- at the end of every way in the output is such a scope
 pub descend : (way : List ℕ) {w′ : List ℕ} {els : List Level} {fs : Fields} {outside : Outside} {here : Env} {out : Fields} → Here w′ els fs outside here out → (w : List ℕ) (ins : List Level) (ls : List Level)
     → enclosing way (level w′ out) els ≡ some ls → Arrived way w w′ ins fs out ls
 unfolding enclosing readings.around reached

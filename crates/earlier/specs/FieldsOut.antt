@@ -64,9 +64,11 @@ renumbered-behind lo hi (h ∷ hs) m fs a =
 
 -- ---- declared in a part of a list
 
+-- what is in the first of two lists is in both together
 pub has-left : (xs ys : List Declaration) (space name : ℕ) → has xs space name ≡ true → has (xs ++ ys) space name ≡ true
 has-left xs ys space name e = has-append xs ys space name ∙ ap (λ (b : Bool). b || has ys space name) e
 
+-- what is in the second of two lists is in both together
 pub has-right : (xs ys : List Declaration) (space name : ℕ) → has ys space name ≡ true → has (xs ++ ys) space name ≡ true
 has-right xs ys space name e = has-append xs ys space name ∙ (ap (λ (b : Bool). has xs space name || b) e ∙ or-true (has xs space name))
 
@@ -86,6 +88,7 @@ pub data Comes (f : ℕ) (new : List Head) (i : Item) (h : Head) (out : Fields) 
   kept : i′ ≡ i → headOf i′ ≡ h → isInserted (headOf i′) ≡ false → renumbered out j ≡ some f
       → ((space name : ℕ) → has (headsDecls new) space name ≡ true → has (firsts j out) space name ≡ true) → Comes f new i h out j i′
 
+-- field `j` of the output, `i′`: the field of the input from which it comes, and what the steps made of that one
 pub record FieldOut (fs : Fields) (ds : List Declaration) (here : Env) (outside : Outside) (out : Fields) (j : ℕ) (i′ : Item) : Type 0 where
   pub f : ℕ
   pub i : Item
@@ -195,6 +198,7 @@ module _ {i : Item} {fs : Fields} {ds : List Declaration} {here : Env} {outside 
           ap (λ (ds : List Declaration). has ds space name) (behind-all j j′ e)
           ∙ has-right (headsDecls (R .new)) _ space name (has-right (headOf i .decls) _ space name (n space name h)))
 
+-- every field of an accepted run's output comes from a field of the input
 pub field-out : (fs : Fields) (ds : List Declaration) (here : Env) (outside : Outside) (b k : ℕ) (r : Fields × ℕ) (j : ℕ) (i′ : Item)
     → LowFields fs → resolveFields fs ds here outside b k ≡ ok r → getElem? (items (r .0)) j ≡ some i′ → FieldOut fs ds here outside (r .0) j i′
 unfolding items

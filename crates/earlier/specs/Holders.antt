@@ -29,6 +29,7 @@ pub record Holder (steps : List ℕ) (l : Level) (e : Env) : Type 0 where
   pub table : declarations (l .fields) ≡ tableOf e
   pub before : (space name : ℕ) → has (e .before) space name ≡ true → has (firsts through (l .fields)) space name ≡ true
 
+-- the same of each scope around, with its table
 pub data Holders (steps : List ℕ) : List Level → List Env → Type 0 where
   nowhere : Holders steps [] []
   inside : {l : Level} {e : Env} {ls : List Level} {es : List Env} → Holder steps l e → Holders steps ls es → Holders steps (l ∷ ls) (e ∷ es)
@@ -67,6 +68,7 @@ pub record Ends (steps : List ℕ) (ls : List Level) (c space : ℕ) (at : ℕ �
   pub there : getElem? ls i ≡ some l
   pub defined : DefinedBefore steps space (at .1) l
 
+-- a walk that finds something, and nothing late, ends so
 pub walk-ends : {way : List ℕ} {ls : List Level} {es : List Env} → Holders way ls es → (c space name : ℕ) (at : ℕ × ℕ) → walk es c space name ≡ some at
     → steps.comesLaterOut es space name ≡ false → Ends way ls c space at
 unfolding walk steps.comesLaterOut

@@ -39,6 +39,7 @@ pub record OrderedInside (around : Around) (before after : Scope) : Type 0 where
   -- every name that is held to earlier declarations means one
   pub earlier : (p : Place) (x : Name) → testedInside (around .base) (around .ins) (namesOf (around .outside)) before p ≡ some x → EarlierName (around .base) p x
 
+-- the output of an accepted input is ordered so
 pub ordered-inside : (around : Around) → HoldersAround (around .full) (around .els) (around .outside) → {settings : List Setting} {input old : List ℕ} {out : List Row} (A : AcceptedInside around settings input old out)
     → A .setting .rules .early ≡ true → OrderedInside around (A .before) (A .after)
 ordered-inside around holders A early =
@@ -48,7 +49,7 @@ ordered-inside around holders A early =
       earlier = λ p x e. accepted-earlier (A .setting .rules) around (A .before) (A .after, A .next) (A .low) early (A .resolves) p x e;
     }
 
--- of a form by itself
+-- the same of a form by itself
 pub ordered : (settings : List Setting) → AllUsual settings → (input old : List ℕ) → Bytes input → (out : List Row) → answer settings input (length old) ≡ accepted out
     → (A : Accepted settings input old out) × (A .setting .rules .early ≡ true → OrderedInside alone (A .before) (A .after))
 ordered settings l input old bs out e =
@@ -85,6 +86,7 @@ refuses-late (steps.refused why p) z carried e =
     ap (λ (w : steps.Refusal). steps.refused w p) (is-late why number) ∙ ap (steps.refused not-earlier) place
 refuses-late (ok r) z carried e = let c : _≡_ {A = ℕ} 0 1 = cc in absurd (omega arith)
 
+-- an input that is refused with 13 has such a name
 pub late-inside : (around : Around) (settings : List Setting) → AllUsual settings → (input : List ℕ) (room z : ℕ) (carried : List ℕ) → answerInside (around .outside) settings input room ≡ refused 13 z carried
     → LateInside around settings input z
 late-inside around settings l input room z carried e =
@@ -93,7 +95,7 @@ late-inside around settings l input room z carried e =
     let L = late-only (A .v .rules) (around .base) (around .times) (S .s) (low-read (around .outside) (A .v) input (S .s) (A .usual .low) (S .reads)) z (refuses-late (resolveInside (A .v .rules) (around .outside) (S .s)) z carried (S .answers)) in
     record { setting = A .v; asked-for = A .asks; early = L .0; tree = S .s; reads = S .reads; late = L .1 }
 
--- of a form by itself
+-- the same of a form by itself
 pub late : (settings : List Setting) → AllUsual settings → (input : List ℕ) (room z : ℕ) (carried : List ℕ) → answer settings input room ≡ refused 13 z carried → LateInside alone settings input z
 unfolding answer
 late settings l input room z carried e = late-inside alone settings l input room z carried e

@@ -13,6 +13,7 @@ use Rattle.rules.specs.Rules as steps
 use Rattle.rules.specs.Rules.{ok, Outside, expandOperand, expandOperands, expandHead}
 use Rattle.rules.specs.Laws.Results.{OkR, bind-ok, bind-eq, bind-any, always, no-result, some-same, no-option}
 
+-- what is not refused is not late
 pub in-time : (late : Bool) (z : ℕ) (u : Unit {0}) → steps.inTime late z ≡ ok u → late ≡ false
 unfolding steps.inTime if_then_else_
 in-time true z u e = no-result steps.not-earlier z u e
@@ -20,6 +21,7 @@ in-time false z u e = refl
 
 -- the walked name `name` is not late
 module _ (ds : List Declaration) (outside : Outside) (space name z : ℕ) where
+  -- the name is in time
   abbrev pub Timely : Type 0
   Timely = steps.lateName ds outside space name ≡ false
 
@@ -35,6 +37,7 @@ module _ (ds : List Declaration) (outside : Outside) (space name z : ℕ) where
   operands-timely k (x ∷ os) zero e = rw (some-same x _ e) (bind-ok _ _ _ _ (operand-timely k) (λ x′ t. bind-any _ _ _ (λ xs. t)))
   operands-timely k (x ∷ os) (suc o) e = bind-any _ _ _ (λ x′. bind-ok _ _ _ _ (operands-timely (x′ .k) os o e) (λ xs t. t))
 
+  -- step B lets a field pass only if the walked name among its operands is in time
   pub head-timely : (k : ℕ) (h : Head) (o : ℕ) → hereOnly (h .code) ≡ false → getElem? (h .operands) o ≡ some (ref space (Id name) [] z) → OkR (λ e. Timely) (expandHead ds outside k h)
   unfolding expandHead if_then_else_
   head-timely k h o c e = rw c (bind-ok _ _ _ _ (operands-timely k (h .operands) o e) (λ es t. t))

@@ -24,6 +24,7 @@ use Rattle.earlier.specs.Tested.{heldScope, namesAround, nearest, upward
 
 -- ---- the names of the scopes around
 
+-- the names of these scopes
 abbrev pub namesOf : List Env → List ℕ
 namesOf es = map (λ (e : Env). e .name) es
 
@@ -39,6 +40,7 @@ names-step : (n : ℕ) (way : List ℕ) (kind name : ℕ) (fs : Fields) (outside
 unfolding namesAround heldScope _then_
 names-step n way kind name fs outside ns s h e q = rw e q
 
+-- the names of the scopes around a scope that the run has come to are those that its steps see
 pub entered-names : {s : Scope} {outside : Outside} {way : List ℕ} {kind name : ℕ} {fs : Fields} {inner : Outside} → Enters s outside way (scope kind name fs) inner
     → namesAround way s (namesOf (outside .scopes)) ≡ some (name ∷ namesOf (inner .scopes))
 unfolding namesAround
@@ -52,6 +54,7 @@ unfolding nearest steps.named
 nearest-is [] name = refl
 nearest-is (e ∷ es) name = rw (nearest-is es name)
 
+-- an OUTER leads as far out as the steps say
 pub up-is : (es : List Env) (up : Index) (z d : ℕ) → steps.upNumber es up z ≡ ok d → upward (namesOf es) up ≡ some d
 unfolding steps.upNumber upward
 up-is es (Num n) z d e = ap {B = Option ℕ} some (ok-same n d e)
@@ -71,6 +74,7 @@ pub record Scopes (base : List ℕ) (ins : List Level) (names : List ℕ) (s : S
   pub names-are : namesAround way s names ≡ some (namesOf es)
   pub times : Times ((base ++ way) ++ (f ∷ [])) (level w fs ∷ around-it) es
 
+-- every scope that a run has come to is so, at each of its fields
 pub scopes : (base : List ℕ) {ins : List Level} {s : Scope} {outside : Outside} → LowScope s → outside .before .decls ≡ [] → TimesAround base ins (outside .scopes)
     → {way : List ℕ} {kind name : ℕ} {fs : Fields} {inner : Outside} → Enters s outside way (scope kind name fs) inner → (k : ℕ) (p : Env × ℕ) → prepare name fs inner k ≡ ok p
     → (f : ℕ) (seen : Before) → seen .decls ≡ inner .before .decls ++ firsts f fs → Scopes base ins (namesOf (outside .scopes)) s way f fs (opened (p .0) (seeing inner seen))
@@ -110,6 +114,7 @@ unfolding if_then_else_
 later-one true b = refl
 later-one false b = refl
 
+-- in one scope a name comes later by the scope's table exactly if the declaration that it means there is late
 pub late-in-one : {way : List ℕ} {l : Level} {e : Env} → Times way (l ∷ []) (e ∷ []) → (space name : ℕ) → name ≤ topName
     → steps.comesLater (tableOf e) (e .before) space name ≡ lateBy way (outward (l ∷ []) space name)
 late-in-one {e = e} T space name low = alone ∙ late-is T space name low
@@ -119,6 +124,7 @@ late-in-one {e = e} T space name low = alone ∙ late-is T space name low
 
 -- ---- what late says of a declaration
 
+-- late: there is a declaration, and it does not stand earlier
 pub late-declaration : (base way : List ℕ) (f o : ℕ) (d : Option Place) → lateBy ((base ++ way) ++ (f ∷ [])) d ≡ true
     → (x : Place) × (d ≡ some x) × (readings.isEarlier x (record { way = base ++ way; field = f; at = o }) ≡ false)
 unfolding lateBy readings.isEarlier
@@ -129,6 +135,7 @@ not-false : (b : Bool) → not b ≡ false → b ≡ true
 not-false true e = refl
 not-false false e = sym e
 
+-- not late: the declaration stands earlier
 pub early-declaration : (base way : List ℕ) (f o : ℕ) (d : Place) → lateBy ((base ++ way) ++ (f ∷ [])) (some d) ≡ false
     → readings.isEarlier d (record { way = base ++ way; field = f; at = o }) ≡ true
 unfolding lateBy readings.isEarlier

@@ -20,6 +20,7 @@ instanceSpace space (p ∷ more) = 10
 
 -- ---- how far out an OUTER goes
 
+-- the scope that a field holds, if it holds one
 unfoldable pub heldScope : Item → Option Scope
 heldScope (plain h) = none
 heldScope (holds h s) = some s
@@ -31,22 +32,25 @@ namesAround (n ∷ way) (scope kind name fs) outside =
     getElem? (originals fs) n then λ i. heldScope i then λ s.
     namesAround way s (name ∷ outside)
 
--- the nearest that has the name
+-- how far out the nearest scope of that name is
 unfoldable pub nearest : List ℕ → (name : ℕ) → Option ℕ
 nearest [] name = none
 nearest (n ∷ ns) name = if eqb n name then some 0 else Option·map suc (nearest ns name)
 
+-- how far out an OUTER goes: as far as its number says, or to the nearest scope of its name
 unfoldable pub upward : List ℕ → Index → Option ℕ
 upward names (Num d) = some d
 upward names (Id name) = nearest names name
 
 -- ---- the name, and the scopes in which it is looked up, the nearest first
 
+-- a name that is held to earlier declarations, with its space and these scopes
 pub record Name : Type 0 where
   pub scopes : List Level
   pub space : ℕ
   pub name : ℕ
 
+-- the name in an operand that is held to earlier declarations, if it has one; `names` are those of the scopes around it
 unfoldable pub nameOf : (names : List ℕ) → List Level → Head → Operand → Option Name
 nameOf names ls h (ref space (Num n) paths z) = none
 nameOf names ls h (ref space (Id name) [] z) = only (not (hereOnly (h .code))) (record { scopes = ls; space = space; name = name })
@@ -63,11 +67,11 @@ testedInside base outside names s p =
     useInside base outside s p then λ u. namesAround (p .way) s names then λ ns.
     nameOf ns (u .levels) (u .head) (u .operand)
 
--- in a form by itself
+-- the same in a form by itself
 abbrev pub testedAt : Scope → Place → Option Name
 testedAt s p = testedInside [] [] [] s p
 
--- the declaration that it means
+-- the declaration that a name means
 unfoldable pub means : Name → Option Place
 means x = outward (x .scopes) (x .space) (x .name)
 

@@ -13,7 +13,7 @@ ghost use Rattle.unresolve.specs.With.{backWith, outWith, restoredAfter, againA
 ghost use Rattle.unresolve_with.specs.With.{backLent, outLent, lengthsOf, ClearedBack};
 ghost use Rattle.ferhevok.specs.Packed.{packed};
 
-// Writes an input whose output the form is to the front of `out`. After every return the areas are zero up to their sizes.
+// Writes an input that resolves to the form to the front of `out`. After every return the areas are zero up to their sizes.
 #[no_mangle]
 pub extern "C" fn wnt_unresolve(
     form: &[u8],

@@ -24,7 +24,7 @@ fn packed_lists(answer: Answer) -> u64
     }
 }
 
-// Resolves the form into `out`, and lists its written numbers that have moved, and apart those that had no item.
+// Resolves the form into `out`, and lists its written numbers that have moved and, apart from them, those that count to nothing.
 #[no_mangle]
 pub extern "C" fn wnt_moved(form: &[u8], out: &mut [u8], moved: &mut [u8], apart: &mut [u8]) -> u64
     ensures { λ r. ⌜ r ≡ packed (ruled (movedAnswer base (now (form .entry)) (roomsOf (held (now (out .entry)) (now (moved .entry)) (now (apart .entry)))))) ⌝ }

@@ -40,7 +40,7 @@ fn telling(answer: Answer, told: &mut [u32]) -> u64
 }
 
 // Resolves the form into `out`. The first two of `told` are then the space of the name (refusals 6, 8 and 9) and the place of its
-// first declaration (6), else 0. Where `told` has no room for them, the answer is that to an output of no bytes.
+// first declaration (6), else 0. Where `told` has no room for them, the answer is the one for an output of 0 bytes.
 #[no_mangle]
 pub extern "C" fn wnt_resolve_told(form: &[u8], out: &mut [u8], told: &mut [u32]) -> u64
     ensures { λ r. ⌜ r ≡ packed (ruled (answerTold (now (form .entry)) (length (now (out .entry))) (length (now (told .entry)))) .plain) ⌝ }

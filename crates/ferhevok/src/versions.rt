@@ -20,7 +20,7 @@ fn packed_rows(answer: Answer) -> u64
     }
 }
 
-// Writes the form as one of the version of this number to the front of `out`.
+// Writes the form to the front of `out`, as a form of the version with this number.
 #[no_mangle]
 pub extern "C" fn wnt_convert(form: &[u8], version: u32, out: &mut [u8]) -> u64
     ensures { λ r. ⌜ (r ≡ packedAnswer (mapAnswer (rowsSaid all) (converted all version (now (form .entry)) (length (now (out .entry)))))) × (now (out .exit) ≡ convertedOutput all version (now (form .entry)) (now (out .entry))) ⌝ }

@@ -12,7 +12,7 @@ isMarkedT version rules l =
     pick (ltb (length l) 6) false
     (eqb (getD l 0 0) 87 && (eqb (getD l 1 0) 78 && (eqb (getD l 2 0) 84 && (eqb (getD l 3 0) version && (eqb (getD l 4 0) 0 && eqb (getD l 5 0) rules)))))
 
--- two bytes, or four
+-- the row count in a header, of two bytes or of four
 unfoldable pub rowCountT : (long : Bool) → List ℕ → ℕ
 rowCountT long l =
     let low = getD l 6 0 + getD l 7 0 * 256 in

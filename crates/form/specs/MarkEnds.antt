@@ -27,23 +27,25 @@ endAtT code i depth ends bounds =
     (pick (leb (length ends) i) (ends & bounds) (set ends i (getD bounds depth 0 % 4294967296) & set bounds depth i))
     (ends & bounds)))
 
+-- goes on with what is noted
 unfoldable pub withNoted : Noted → (List ℕ → List ℕ → Noted) → Noted
 withNoted (ends & bounds) f = f ends bounds
 
--- the first `left` rows, the last of them first
+-- what the first `left` rows note, the last of them first
 unfoldable pub endsBackT : (most : ℕ) (rows : List ℕ) (left depth : ℕ) (ends bounds : List ℕ) → Noted
 endsBackT most rows zero depth ends bounds = ends & bounds
 endsBackT most rows (suc i) depth ends bounds =
     let d = depthBefore most (codeAt rows i) depth in
     withNoted (endAtT (codeAt rows i) i d ends bounds) (endsBackT most rows i d)
 
+-- the ends alone
 unfoldable pub endsIn : Noted → List ℕ
 endsIn (ends & bounds) = ends
 
--- where this many scopes may be open
+-- the end of each field, where this many scopes may be open
 unfoldable pub endsTo : (most : ℕ) (rows ends : List ℕ) → List ℕ
 endsTo most rows ends = endsIn (endsBackT most rows (length rows / 16) 0 ends (replicate (most + 1) 0))
 
--- in a form of version 1
+-- the end of each field in a form of version 1
 unfoldable pub endsT : (rows ends : List ℕ) → List ℕ
 endsT rows ends = endsTo (version1 .scopes) rows ends

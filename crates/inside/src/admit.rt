@@ -39,7 +39,7 @@ fn refused(number: u32, place: u32) -> Form
     Form::Refused(Refusal { number, place })
 }
 
-// Refusals 1 to 5 of a form that is held to the setting at place i, where the output has so much room; else how many rows it has.
+// Refusals 1 to 5 of a form that is held to the setting at place i, where the output has this much room; else how many rows it has.
 pub fn admitted_inside(form: &[u8], i: usize, room: usize) -> Form
     ensures { λ r. ⌜ (r ≡ formOf (admit (inner (setting i)) (now (form .entry)) room)) × Enough r (inner (setting i)) (now (form .entry)) room ⌝ }
 {

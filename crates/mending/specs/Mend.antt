@@ -16,18 +16,21 @@ use Rattle.read_form.specs.ReadForm.{readForm}
 
 -- ---- pieces and changes
 
+-- a piece of a form: its bytes before and after
 pub record Piece : Type 0 where
   pub before : List ℕ
   pub after : List ℕ
 
+-- the piece with these bytes
 abbrev pub piece : (before after : List ℕ) → Piece
 piece before after = record { before = before; after = after }
 
--- the bytes of all pieces, before and after
+-- the bytes of all pieces before
 unfoldable pub befores : List Piece → List ℕ
 befores [] = []
 befores (p ∷ ps) = p .before ++ befores ps
 
+-- the bytes of all pieces after
 unfoldable pub afters : List Piece → List ℕ
 afters [] = []
 afters (p ∷ ps) = p .after ++ afters ps
@@ -38,7 +41,7 @@ pub record Change : Type 0 where
   pub before : List ℕ
   pub now : ℕ
 
--- the first piece begins at byte `at`
+-- the changes among these pieces; the first piece begins at byte `at`
 unfoldable pub changes : (at : ℕ) → List Piece → List Change
 changes at [] = []
 changes at (p ∷ ps) =
@@ -72,7 +75,7 @@ pub data Fate : Type 0 where
   zeroed : Fate
   two-bits : Fate
 
--- the parts b, e, x, y, z of a row, by its code, 0 first; e of a builtin (19) and of an export (22) says something
+-- what becomes of the parts b, e, x, y, z of a row, by its code, 0 first; e of a builtin (19) and of an export (22) says something
 unfoldable pub fates : (code b : ℕ) → List Fate
 fates code b =
     getD
@@ -89,18 +92,19 @@ fates code b =
     ∷ [])
     code []
 
+-- the bytes of a part after its fate
 unfoldable pub fated : Fate → List ℕ → List ℕ
 fated stays bs = bs
 fated zeroed bs = replicate (length bs) 0
 fated two-bits bs = bytes (length bs) (value bs % 4)
 
--- parts of these widths; what lies behind them stays
+-- the pieces of parts with these widths; what lies behind them stays
 unfoldable pub parts : (widths : List ℕ) → List Fate → List ℕ → List Piece
 parts [] fs bs = piece bs bs ∷ []
 parts (w ∷ ws) [] bs = piece bs bs ∷ []
 parts (w ∷ ws) (f ∷ fs) bs = piece (take w bs) (fated f (take w bs)) ∷ parts ws fs (drop w bs)
 
--- the sixteen bytes of a row
+-- the pieces of a row, by its sixteen bytes
 unfoldable pub rowPieces : List ℕ → List Piece
 rowPieces row =
     let code = value (take 1 row) in let b = value (take 1 (drop 1 row)) in
@@ -116,6 +120,7 @@ closesRoot code depth = eqb code 8 && leb depth 1
 unfoldable pub depthAfter : (code depth : ℕ) → ℕ
 depthAfter code depth = if eqb code 7 then suc depth else if eqb code 8 then depth - 1 else depth
 
+-- `count` CLOSE rows
 unfoldable pub closeRows : (count : ℕ) → List ℕ
 closeRows zero = []
 closeRows (suc count) = encodeRow Close ++ closeRows count
@@ -128,11 +133,13 @@ allRows depth (suc count) bs =
     rowPieces (take 16 bs)
     ++ (if closesRoot code depth then piece (drop 16 bs) [] ∷ [] else allRows (depthAfter code depth) count (drop 16 bs))
 
+-- the pieces behind the header: the whole rows there, and what follows them
 unfoldable pub behindHeader : Version → List ℕ → List Piece
 behindHeader v input = let bs = drop (v .header) input in allRows 0 (length bs / 16) bs
 
 -- ---- the header: "sets the row count to the whole rows left"
 
+-- the pieces of the header: mark and version, rule set, row count, zeros
 unfoldable pub headerPieces : Setting → (count : ℕ) → List ℕ → List Piece
 headerPieces s count input =
     let v = s .version in
@@ -142,6 +149,7 @@ headerPieces s count input =
     ∷ piece (take (v .header - (6 + v .counting)) (drop (v .counting) (drop 6 input))) (replicate (v .header - (6 + v .counting)) 0)
     ∷ []
 
+-- all pieces of a form
 unfoldable pub formPieces : Setting → List ℕ → List Piece
 formPieces s input =
     let rows = behindHeader (s .version) input in
@@ -154,14 +162,16 @@ pub data Mending : Type 0 where
   refused : (number place : ℕ) → Mending
   mended : (form : List ℕ) (list : List Change) → Mending
 
+-- the mended form with its list, if it is read; else its refusal
 unfoldable pub read : AnswerOf Scope → (form : List ℕ) (list : List Change) → Mending
 read (AnswerOf.refused number place carried) form list = refused number place
 read (accepted tree) form list = mended form list
 
+-- refusal 2 does not strike the form: its row count is within the limits and fits its length
 unfoldable pub sized : Version → List ℕ → Bool
 sized v form = between 1 (v .rows) (rowCount v form) && eqb (length form) (v .header + 16 * rowCount v form)
 
--- `room` bytes for the form, `space` bytes for the list
+-- the answer under one setting: `room` bytes for the form, `space` bytes for the list
 unfoldable pub mendIn : Setting → (input : List ℕ) (room space : ℕ) → Mending
 mendIn s input room space =
     let form = afters (formPieces s input) in
@@ -177,14 +187,17 @@ asksFor s input =
     && sameNumbers (take 5 input) (take 5 (Answer.mark s))
     && (eqb (s .version .number) 1 || sameNumbers (take 1 (drop 5 input)) (bytes 1 (s .rules .number)))
 
+-- the first setting whose header it has
 unfoldable pub settingFor : List Setting → List ℕ → Option Setting
 settingFor [] input = none
 settingFor (s ∷ ss) input = only (asksFor s input) s orElse settingFor ss input
 
+-- the answer under this setting; refusal 1, if the header is not that of any
 unfoldable pub mendFor : Option Setting → (input : List ℕ) (room space : ℕ) → Mending
 mendFor none input room space = refused 1 0
 mendFor (some s) input room space = mendIn s input room space
 
+-- the answer to an input: the mended form and the list of changes, or a refusal
 unfoldable pub mend : List Setting → (input : List ℕ) (room space : ℕ) → Mending
 mend settings input room space = mendFor (settingFor settings input) input room space
 
@@ -196,13 +209,13 @@ unfoldable pub mendBuffer : List Setting → (buffer : List ℕ) (long space : �
 mendBuffer settings buffer long space =
     if ltb (length buffer) long then refused 2 0 else mend settings (take long buffer) (length buffer) space
 
--- the mended form, zeros where a cut left bytes behind it, and what lay behind the longer of the two
+-- what the form's buffer holds: the mended form, zeros where a cut left bytes behind it, and what lay behind the longer of the two
 unfoldable pub bufferAfter : Mending → (long : ℕ) (old : List ℕ) → List ℕ
 bufferAfter (refused number place) long old = old
 bufferAfter (mended form list) long old =
     form ++ (replicate (long - length form) 0 ++ drop (length form + (long - length form)) old)
 
--- the list, and what lay behind it
+-- what the list's buffer holds: the list, and what lay behind it
 unfoldable pub listAfter : Mending → (old : List ℕ) → List ℕ
 listAfter (refused number place) old = old
 listAfter (mended form list) old = listBytes list ++ drop (length (listBytes list)) old

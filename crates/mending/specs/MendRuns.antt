@@ -195,7 +195,7 @@ listed =
     (6 ∷ 0 ∷ 0 ∷ 0 ∷ 2 ∷ 0 ∷ 0 ∷ 0 ∷ 2 ∷ 0 ∷ 0 ∷ 0 ∷ 3 ∷ 0 ∷ 0 ∷ 0 ∷ [])
     ++ (56 ∷ 0 ∷ 0 ∷ 0 ∷ 0 ∷ 0 ∷ 0 ∷ 0 ∷ 16 ∷ 0 ∷ 0 ∷ 0 ∷ 165 ∷ 165 ∷ [])
 
--- three bytes behind the root's CLOSE are cut, and become zero; the two behind them are none of the form's
+-- three bytes behind the root's CLOSE are cut, and become zero; the two behind them are not the form's
 abbrev longer-by-five : List ℕ
 longer-by-five = bytesOf (root []) ++ (1 ∷ 2 ∷ 3 ∷ 165 ∷ 165 ∷ [])
 

@@ -22,12 +22,15 @@ pub record WithLists : Type 0 where
   pub moved : List MovedNumber
   pub apart : List NoItem
 
+-- the answer to an input: the rows and the two lists, or a refusal
 abbrev pub MovedAnswer : Type 0
 MovedAnswer = AnswerOf WithLists
 
+-- what is accepted, by the trees of the input and of the output
 unfoldable pub listed : (before after : Scope) → WithLists
 listed before after = record { rows = flatten after; moved = moved before after; apart = apart before }
 
+-- refusals 4 and 5; of a form what the steps answer, with the lists
 unfoldable pub ofReading : RuleSet → RowsRead → MovedAnswer
 ofReading rules (bad place) = refused 4 place []
 ofReading rules (deep place) = refused 5 place []
@@ -39,11 +42,11 @@ pub record Rooms : Type 0 where
   pub moved : ℕ
   pub apart : ℕ
 
--- the output has the room that it needs without the lists; they have room for an entry of 16 bytes and of 12 bytes a row
+-- is a buffer too short? The output needs as many bytes as without the lists; the lists need 16 and 12 bytes for each row
 unfoldable pub tooShort : Setting → (rows : ℕ) → Rooms → Bool
 tooShort v rows rooms = ltb (rooms .out) (v .version .header + 64 * rows) || (ltb (rooms .moved) (16 * rows) || ltb (rooms .apart) (12 * rows))
 
--- refusals 2 and 3, then the reading, in the order of `formIn`
+-- the answer under one setting: refusals 2 and 3, then the reading, in the order of `formIn`
 unfoldable pub movedIn : Setting → (input : List ℕ) → Rooms → MovedAnswer
 movedIn v input rooms =
     let rows = rowCount (v .version) input in
@@ -51,6 +54,7 @@ movedIn v input rooms =
     else if tooShort v rows rooms then refused 3 0 []
     else ofReading (v .rules) (read (v .rules) (v .version .scopes) (rowsIn v input))
 
+-- the answer under this setting; refusal 1, if the header is not that of any
 unfoldable pub movedFor : Option Setting → (input : List ℕ) → Rooms → MovedAnswer
 movedFor none input rooms = refused 1 0 []
 movedFor (some v) input rooms = movedIn v input rooms
@@ -59,7 +63,7 @@ movedFor (some v) input rooms = movedIn v input rooms
 unfoldable pub movedAnswer : List Setting → (input : List ℕ) → Rooms → MovedAnswer
 movedAnswer settings input rooms = movedFor (settingOf settings input) input rooms
 
--- the same without the lists
+-- the same answer without the lists
 unfoldable pub plainly : MovedAnswer → Answer
 plainly a = mapAnswer (λ (l : WithLists). l .rows) a
 
@@ -69,26 +73,27 @@ counts ms ns = 65536 * length ns + length ms
 
 -- ---- the buffers
 
--- place, space, row of the input, row of the output
+-- the bytes of the first list, four for each: place, space, row of the input, row of the output
 unfoldable pub movedBytes : List MovedNumber → List ℕ
 movedBytes [] = []
 movedBytes (m ∷ ms) = (bytes 4 (m .z) ++ (bytes 4 (m .space) ++ (bytes 4 (m .meant) ++ bytes 4 (m .gets)))) ++ movedBytes ms
 
--- place, space, number
+-- the bytes of the list of numbers apart, four for each: place, space, number
 unfoldable pub apartBytes : List NoItem → List ℕ
 apartBytes [] = []
 apartBytes (n ∷ ns) = (bytes 4 (n .z) ++ (bytes 4 (n .space) ++ bytes 4 (n .number))) ++ apartBytes ns
 
--- a refusal leaves the lists as they were; an acceptance writes the entries and zeros behind them up to the size; bytes beyond stay
+-- what the first list's buffer holds: a refusal leaves it as it was; an acceptance writes the entries and zeros behind them up to the size; bytes beyond stay
 unfoldable pub movedAfter : MovedAnswer → (rows : ℕ) → (old : List ℕ) → List ℕ
 movedAfter (refused number place carried) rows old = old
 movedAfter (accepted l) rows old = written (16 * rows) (movedBytes (l .moved)) old
 
+-- the same of the list of numbers apart
 unfoldable pub apartAfter : MovedAnswer → (rows : ℕ) → (old : List ℕ) → List ℕ
 apartAfter (refused number place carried) rows old = old
 apartAfter (accepted l) rows old = written (12 * rows) (apartBytes (l .apart)) old
 
--- what the three hold
+-- what the three buffers hold
 pub record Buffers : Type 0 where
   pub out : List ℕ
   pub moved : List ℕ
@@ -98,15 +103,17 @@ pub record Buffers : Type 0 where
 unfoldable pub roomsOf : Buffers → Rooms
 roomsOf old = record { out = length (old .out); moved = length (old .moved); apart = length (old .apart) }
 
+-- what the three buffers hold after this answer
 unfoldable pub buffersAfter : Setting → MovedAnswer → (rows : ℕ) → Buffers → Buffers
 buffersAfter v a rows old =
     record { out = outputAfter v (plainly a) (v .version .header + 64 * rows) (old .out); moved = movedAfter a rows (old .moved); apart = apartAfter a rows (old .apart) }
 
+-- what they hold under this setting; without one they stay as they were
 unfoldable pub buffersFor : Option Setting → (input : List ℕ) → Buffers → Buffers
 buffersFor none input old = old
 buffersFor (some v) input old = buffersAfter v (movedIn v input (roomsOf old)) (rowCount (v .version) input) old
 
--- what the three buffers hold then
+-- what the three buffers hold after an input is answered
 unfoldable pub buffers : List Setting → (input : List ℕ) → Buffers → Buffers
 buffers settings input old = buffersFor (settingOf settings input) input old
 

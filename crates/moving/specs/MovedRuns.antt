@@ -86,7 +86,7 @@ inner inside =
     ∷ (inside ++ (raw 8 0 0 0 0 0 ∷ [])))
 
 -- an OUTER is read in the scope that it names: by the count 0 and by the name 2 in the inner component, where type 0 has moved from row 7 to
--- the alias at row 7, by the count 1 in the root, where it has not; by the count 5 there is no scope, and it is on neither list
+-- the alias at row 7; with count 1 it is read in the root, where the number has not moved; with count 5 there is no scope, and it is on neither list
 outers : lists (inner (raw 1 11 0 0 0 0 ∷ raw 2 9 0 0 0 0 ∷ raw 5 9 0 0 0 71
     ∷ raw 1 11 0 0 0 0 ∷ raw 2 9 0 0 0 0 ∷ raw 5 9 1 2 0 72
     ∷ raw 1 11 0 0 0 0 ∷ raw 2 9 0 0 0 0 ∷ raw 5 9 0 1 0 73

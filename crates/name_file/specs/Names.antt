@@ -1,4 +1,4 @@
--- What the lines of a file of names say. A line is read byte by byte; `at` tells where it is: 0 at its start, 1 in its number, 2 behind the blank, 3 in its word, 4 behind a CR, and 5 if it is none.
+-- What the lines of a file of names say. A line is read byte by byte; `at` tells where it is: 0 at its start, 1 in its number, 2 behind the blank, 3 in its word, 4 behind a CR, and 5 if it is wrong.
 use mathlib.Core.Bool.{Bool, true, false, not, _&&_, _||_}
 use mathlib.Core.List.{List, [], _∷_}
 use Prim.Native.Nat.{ℕ, _+_, _*_, _-_}
@@ -106,6 +106,6 @@ wrongFrom (byte ∷ bytes) i line count =
 unfoldable pub wordFor : List ℕ → (number : ℕ) → (exported : Bool) → Word
 wordFor names number exported = findFrom names 0 newLine number exported
 
--- the number of the first line that is none, counted from 1; 0 if all are lines
+-- the number of the first line that is wrong, counted from 1; 0 if no line is
 unfoldable pub wrongLine : List ℕ → ℕ
 wrongLine names = wrongFrom names 0 newLine 1

@@ -4,7 +4,7 @@ ghost use mathlib.Core.Path.{_≡_};
 ghost use mathlib.Core.Bool.{true};
 ghost use Rattle.name_file.specs.Names.{newLine, turned, isDigit, isWordByte, longer, withDigit, atStart, inNumber, inWord, behindWord, withByte, isSound, isFor, isOf, wordIn, oneMore, wordFor, wrongLine};
 
-// Where a line is: at its start, in its number, behind the blank, in its word, behind a CR; or it is none.
+// Where a line is: at its start, in its number, behind the blank, in its word, behind a CR; or it is wrong.
 const START: u8 = 0;
 
 const NUMBER: u8 = 1;
@@ -244,7 +244,7 @@ pub fn find(names: &[u8], number: u32, exported: bool) -> Word
     Word { from: 0, to: 0 }
 }
 
-// The number of the first line that is none, counted from 1; 0 if all are lines.
+// The number of the first line that is wrong, counted from 1; 0 if no line is.
 pub fn wrong_line(names: &[u8]) -> u32
     ensures { λ r. ⌜ r ≡ wrongLine (now (names .entry)) ⌝ }
 {

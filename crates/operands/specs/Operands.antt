@@ -19,7 +19,7 @@ spaceSought form row = pick (eqb (yAt form row) 0) (bAt form row) (pick (ltb (bA
 unfoldable pub isWalked : (form : List ℕ) (row : ℕ) → Bool
 isWalked form row = eqb (codeAt form row) 3 && eqb (yAt form row) 0 && not (hereOnly (bAt form (fieldOf form row)))
 
--- the operand of a REF
+-- the operand of a REF, a number or a name
 unfoldable pub keyOf : (form : List ℕ) (row : ℕ) → Key
 keyOf form row = pick (eqb (eAt form row) 0) (Number (xAt form row)) (Name (xAt form row))
 

@@ -38,7 +38,7 @@ enum Turn {
     Wrong,
 }
 
-// Whether an option is in a set of them; 0 is none.
+// Whether an option is in a set of them; 0 is not an option.
 pub fn has(set: u8, option: u8) -> bool
     ensures { λ r. ⌜ r ≡ isIn set option ⌝ }
 {
@@ -64,7 +64,7 @@ fn begins_with_dashes(word: &[u8]) -> bool {
     (word[0] == b'-') & (word[1] == b'-')
 }
 
-// The option of a word, 0 for a word that is none.
+// The option of a word, 0 for a word that is not an option.
 fn option_of(word: &[u8]) -> u8 {
     if same(word, b"--places") {
         PLACES

@@ -18,7 +18,7 @@ fn say_wrong(path: &[u8], line: u32) {
     );
 }
 
-// Reads the file of a path; a line of it that is none is a failure.
+// Reads the file of a path; a line of it that is wrong is a failure.
 fn load_path(path: &[u8], names: &mut [u8; 65536]) -> Loaded {
     match load(path, names) {
         Loaded::Bytes(length) => {

@@ -1,4 +1,4 @@
-// What wnt says of itself: its commands, its version, and that a word is none of its commands.
+// What wnt says of itself: its commands, its version, and that a word is not one of its commands.
 use command::status::DONE;
 use command::status::said;
 use files::standard::error_noted;

@@ -16,23 +16,28 @@ use Rattle.rules.specs.Laws.ToolLaws.{All, done, _&_}
 
 -- ---- lists
 
+-- an element of a mapped list is that element, mapped
 pub elem-map : {A B : Type 0} (g : A → B) (xs : List A) (n : ℕ) → getElem? (map g xs) n ≡ Option·map g (getElem? xs n)
 elem-map g [] n = refl
 elem-map g (x ∷ xs) zero = refl
 elem-map g (x ∷ xs) (suc n) = elem-map g xs n
 
+-- a list put together of two is mapped part by part
 pub map-append : {A B : Type 0} (g : A → B) (xs ys : List A) → map g (xs ++ ys) ≡ map g xs ++ map g ys
 map-append g [] ys = refl
 map-append {B = B} g (x ∷ xs) ys = ap {B = List B} (λ l. g x ∷ l) (map-append g xs ys)
 
 -- ---- the scopes around a place
 
+-- these scopes without their rows
 abbrev pub levels : List Floor → List Level
 levels fs = map (λ (f : Floor). f .level) fs
 
+-- these fields without their rows
 abbrev pub items : List Placed → List Item
 items ps = map (λ (p : Placed). p .item) ps
 
+-- with their rows left out, the original fields are those of the readings
 pub originals-from : (row : ℕ) (fs : Fields) → items (originalsFrom row fs) ≡ originals fs
 unfolding originalsFrom originals if_then_else_
 originals-from row end = refl
@@ -44,6 +49,7 @@ originals-from row (i ▸ fs) = go (isInserted (headOf i)) (originals-from (row 
     go true e = e
     go false e = ap {B = List Item} (λ l. i ∷ l) e
 
+-- so are the scopes around a place, from any scope on
 pub floors-around : (way : List ℕ) (f : Floor) (outside : List Floor) → Option·map levels (floors way f outside) ≡ Readings.around way (f .level) (levels outside)
 unfolding floors Readings.around _then_
 floors-around [] f outside = refl
@@ -70,6 +76,7 @@ floors-at s way = floors-around way (floor (Readings.root s) 1) []
 
 -- ---- the declarations of a scope
 
+-- where a declaration stands, without its row
 abbrev pub standing : Located → Standing
 standing x = x .standing
 
@@ -78,6 +85,7 @@ unfolding inRows
 rows-standing row [] = refl
 rows-standing row (s ∷ ss) = ap {B = List Standing} (λ l. s ∷ l) (rows-standing (suc row) ss)
 
+-- with their rows left out, the declarations of a scope are those of the readings
 pub located-standings : (row n : ℕ) (fs : Fields) → map standing (located row n fs) ≡ standings n fs
 unfolding located standings
 located-standings row n end = refl
@@ -102,6 +110,7 @@ of-space-all {P} (x ∷ xs) space (h & a) = go (eqb (x .standing .decl .space) s
     go true r = h & r
     go false r = r
 
+-- the spot of a declaration that has a row
 abbrev pub spotOf : Located → Spot
 spotOf x = x .standing .spot
 

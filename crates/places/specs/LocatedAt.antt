@@ -24,6 +24,7 @@ floor-step : (n : ℕ) (way : List ℕ) (f : Floor) (outside : List Floor) (i : 
 unfolding floors _then_
 floor-step n way f outside i gs fs e₁ e₂ e₃ = rw (e₁, e₂) e₃
 
+-- one step further: the scopes around the scope that field `n` of the last one holds
 pub floors-on : (w : List ℕ) (g : Floor) (outside : List Floor) (f : Floor) (rest : List Floor) (n : ℕ) (i : Placed) (gs : Fields) → floors w g outside ≡ some (f ∷ rest)
     → getElem? (originalsFrom (f .row) (f .level .fields)) n ≡ some i → Readings.held (i .item) ≡ some gs
     → floors (w ++ (n ∷ [])) g outside ≡ some (floor (level (f .level .way ++ (n ∷ [])) gs) (PlaceRows.insideOf i) ∷ (f ∷ rest))
@@ -50,6 +51,7 @@ own-ways s (n ∷ way) f outside fs e a around-it =
     let s₂ = then-some (Readings.held (s₁ .0 .item)) _ fs (s₁ .2) in
     own-ways s way _ (f ∷ outside) fs (s₂ .2) (_, floors-on (f .level .way) (floor (Readings.root s) 1) [] f (a .0) n (s₁ .0) (s₂ .0) (a .1) (s₁ .1) (s₂ .1)) (a & around-it)
 
+-- each scope around a place is at the end of its own way
 pub all-at-own-way : (s : Scope) (way : List ℕ) (fs : List Floor) → floorsAt s way ≡ some fs → All (AtItsWay s) fs
 unfolding floorsAt floors Readings.root
 all-at-own-way s way fs e = own-ways s way _ [] fs e ([], refl) done
@@ -62,6 +64,7 @@ SpotAt row n fs (original field at) d r =
     (m : ℕ) × (x : Placed) × (field ≡ n + m) × (getElem? (originalsFrom row fs) m ≡ some x) × (getElem? (headOf (x .item) .decls) at ≡ some d) × (r ≡ suc (x .row + at))
 SpotAt row n fs (inserted h) d r = Unit {0}
 
+-- the same of a declaration that has a row
 abbrev pub LocatedIn : (row n : ℕ) → Fields → Located → Type 0
 LocatedIn row n fs x = SpotAt row n fs (x .standing .spot) (x .standing .decl) (x .row)
 
@@ -92,6 +95,7 @@ unfolding originalsFrom if_then_else_
 behind-inserted row n i fs b (original field at) d r (m, x, e₁, e₂, e₃, e₄) = (m, x, e₁, rw b e₂, e₃, e₄)
 behind-inserted row n i fs b (inserted h) d r t = tt
 
+-- so it is for every declaration of these fields
 pub located-in : (row n : ℕ) (fs : Fields) → All (LocatedIn row n fs) (located row n fs)
 unfolding located if_then_else_
 located-in row n end = done
@@ -113,6 +117,7 @@ located-in row n (i ▸ fs) = go (isInserted (headOf i)) refl (λ k. located-in 
 
 -- ---- so it is the one at its place
 
+-- the field of a place, by the scopes around it
 pub field-is : (s : Scope) (p : Place) (f : Floor) (rest : List Floor) (x : Placed) → floorsAt s (p .way) ≡ some (f ∷ rest) → getElem? (originalsFrom (f .row) (f .level .fields)) (p .field) ≡ some x → fieldAt s p ≡ some x
 unfolding fieldAt fieldIn _then_
 field-is s p f rest x e₁ e₂ = rw e₁ e₂

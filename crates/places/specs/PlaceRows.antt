@@ -29,6 +29,7 @@ pub record Floor : Type 0 where
   pub level : Level
   pub row : ℕ
 
+-- the scope `l`, whose first field is at `row`
 abbrev pub floor : Level → ℕ → Floor
 floor l row = record { level = l; row = row }
 
@@ -43,11 +44,13 @@ floors (n ∷ way) f outside =
     getElem? (originalsFrom (f .row) (f .level .fields)) n then λ i. held (i .item) then λ fs.
     floors way (floor (level (f .level .way ++ (n ∷ [])) fs) (insideOf i)) (f ∷ outside)
 
+-- the scopes at the end of a way from the root, with their rows; the root's first field is at row 1
 unfoldable pub floorsAt : Scope → (way : List ℕ) → Option (List Floor)
 floorsAt s way = floors way (floor (root s) 1) []
 
 -- ---- the row of a DECL, of an operand
 
+-- field number `field` of the first of these scopes, with its row
 unfoldable pub fieldIn : List Floor → (field : ℕ) → Option Placed
 fieldIn [] field = none
 fieldIn (f ∷ fs) field = getElem? (originalsFrom (f .row) (f .level .fields)) field
@@ -56,39 +59,45 @@ fieldIn (f ∷ fs) field = getElem? (originalsFrom (f .row) (f .level .fields)) 
 unfoldable pub fieldAt : Scope → Place → Option Placed
 fieldAt s p = floorsAt s (p .way) then λ fs. fieldIn fs (p .field)
 
+-- the declaration at a place
 unfoldable pub declAt : Scope → Place → Option Declaration
 declAt s p = fieldAt s p then λ i. getElem? (headOf (i .item) .decls) (p .at)
 
+-- the operand at a place
 unfoldable pub operandAt : Scope → Place → Option Operand
 operandAt s p = fieldAt s p then λ i. getElem? (headOf (i .item) .operands) (p .at)
 
--- behind the FIELD stand the DECLs, and behind these the operands, each with its PATHs
+-- the row of the DECL `at` of a field: behind the FIELD stand the DECLs, and behind these the operands, each with its PATHs
 unfoldable pub declRow : Placed → (at : ℕ) → ℕ
 declRow i at = suc (i .row + at)
 
+-- the row of the operand `at` of a field
 unfoldable pub operandRowAt : Placed → (at : ℕ) → ℕ
 operandRowAt i at =
     let h = headOf (i .item) in
     suc (i .row + (length (h .decls) + length (operandRows (take at (h .operands)))))
 
+-- the row of the declaration at a place
 unfoldable pub rowOfDecl : Scope → Place → Option ℕ
 rowOfDecl s p = fieldAt s p then λ i. getElem? (headOf (i .item) .decls) (p .at) then λ d. some (declRow i (p .at))
 
+-- the row of the operand at a place
 unfoldable pub rowOfOperand : Scope → Place → Option ℕ
 rowOfOperand s p = fieldAt s p then λ i. getElem? (headOf (i .item) .operands) (p .at) then λ o. some (operandRowAt i (p .at))
 
 -- ---- all declarations of a scope with their rows, the inserted ones among them
 
+-- a declaration, where it stands, and its row
 pub record Located : Type 0 where
   pub standing : Standing
   pub row : ℕ
 
--- one behind another
+-- these declarations one behind another, the first at `row`
 unfoldable pub inRows : (row : ℕ) → List Standing → List Located
 inRows row [] = []
 inRows row (s ∷ ss) = record { standing = s; row = row } ∷ inRows (suc row) ss
 
--- as `standings` has them; the first field is at `row`, and `n` original fields stand before these
+-- the declarations of these fields, as `standings` has them; the first field is at `row`, and `n` original fields stand before these
 unfoldable pub located : (row n : ℕ) → Fields → List Located
 located row n end = []
 located row n (i ▸ fs) =
@@ -96,6 +105,7 @@ located row n (i ▸ fs) =
     inRows (suc row) (if isInserted h then inInserted h (h .decls) else inOriginal n 0 (h .decls))
     ++ located (row + length (itemRows i)) (if isInserted h then n else suc n) fs
 
+-- those of one space, in order
 unfoldable pub locatedOf : List Located → (space : ℕ) → List Located
 locatedOf [] space = []
 locatedOf (x ∷ xs) space = if eqb (x .standing .decl .space) space then x ∷ locatedOf xs space else locatedOf xs space

@@ -19,6 +19,7 @@ use Rattle.places.specs.Counting.{of-space-all}
 
 -- ---- lists
 
+-- an element of the second of two lists that are put together
 pub elem-behind : {A : Type 0} (xs ys : List A) (n : ℕ) → getElem? (xs ++ ys) (length xs + n) ≡ getElem? ys n
 elem-behind [] ys n = ap (getElem? ys) (omega arith)
 elem-behind (x ∷ xs) ys n = let e : suc (length xs) + n ≡ suc (length xs + n) = omega arith in ap (getElem? (x ∷ (xs ++ ys))) e ∙ elem-behind xs ys n
@@ -68,7 +69,7 @@ from-behind xs ys {n} {part} F =
       count = length-append xs (F .before) ∙ (omega (arith, F .count));
     }
 
--- an original field of a scope
+-- the rows of an original field stand, among those of its scope's fields, where its row says
 pub original-from : (row : ℕ) (fs : Fields) (n : ℕ) (x : Placed) → getElem? (originalsFrom row fs) n ≡ some x → (k : ℕ) × (x .row ≡ row + k) × From (fieldsRows fs) k (itemRows (x .item))
 unfolding originalsFrom if_then_else_ flatten
 original-from row end n x e = no-option x e
@@ -104,6 +105,7 @@ item-held (holds h (scope kind name fs)) gs e =
 
 -- ---- the scopes around a place stand where their rows say
 
+-- the fields of a scope are these rows, from the scope's row on
 abbrev pub StandsIn : List Row → Floor → Type 0
 StandsIn rows f = From rows (f .row) (fieldsRows (f .level .fields))
 
@@ -127,6 +129,7 @@ root-stands : (s : Scope) → StandsIn (flatten s) (floor (Readings.root s) 1)
 unfolding flatten Readings.root
 root-stands (scope kind name fs) = record { before = Open kind name ∷ []; behind = Close ∷ []; are = refl; count = refl }
 
+-- each scope around a place stands in the form where its row says
 pub floors-at-stand : (s : Scope) (way : List ℕ) (fs : List Floor) → floorsAt s way ≡ some fs → All (StandsIn (flatten s)) fs
 unfolding floorsAt
 floors-at-stand s way fs e = floors-stand (flatten s) way _ [] fs e (root-stands s) done
@@ -145,9 +148,11 @@ field-stands s p x e =
 
 -- ---- the row of a declaration is its DECL
 
+-- the DECL row of a declaration
 abbrev pub declRowOf : Declaration → Row
 declRowOf d = Decl (d .space) (d .name) (d .z)
 
+-- a field has one DECL row for each declaration
 pub decls-length : (ds : List Declaration) → length (declRows ds) ≡ length ds
 unfolding declRows
 decls-length [] = refl
@@ -181,6 +186,7 @@ decl-row s p r e =
 
 -- ---- the row of an operand is its REF, OUTER or CASE
 
+-- the first row of an operand: its REF, OUTER or CASE
 abbrev pub operandRowOf : Operand → Row
 operandRowOf (ref space at paths z) = Ref space at (length paths) z
 operandRowOf (outer space up at z) = Outer space up at z
@@ -228,6 +234,7 @@ operand-row s p r e =
 abbrev RowIs : List Row → Located → Type 0
 RowIs rows x = getElem? rows (x .row) ≡ some (declRowOf (x .standing .decl))
 
+-- the declarations alone, without where they stand
 abbrev pub declsOf : List Standing → List Declaration
 declsOf ss = map (λ (s : Standing). s .decl) ss
 
@@ -249,6 +256,7 @@ unfolding inOriginal
 old-decls n m [] = refl
 old-decls n m (d ∷ ds) = ap {B = List Declaration} (λ l. d ∷ l) (old-decls n (suc m) ds)
 
+-- the declarations of a field, inserted or not, are its DECLs
 pub own-decls : (b : Bool) (n : ℕ) (h : Head) → declsOf (if b then inInserted h (h .decls) else inOriginal n 0 (h .decls)) ≡ h .decls
 unfolding if_then_else_
 own-decls true n h = new-decls h (h .decls)
@@ -271,6 +279,7 @@ located-rows rows row n (i ▸ fs) F =
     all-append _ _ (rows-are rows (suc row) own (rw (own-decls (isInserted (headOf i)) n (headOf i)) ds))
     (located-rows rows (row + length (itemRows i)) _ fs (subst (λ (m : ℕ). From rows m (fieldsRows fs)) (omega arith) rest))
 
+-- what holds of all elements of a list holds of each
 pub all-at : {A : Type 0} {P : A → Type 0} (xs : List A) (n : ℕ) (x : A) → All P xs → getElem? xs n ≡ some x → P x
 all-at [] n x a e = no-option x e
 all-at {P = P} (y ∷ xs) zero x (h & a) e = subst P (some-same y x e) h

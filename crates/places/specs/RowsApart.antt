@@ -54,6 +54,7 @@ original-order row (i ▸ fs) n m x y e₁ e₂ h = go (isInserted (headOf i)) n
         subst (λ (z : Placed). z .row + length (itemRows (z .item)) ≤ y .row) (some-same _ x e₁) (w .0)
     go false (suc n) (suc m) e₁ e₂ h below = below n m e₁ e₂ (omega arith)
 
+-- a field that holds a scope has its own rows, those of the scope's fields, an OPEN and a CLOSE
 pub item-length : (i : Item) (gs : Fields) → Readings.held i ≡ some gs → length (itemRows i) ≡ length (headRows (headOf i)) + (length (fieldsRows gs) + 2)
 unfolding flatten headOf Readings.held
 item-length (plain h) gs e = no-option gs e
@@ -63,6 +64,7 @@ item-length (holds h (scope kind name fs)) gs e =
     let e₃ = ap (λ (x : Fields). length (fieldsRows x)) (some-same fs gs e) in
     omega (arith, e₁, e₂, e₃)
 
+-- a field has at least its own rows
 pub own-length : (i : Item) → length (headRows (headOf i)) ≤ length (itemRows i)
 unfolding flatten headOf
 own-length (plain h) = omega arith
@@ -168,11 +170,13 @@ field-under : (s : Scope) (p : Place) (x : Placed) → fieldAt s p ≡ some x �
 unfolding fieldAt floorsAt
 field-under s p x e = let s₁ = then-some (floorsAt s (p .way)) _ x e in under-of (p .way) _ [] (s₁ .0) (p .field) x (s₁ .1) (s₁ .2)
 
+-- the number of an element is below the length of the list
 pub elem-lt : {A : Type 0} (xs : List A) (n : ℕ) (x : A) → getElem? xs n ≡ some x → n < length xs
 elem-lt [] n x e = no-option x e
 elem-lt (y ∷ xs) zero x e = omega arith
 elem-lt (y ∷ xs) (suc n) x e = let h = elem-lt xs n x e in omega arith
 
+-- places with the same way, field and number are the same
 pub same-places : (p q : Place) → p .way ≡ q .way → p .field ≡ q .field → p .at ≡ q .at → p ≡ q
 same-places p q e₁ e₂ e₃ = rw (e₁, e₂, e₃)
 
@@ -197,12 +201,14 @@ decls-apart s p q r e₁ e₂ =
         let m = decls-length (headOf (x .item) .decls) in
         record { from = omega (arith, q); to = omega (arith, q, l, n, m) }
 
+-- an operand has at least one row
 pub one-row : (o : Operand) → 1 ≤ length (operandRow o)
 unfolding operandRow
 one-row (ref space at paths z) = omega arith
 one-row (outer space up at z) = omega arith
 one-row (case name z) = omega arith
 
+-- of two operands the later one has more rows before it
 pub rows-less : (os : List Operand) (n m : ℕ) (o : Operand) → getElem? os n ≡ some o → n < m → length (operandRows (take n os)) < length (operandRows (take m os))
 unfolding operandRows
 rows-less [] n m o e h = no-option o e
@@ -214,6 +220,7 @@ rows-less (x ∷ os) (suc n) (suc m) o e h =
     let c = length-append (operandRow x) (operandRows (take n os)) in
     omega (arith, a, b, c)
 
+-- the rows before an operand are fewer than those of all operands
 pub rows-within : (os : List Operand) (n : ℕ) (o : Operand) → getElem? os n ≡ some o → length (operandRows (take n os)) < length (operandRows os)
 unfolding operandRows
 rows-within [] n o e = no-option o e

@@ -31,6 +31,7 @@ use Rattle.plan.specs.declared.insertions.Planned.the-variants.{Done, Re
 abbrev pub Tables : Type 0
 Tables = Out (List Slot) (List ℕ)
 
+-- the next number in 32 bits
 abbrev pub after32 : ℕ → ℕ
 after32 n = (n + 1) % 4294967296
 
@@ -40,9 +41,11 @@ bumpT counts space =
     pick (leb (length counts) space) (0 & counts)
     (getD counts space 0 & set counts space (after32 (getD counts space 0)))
 
+-- the slots in use and the table, with the counts
 unfoldable pub withCountsT : Out ℕ (List Slot) → List ℕ → Out ℕ Tables
 withCountsT (n & t) counts = n & t & counts
 
+-- a slot is entered with the number that the counts give it
 unfoldable pub declareWith : Out ℕ (List ℕ) → List Slot → (used : ℕ) → Slot → Out ℕ Tables
 declareWith (n & counts) names used slot = withCountsT (pushed names used (numberedSlot slot n)) counts
 
@@ -50,10 +53,12 @@ declareWith (n & counts) names used slot = withCountsT (pushed names used (numbe
 unfoldable pub declareT : (names : List Slot) (counts : List ℕ) (used : ℕ) → Slot → Out ℕ Tables
 declareT names counts used slot = declareWith (bumpT counts (spaceOf slot)) names used slot
 
+-- the state after an insertion: `used` slots are in use, and the next fresh name is one higher
 abbrev pub freshened : PlanState → (used : ℕ) → PlanState
 freshened p used =
     record { at = p .at; entered = p .entered; depth = p .depth; used = used; fresh = after32 (p .fresh); first = p .first; before = p .before; early = p .early }
 
+-- the state after an insertion, with the tables that it leaves
 unfoldable pub insertWith : PlanState → Out ℕ Tables → Out PlanState Tables
 insertWith p (used & tables) = freshened p used & tables
 
@@ -62,18 +67,21 @@ unfoldable pub insertAliasT : List Slot → List ℕ → PlanState → (space ro
 insertAliasT names counts p space row out index =
     insertWith p (declareT names counts (p .used) (aliasSlot space (p .fresh) row out index))
 
+-- goes on with what an insertion leaves
 unfoldable pub insertThen : {A : Type 0} → Out PlanState Tables → (List Slot → List ℕ → PlanState → A) → A
 insertThen (p & names & counts) f = f names counts p
 
--- `more` PATHs besides the last
+-- an alias for each PATH; there are `more` besides the last
 unfoldable pub planPathsT : List Slot → List ℕ → PlanState → (space row more : ℕ) → Out PlanState Tables
 planPathsT names counts p space row zero = insertAliasT names counts p space row 0 0
 planPathsT names counts p space row (suc more) =
     insertThen (insertAliasT names counts p 10 row 0 0) λ ns cs q. planPathsT ns cs q space row more
 
+-- what a part of step B answers, with the tables that it leaves
 abbrev pub Step : Type 0
 Step = Out Planned Tables
 
+-- nothing was refused
 unfoldable pub planDoneT : Out PlanState Tables → Step
 planDoneT (p & tables) = Done p & tables
 
@@ -120,6 +128,7 @@ planRefT entered names scopes counts p r =
     (planDoneT (planPathsT names counts p (r .space) (r .row) (r .paths - 1)))))
     (planIndexT (r .at) entered names scopes counts p r)
 
+-- goes on after a part of step B, by `f` if it is done and by `g` if it refused
 unfoldable pub stepThen : {A : Type 0} → Step → (List Slot → List ℕ → PlanState → A) → (Refusal → Told → List Slot → List ℕ → A) → A
 stepThen (Done p & names & counts) f g = f names counts p
 stepThen (Refused why told & names & counts) f g = g why told names counts
@@ -139,6 +148,7 @@ planOperandsT field entered names scopes counts p row i (suc left) =
     (Done p & names & counts)
     (planOperandsT field entered names scopes counts p row (i + 1) left)
 
+-- goes on with what a declaration leaves
 unfoldable pub declareThen : {A : Type 0} → Out ℕ Tables → (List Slot → List ℕ → ℕ → A) → A
 declareThen (used & names & counts) f = f names counts used
 
@@ -155,6 +165,7 @@ planDeclsT field names counts row used i (suc left) =
 unfoldable pub fieldCodeT : List ℕ → ℕ
 fieldCodeT field = fieldCode (rowAt field 0)
 
+-- how many rows of a field stand behind its FIELD
 abbrev pub rowsAfter : List ℕ → ℕ
 rowsAfter field = length field / 16 - 1
 
@@ -164,6 +175,7 @@ planInsertionsT field entered names scopes counts p =
     pick (hereOnly (fieldCodeT field)) (Done p & names & counts)
     (planOperandsT field entered names scopes counts p (p .at) 1 (rowsAfter field))
 
+-- the state with `used` slots in use
 abbrev pub withUsed : PlanState → ℕ → PlanState
 withUsed p used =
     record { at = p .at; entered = p .entered; depth = p .depth; used = used; fresh = p .fresh; first = p .first; before = p .before; early = p .early }
@@ -197,6 +209,7 @@ planFieldsT rows ends entered names scopes counts p (suc turns) =
     (λ ns cs q. planFieldsT rows ends entered ns scopes cs (movedT q (rowNumber (p .at) (length field / 16))) turns) stops)
     (Done p & names & counts)
 
+-- the answer and the table, without the counts
 unfoldable pub planSeenT : Step → Out Planned (List Slot)
 planSeenT (a & names & counts) = a & names
 

@@ -1,4 +1,4 @@
--- A form by itself, with no step readForm on it: its tree, or refusal 1, 2, 4 or 5. No output is written, so that 3 plays no part.
+-- A form by itself, with no step taken on it: its tree, or refusal 1, 2, 4 or 5. No output is written, so that 3 plays no part.
 use mathlib.Core.Bool.{_||_, not}
 use mathlib.Core.List.{List, []}
 use Prim.Native.Nat.{ℕ, _+_, _*_}
@@ -16,12 +16,13 @@ unfoldable pub _andThen_ : {A B : Type 0} → AnswerOf A → (A → AnswerOf B) 
 refused number place carried andThen f = refused number place carried
 accepted a andThen f = f a
 
+-- what rows are read as, as an answer: the tree, or refusal 4 or 5
 unfoldable pub asAnswer : RowsRead → AnswerOf Scope
 asAnswer (bad place) = refused 4 place []
 asAnswer (deep place) = refused 5 place []
 asAnswer (form t) = accepted t
 
--- `s` is the setting that the form is held to: that of an input, or for an output `asClaimed` of it
+-- the tree of a form; `s` is the setting that the form is held to: that of an input, or for an output `asClaimed` of it
 unfoldable pub readForm : Setting → List ℕ → AnswerOf Scope
 readForm s input =
     let v = s .version in

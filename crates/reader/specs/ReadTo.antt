@@ -11,7 +11,7 @@ use Rattle.limits.specs.Held.{settingIn}
 use Rattle.reader.specs.declared.read.RowsRead.{RowsRead}
 use Rattle.reader.specs.declared.read.RowsRead.the-variants.{Whole, Broken, Deep}
 
--- the code's answer for the rules'
+-- the rules' answer as the code gives it
 unfoldable pub answerOf : rules.RowsRead → RowsRead
 answerOf (rules.form tree) = Whole
 answerOf (rules.bad place) = Broken place
@@ -24,6 +24,6 @@ readTo l bytes =
     let v = s .version in
     answerOf (read (s .rules) (v .scopes) (rowsOf (v .names) (length bytes / 16) bytes))
 
--- those of an input of version 1
+-- what the rows of an input of version 1 are read as
 unfoldable pub readOf : (bytes : List ℕ) → RowsRead
 readOf bytes = answerOf (read today (version1 .scopes) (rowsOf (version1 .names) (length bytes / 16) bytes))

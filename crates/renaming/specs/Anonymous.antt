@@ -23,7 +23,7 @@ afterReading (bad place) key = refused 4 place []
 afterReading (deep place) key = refused 5 place []
 afterReading (form s) key = accepted key
 
--- refusals 2 and 3, then the reading; the output has to be as long as the input
+-- the answer under one setting: refusals 2 and 3, then the reading; the output has to be as long as the input
 unfoldable pub anonymousIn : Setting → (input : List ℕ) (room : ℕ) → AnswerOf (List ℕ)
 anonymousIn s input room =
     let v = s .version in
@@ -32,12 +32,12 @@ anonymousIn s input room =
     else if ltb room (length input) then refused 3 0 []
     else afterReading (read (s .rules) (v .scopes) (rowsIn s input)) (keyIn s input)
 
--- refusal 1, if the header is that of no setting
+-- the answer under this setting; refusal 1, if the header is not that of any
 unfoldable pub anonymousFor : Option Setting → (input : List ℕ) (room : ℕ) → AnswerOf (List ℕ)
 anonymousFor none input room = refused 1 0 []
 anonymousFor (some s) input room = anonymousIn s input room
 
--- `room` is the length of the output buffer
+-- the key of an input, or its refusal; `room` is the length of the output buffer
 unfoldable pub anonymous : List Setting → (input : List ℕ) (room : ℕ) → AnswerOf (List ℕ)
 anonymous settings input room = anonymousFor (settingOf settings input) input room
 
@@ -56,7 +56,7 @@ anonymousOutput settings input old = anonymousAfter settings input (anonymous se
 unfoldable pub over : (new old : List ℕ) → List ℕ
 over new old = take (length old) new ++ drop (length new) old
 
--- so does the buffer of the key: the old name of 1, of 2, of 3, …
+-- what the buffer of the key holds: a refusal leaves it as it was; else it begins with the old name of 1, of 2, of 3, …
 unfoldable pub keyAfter : AnswerOf (List ℕ) → (old : List ℕ) → List ℕ
 keyAfter (refused number place carried) old = old
 keyAfter (accepted key) old = over key old

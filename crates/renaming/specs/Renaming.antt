@@ -13,22 +13,24 @@ use Rattle.rules.specs.Answer.{rowCount, settingOf}
 
 -- ---- mappings
 
--- names stay names, and different ones different
+-- a mapping of names to names that keeps different ones different
 pub record Keeps (f : ℕ → ℕ) : Type 0 where
   pub within : (n : ℕ) → 1 ≤ n → n ≤ topName → (1 ≤ f n) × (f n ≤ topName)
   pub apart : (a b : ℕ) → 1 ≤ a → a ≤ topName → 1 ≤ b → b ≤ topName → f a ≡ f b → a ≡ b
 
--- the same of these names alone
+-- a mapping that does so for these names
 pub record KeepsOn (ns : List ℕ) (f : ℕ → ℕ) : Type 0 where
   pub within : (n : ℕ) → isIn n ns ≡ true → (1 ≤ f n) × (f n ≤ topName)
   pub apart : (a b : ℕ) → isIn a ns ≡ true → isIn b ns ≡ true → f a ≡ f b → a ≡ b
 
 -- ---- every name of a row goes through `g`
 
+-- a number stays, a name is mapped
 abbrev pub renamedIndex : (g : ℕ → ℕ) → Index → Index
 renamedIndex g (Num n) = Num n
 renamedIndex g (Id n) = Id (g n)
 
+-- a row with its names mapped; export names are not names of the form
 unfoldable pub renamedRow : (g : ℕ → ℕ) → Row → Row
 renamedRow g (Field code builtin z) = Field code builtin z
 renamedRow g (Decl space name z) = Decl space (g name) z
@@ -40,11 +42,12 @@ renamedRow g (Open kind name) = Open kind (g name)
 renamedRow g Close = Close
 renamedRow g (Export name) = Export name
 
--- the bytes of a row; a row that cannot be taken apart stays
+-- the bytes of a row with its names mapped; a row that cannot be taken apart stays
 unfoldable pub renamedPart : (g : ℕ → ℕ) → Option Row → (bs : List ℕ) → List ℕ
 renamedPart g none bs = take 16 bs
 renamedPart g (some row) bs = encodeRow (renamedRow g row)
 
+-- the bytes of `count` rows, with their names mapped
 unfoldable pub renamedRows : (g : ℕ → ℕ) (count : ℕ) → List ℕ → List ℕ
 renamedRows g zero bs = bs
 renamedRows g (suc count) bs = renamedPart g (decodeRow topName bs) bs ++ renamedRows g count (drop 16 bs)
@@ -63,24 +66,27 @@ renamedIn f s input =
     then take (v .header) input ++ renamedRows (renamed f) (rowCount v input) (drop (v .header) input)
     else input
 
--- and one that no setting takes
+-- so does an input that no setting takes
 unfoldable pub renamedFor : (f : ℕ → ℕ) → Option Setting → List ℕ → List ℕ
 renamedFor f none input = input
 renamedFor f (some s) input = renamedIn f s input
 
+-- an input with its names mapped
 unfoldable pub renamedBytes : (f : ℕ → ℕ) → List Setting → List ℕ → List ℕ
 renamedBytes f settings input = renamedFor f (settingOf settings input) input
 
 -- ---- a mapping by first appearance: the names become 1, 2, 3, … in the order in which they first stand in the rows
 
--- 0 is no name
+-- the name that a part holds: 0 is no name
 unfoldable pub nameIn : ℕ → List ℕ
 nameIn n = if eqb n 0 then [] else n ∷ []
 
+-- the name in an operand
 abbrev pub indexNames : Index → List ℕ
 indexNames (Num n) = []
 indexNames (Id n) = nameIn n
 
+-- the names in a row, in order
 unfoldable pub rowNames : Row → List ℕ
 rowNames (Field code builtin z) = []
 rowNames (Decl space name z) = nameIn name
@@ -98,7 +104,7 @@ namesOf [] = []
 namesOf (none ∷ rows) = namesOf rows
 namesOf (some row ∷ rows) = rowNames row ++ namesOf rows
 
--- each once, where it first stands
+-- each name once, where it first stands; `seen` are those before
 unfoldable pub firsts : (seen : List ℕ) → List ℕ → List ℕ
 firsts seen [] = seen
 firsts seen (n ∷ ns) = if isIn n seen then firsts seen ns else firsts (seen ++ (n ∷ [])) ns
@@ -108,6 +114,7 @@ unfoldable pub placeOf : List ℕ → ℕ → ℕ
 placeOf [] n = 1
 placeOf (m ∷ ms) n = if eqb n m then 1 else suc (placeOf ms n)
 
+-- the mapping by first appearance in these rows
 unfoldable pub byFirst : List (Option Row) → ℕ → ℕ
 byFirst rows n = placeOf (firsts [] (namesOf rows)) n
 

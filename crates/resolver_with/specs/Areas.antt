@@ -29,7 +29,7 @@ abbrev pub lentOf : (entered names : List Slot) (known chains ends : List ℕ) �
 lentOf entered names known chains ends =
     record { entered = length entered; names = length names; known = length known; chains = length chains; ends = length ends }
 
--- none is too small
+-- is each area large enough for this version?
 unfoldable pub roomy : Version → Lent → Bool
 roomy v l =
     leb (slotsFor v) (l .entered) && (leb (slotsFor v) (l .names) && (leb (linksFor v) (l .known) && (leb (linksFor v) (l .chains) && leb (slotsFor v) (l .ends))))

@@ -5,7 +5,7 @@ use Rattle.rules.specs.Tools.{if_then_else_}
 use Rattle.rules.specs.Versions.{Setting, version1, today, all}
 use Rattle.rules.specs.Answer.{hasHeader}
 
--- the first of them
+-- the first of all settings: version 1 with rule set 0
 abbrev pub first : Setting
 first = record { version = version1; rules = today }
 
@@ -14,6 +14,6 @@ unfoldable pub askedIn : List Setting → (input : List ℕ) → Setting
 askedIn [] input = first
 askedIn (s ∷ ss) input = if hasHeader s input then s else askedIn ss input
 
--- by which the sizes of the areas go
+-- the setting by which the areas have their sizes
 unfoldable pub asked : List ℕ → Setting
 asked input = askedIn all input

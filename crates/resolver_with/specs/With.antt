@@ -18,11 +18,11 @@ use Rattle.resolver_with.specs.Asked.{asked}
 unfoldable pub answerWith : (input : List ℕ) (room : ℕ) → Lent → rules.Answer
 answerWith input room lent = answer all input (if roomy (asked input .version) lent then room else 0)
 
--- what the output holds then
+-- what the output holds after that answer
 unfoldable pub outputWith : (input old : List ℕ) → Lent → List ℕ
 outputWith input old lent = if roomy (asked input .version) lent then output all input old else old
 
--- the same under one setting
+-- the answer and the output are those of one setting; `enough`: whether the areas are large enough
 pub record Ran (s : Setting) (enough : Bool) (input old new : List ℕ) (a : Answer) : Type 0 where
   pub answers : meaning a ≡ ruled (answer (s ∷ []) input (if enough then length old else 0))
   pub leaves : new ≡ (if enough then output (s ∷ []) input old else old)

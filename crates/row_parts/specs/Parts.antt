@@ -18,7 +18,7 @@ fieldOf form (suc above) = pick (eqb (codeAt form (suc above)) 1) (suc above) (f
 
 -- ---- exports with an ascribed type
 
--- a FIELD of one
+-- is it the FIELD of such an export?
 unfoldable pub isTyped : (form : List ℕ) (field : ℕ) → Bool
 isTyped form field = eqb (bAt form field) 22 && eqb (eAt form field) 1
 

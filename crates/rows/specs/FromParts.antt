@@ -15,31 +15,39 @@ use Rattle.rows.specs.declared.row.Row.the-variants.{Field, Decl, Ref, P
 unfoldable pub indexOf : (flag x : ℕ) → Index
 indexOf flag x = pick (eqb flag 0) (Number x) (Name x)
 
--- a row of each kind, if the parts can be taken apart
+-- a FIELD, if these parts are those of one; else Broken
 unfoldable pub fieldOf : Parts → Row
 fieldOf p = pick (isField p) (Field (p .b) (p .e) (p .z)) Broken
 
+-- a DECL, whose name reaches to `top`; else Broken
 unfoldable pub declOf : (top : ℕ) → Parts → Row
 declOf top p = pick (isDecl top p) (Decl (p .b) (p .x) (p .z)) Broken
 
+-- a REF, whose name reaches to `top`; else Broken
 unfoldable pub refOf : (top : ℕ) → Parts → Row
 refOf top p = pick (isRef top p) (Ref (p .b) (indexOf (p .e) (p .x)) (p .y) (p .z)) Broken
 
+-- a PATH, else Broken
 unfoldable pub pathOf : Parts → Row
 pathOf p = pick (isLone p) (Path (p .x)) Broken
 
+-- an OUTER, whose names reach to `top`; else Broken
 unfoldable pub outerOf : (top : ℕ) → Parts → Row
 outerOf top p = pick (isOuter top p) (Outer (p .b) (indexOf (p .e % 2) (p .x)) (indexOf (p .e / 2) (p .y)) (p .z)) Broken
 
+-- a CASE, whose name reaches to `top`; else Broken
 unfoldable pub caseOf : (top : ℕ) → Parts → Row
 caseOf top p = pick (isCase top p) (Case (p .x) (p .z)) Broken
 
+-- an OPEN, whose name reaches to `top`; else Broken
 unfoldable pub openOf : (top : ℕ) → Parts → Row
 openOf top p = pick (isOpen top p) (Open (p .b) (p .x)) Broken
 
+-- a CLOSE, else Broken
 unfoldable pub closeOf : Parts → Row
 closeOf p = pick (isClose p) Close Broken
 
+-- an EXPORT, else Broken
 unfoldable pub exportOf : Parts → Row
 exportOf p = pick (isLone p) (Export (p .x)) Broken
 

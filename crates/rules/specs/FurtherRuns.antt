@@ -31,7 +31,7 @@ twoTypes =
     ∷ raw 8 0 0 0 0 0
     ∷ []
 
--- with `n` for the alias's index and `m` for the last reference
+-- its output, with `n` for the alias's index and `m` for the last reference
 unfoldable pub twoTypesOut : (n m : ℕ) → List Raw
 twoTypesOut n m =
     raw 7 0 0 0 0 0
@@ -59,6 +59,7 @@ twiceDeclared =
     ∷ raw 8 0 0 0 0 0
     ∷ []
 
+-- its output, with `count` for the alias's count
 unfoldable pub twiceDeclaredOut : (count : ℕ) → List Raw
 twiceDeclaredOut count =
     raw 7 0 0 0 0 0
@@ -87,6 +88,7 @@ movedType =
     ∷ raw 8 0 0 0 0 0
     ∷ []
 
+-- its output, with `index` for the second alias's index
 unfoldable pub movedTypeOut : (index : ℕ) → List Raw
 movedTypeOut index =
     raw 7 0 0 0 0 0
@@ -119,7 +121,7 @@ cases =
     record { input = raw 7 0 0 0 0 0 ∷ []; expected = refusal 4 1 }
     ∷ record { input = root [] ++ (raw 8 0 0 0 0 0 ∷ []); expected = refusal 4 2 }
     ∷ record { input = root (raw 1 6 0 0 0 0 ∷ raw 2 11 0 2 0 0 ∷ raw 7 0 0 3 0 0 ∷ raw 8 0 0 0 0 0 ∷ []); expected = refusal 4 3 }
-    -- a REF that announces more PATHs than any form here could hold: the first row that is none of them
+    -- a REF that announces more PATHs than any form here could hold: the first row that is not a PATH
     ∷ record { input = root (raw 1 22 0 0 0 0 ∷ raw 2 8 0 0 0 0 ∷ raw 3 8 0 0 4000000000 0 ∷ raw 4 0 0 5 0 0 ∷ []); expected = refusal 4 5 }
     -- two PATHs where one is the most
     ∷ record { input = root (raw 1 3 0 0 0 0 ∷ raw 2 6 0 0 0 0 ∷ raw 3 0 0 0 2 0 ∷ raw 4 0 0 5 0 0 ∷ raw 4 0 0 6 0 0 ∷ []); expected = refusal 4 3 }

@@ -9,7 +9,7 @@ use Rattle.row_parts.specs.Parts.{codeAt, bAt, countOn}
 
 -- ---- levels: how many scopes lie between a row and the scope that is gone through
 
--- behind a row of that code, going down
+-- the level behind a row of that code, going down
 unfoldable pub levelBehind : (level code : ℕ) → ℕ
 levelBehind level code = pick (eqb code 7) (level + 1) (pick (eqb code 8) (level - 1) level)
 
@@ -17,13 +17,13 @@ levelBehind level code = pick (eqb code 7) (level + 1) (pick (eqb code 8) (level
 unfoldable pub levelOn : (level code : ℕ) → ℕ
 levelOn level code = pick (eqb code 7) (countOn level true) (pick (eqb code 8) (level - 1) level)
 
--- above it, going up
+-- the level above a row of that code, going up
 unfoldable pub levelAbove : (level code : ℕ) → ℕ
 levelAbove level code = pick (eqb code 8) (level + 1) (pick (eqb code 7) (level - 1) level)
 
 -- ---- the scope of a row
 
--- the rows above, of which `above` are left
+-- the scope in which a row stands, by the rows above it, of which `above` are left
 unfoldable pub scopeAbove : (form : List ℕ) (above level : ℕ) → ℕ
 scopeAbove form zero level = zero
 scopeAbove form (suc above) level =
@@ -36,10 +36,11 @@ scopeOf form row = scopeAbove form row 0
 
 -- ---- declarations
 
--- a DECL of a space in the scope itself
+-- is it a DECL of that space, in the scope itself?
 unfoldable pub declares : (form : List ℕ) (row level space : ℕ) → Bool
 declares form row level space = eqb level 0 && eqb (codeAt form row) 2 && eqb (bAt form row) space
 
+-- `number` and how many declarations of a space stand in `left` rows, from `row` on
 unfoldable pub numberFrom : (form : List ℕ) (space row left level number : ℕ) → ℕ
 numberFrom form space row zero level number = number
 numberFrom form space row (suc left) level number =

@@ -43,7 +43,7 @@ partsBy rules code builtin space has-decl =
     ∷ [])
     code []
 
--- a space, and 0 for what is none
+-- the space, or 0 for a number that is not a space
 unfoldable pub known : ℕ → ℕ
 known space = pick (leb space 12) space 0
 

@@ -45,7 +45,7 @@ markOuter seen k space name z none =
 markOuter seen k space name z (some j) = record { now = ref space (Id (fresh j)) [] z; seen = seen; k = k }
 
 module _ (here : List Declaration) where
-  -- "Paths are not shared": each PATH is an insertion. "Written numbers keep their digits."
+  -- One operand. "Paths are not shared": each PATH is an insertion. "Written numbers keep their digits."
   unfoldable pub markOperand : List Served → (k : ℕ) → Operand → Marked Operand
   markOperand seen k (ref space (Num n) [] z) = record { now = ref space (Num n) [] z; seen = seen; k = k }
   markOperand seen k (ref space (Id name) [] z) =
@@ -55,6 +55,7 @@ module _ (here : List Declaration) where
   markOperand seen k (outer space up at z) = record { now = outer space up at z; seen = seen; k = k }
   markOperand seen k (case name z) = record { now = case name z; seen = seen; k = k }
 
+  -- the operands of a field, in order
   unfoldable pub markOperands : List Served → (k : ℕ) → List Operand → Marked (List Operand)
   markOperands seen k [] = record { now = []; seen = seen; k = k }
   markOperands seen k (o ∷ os) =
@@ -62,7 +63,7 @@ module _ (here : List Declaration) where
       let ms = markOperands (m .seen) (m .k) os in
       record { now = m .now ∷ ms .now; seen = ms .seen; k = ms .k }
 
-  -- here-only operands are passed over
+  -- a field: here-only operands are passed over
   unfoldable pub markHead : List Served → (k : ℕ) → Head → Marked Head
   markHead seen k h =
       if hereOnly (h .code) then record { now = h; seen = seen; k = k }
@@ -75,10 +76,12 @@ module _ (here : List Declaration) where
 
 -- As in step C, `b` is the next insertion of the scope at this field, `k` that of the scopes inside.
 unfoldable mutual
+  -- a scope, and the next insertion
   pub markScope : Scope → (k : ℕ) → Scope × ℕ
   markScope (scope kind name fs) k =
       let r = markFields fs (declarations fs) [] k (insertions (declarations fs) [] k fs) in (scope kind name (r .0), r .1)
 
+  -- fields, in order; `seen` is what is remembered before them
   pub markFields : Fields → (here : List Declaration) (seen : List Served) (b k : ℕ) → Fields × ℕ
   markFields end here seen b k = (end, k)
   markFields (i ▸ fs) here seen b k =
@@ -87,10 +90,12 @@ unfoldable mutual
       let rs = markFields fs here (m .seen) (m .k) (r .1) in
       (r .0 ▸ rs .0, rs .1)
 
+  -- a field whose own rows became `h′`, with the scope that it holds
   pub markItem : Item → Head → (k : ℕ) → Item × ℕ
   markItem (plain h) h′ k = (plain h′, k)
   markItem (holds h s) h′ k = let r = markScope s k in (holds h′ (r .0), r .1)
 
+-- the form that the steps are run on
 unfoldable pub mark : Scope → Scope
 mark s = markScope s 0 .0
 
@@ -100,10 +105,12 @@ mark s = markScope s 0 .0
 unfoldable pub propose : RuleSet → Scope → Result (Scope × ℕ)
 propose rules s = resolve rules (mark s)
 
+-- the planner's answer to an input under this setting; refusal 1, if the header is not that of any
 unfoldable pub proposed : Option Setting → (input : List ℕ) → Answer
 proposed none input = refused 1 0 []
 proposed (some s) input = mapAnswer flatten (readForm s input andThen λ t. resolved (propose (s .rules) t))
 
+-- the resolver's own refusal; where it accepts, what the planner proposes
 unfoldable pub sharedAfter : Answer → List Setting → (input : List ℕ) → Answer
 sharedAfter (refused number place carried) settings input = refused number place carried
 sharedAfter (accepted rs) settings input = proposed (settingOf settings input) input

@@ -14,7 +14,7 @@ pub fn rows_in(form: &[u8]) -> usize
     (form.len() - 8) / 16
 }
 
-// Whether bytes, of which there are eight, begin as a form of version 1 does.
+// Whether bytes begin as a form of version 1 does; there are at least eight of them.
 fn begins_well(form: &[u8]) -> bool
     requires { ⌜ 8 ≤ length (now form) ⌝ }
     ensures { λ r. ⌜ r ≡ beginsWell (now (form .entry)) ⌝ }

@@ -155,7 +155,7 @@ pub fn clear(area: &mut [u8], size: usize)
     zero_from(&mut area[..size], 0);
 }
 
-// Gives an input whose output the form is: to the front of `out`. `restored` and `again` are working areas.
+// Writes an input that resolves to the form to the front of `out`. `restored` and `again` are working areas.
 pub fn unresolve(form: &[u8], out: &mut [u8], restored: &mut [u8], again: &mut [u8]) -> Answer
     ensures { λ r. ⌜ (meaning r ≡ returned (backWith (now (form .entry)) (length (now (out .entry))) (length (now (restored .entry))) (length (now (again .entry))))) × (now (out .exit) ≡ outWith (now (form .entry)) (now (out .entry)) (length (now (restored .entry))) (length (now (again .entry)))) × (now (restored .exit) ≡ restoredAfter (now (restored .entry))) × (now (again .exit) ≡ againAfter (now (again .entry))) ⌝ }
 {

@@ -342,7 +342,7 @@ fn give_lent(
     }
 }
 
-// Gives an input whose output the form is, of any setting in force: to the front of `out`. After every return all areas are zero up
+// Writes an input that resolves to the form, of any setting in force, to the front of `out`. After every return all areas are zero up
 // to the sizes of the form's version.
 pub fn unresolve_with(
     form: &[u8],

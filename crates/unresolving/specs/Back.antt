@@ -15,22 +15,27 @@ use Rattle.rules.specs.Readings.{isInserted}
 
 -- ---- parts of an inserted field: it has one DECL and one operand
 
+-- the number, or 0 if there is none
 unfoldable pub orZero : Option ℕ → ℕ
 orZero none = 0
 orZero (some n) = n
 
+-- the first of these DECLs
 unfoldable pub firstDecl : List Declaration → Declaration
 firstDecl [] = record { space = 0; name = 0; z = 0 }
 firstDecl (d ∷ ds) = d
 
+-- the first of these operands
 unfoldable pub firstOperand : List Operand → Operand
 firstOperand [] = case 0 0
 firstOperand (o ∷ os) = o
 
+-- the digits of an operand, of a number or a name
 unfoldable pub digits : Index → ℕ
 digits (Num n) = n
 digits (Id n) = n
 
+-- what a REF refers to, what an OUTER has for its index
 unfoldable pub indexOf : Operand → Index
 indexOf (ref space at paths z) = at
 indexOf (outer space up at z) = at
@@ -38,7 +43,7 @@ indexOf (case name z) = Num 0
 
 -- ---- what a number counts to
 
--- is that what was found?
+-- is that number what was found?
 unfoldable pub isNumber : Option ℕ → ℕ → Bool
 isNumber none n = false
 isNumber (some m) n = eqb m n
@@ -71,6 +76,7 @@ lengthened a (ref space at paths z) = ref space (indexOf (firstOperand (a .opera
 lengthened a (outer space up at z) = outer space up at z
 lengthened a (case name z) = case name z
 
+-- these groups, the first of them with a path that is longer by the alias `a`
 unfoldable pub prepend : Head → List Group → List Group
 prepend a [] = []
 prepend a (g ∷ gs) = record { decl = g .decl; was = lengthened a (g .was) } ∷ gs
@@ -89,10 +95,11 @@ module _ (here : List Declaration) (outside : List (List Declaration)) where
       let d = firstDecl (a .decls) in
       eqb (a .code) 9 && (eqb (b .code) 9 && (eqb (d .space) 10 && (eqb (a .z) (b .z) && standsOn (d .name) (firstOperand (b .operands)))))
 
+  -- a group of one field
   unfoldable pub alone : Head → Group
   alone a = record { decl = firstDecl (a .decls); was = served (here ∷ outside) a (firstOperand (a .operands)) }
 
-  -- groups are as long as they can be
+  -- inserted fields in groups, which are as long as they can be
   unfoldable pub groups : List Head → List Group
   groups [] = []
   groups (a ∷ []) = alone a ∷ []
@@ -117,16 +124,19 @@ module _ (here : List Declaration) (outside : List (List Declaration)) where
   unfoldable pub restored : List Operand → List Group → List Operand
   restored os gs = reverse (firstFit (reverse os) (reverse gs))
 
+  -- a field with its operands as they were written; `waiting` are the inserted fields straight before it
   unfoldable pub restoredHead : (waiting : List Head) → Head → Head
   restoredHead waiting h = withOperands h (restored (h .operands) (groups waiting))
 
 -- ---- a tree
 
--- `waiting` are the inserted fields straight before these
+-- from numbers back to names; `waiting` are the inserted fields straight before these
 unfoldable mutual
+  -- a scope; `outside` are the declarations of the scopes around it
   pub unresolveScope : Scope → (outside : List (List Declaration)) → Scope
   unresolveScope (scope kind name fs) outside = scope kind name (unresolveFields fs (declarations fs) outside [])
 
+  -- fields without the inserted ones among them; `here` are the declarations of their scope
   pub unresolveFields : Fields → (here : List Declaration) (outside : List (List Declaration)) (waiting : List Head) → Fields
   unresolveFields end here outside waiting = end
   unresolveFields (i ▸ fs) here outside waiting =
@@ -134,10 +144,12 @@ unfoldable mutual
       let rest = unresolveFields fs here outside (if t then waiting ++ (headOf i ∷ []) else []) in
       if t then rest else unresolveItem i here outside waiting ▸ rest
 
+  -- a field and the scope that it holds
   pub unresolveItem : Item → (here : List Declaration) (outside : List (List Declaration)) (waiting : List Head) → Item
   unresolveItem (plain h) here outside waiting = plain (restoredHead here outside waiting h)
   unresolveItem (holds h s) here outside waiting = holds (restoredHead here outside waiting h) (unresolveScope s (here ∷ outside))
 
+-- a form with names and paths in place of its inserted aliases
 unfoldable pub unresolve : Scope → Scope
 unresolve s = unresolveScope s []
 

@@ -14,16 +14,17 @@ use Rattle.rules.specs.Answer
 use Rattle.rules.specs.Answer.{Answer, accepted, sameNumbers, settingOf, rowCount, rowsIn, answerIn, formBytes}
 use Rattle.unresolving.specs.Back.{unresolve}
 
--- the form that is written for an input, if it is accepted and there is room for it
+-- the bytes of an accepted answer
 unfoldable pub formOf : Setting → Answer → Option (List ℕ)
 formOf s (Answer.refused number place carried) = none
 formOf s (accepted rs) = some (formBytes s rs)
 
+-- the form that is written for an input, where the output has the room that it needs
 unfoldable pub outcome : List Setting → (input : List ℕ) → Option (List ℕ)
 outcome settings input =
     settingOf settings input then λ s. formOf s (answerIn [] s input (s .version .header + 64 * rowCount (s .version) input))
 
--- the tree that was read
+-- the tree that was read, if the rows are a form
 unfoldable pub treeOf : RowsRead → Option Scope
 treeOf (bad place) = none
 treeOf (deep place) = none
@@ -33,12 +34,12 @@ treeOf (form s) = some s
 unfoldable pub readClaim : Setting → (claim : List ℕ) → Option Scope
 readClaim s claim = treeOf (read (s .rules) (s .version .scopes) (rowsIn (record { version = claimed (s .version); rules = s .rules }) claim))
 
--- is that the outcome?
+-- is the claim the outcome?
 unfoldable pub isOutcome : Option (List ℕ) → (claim : List ℕ) → Bool
 isOutcome none claim = false
 isOutcome (some bs) claim = sameNumbers bs claim
 
--- an input whose form is `claim`
+-- an input whose output is `claim`, if one is found
 unfoldable pub back : List Setting → (claim : List ℕ) → Option (List ℕ)
 back settings claim =
     settingOf settings claim then λ s. readClaim s claim then λ t.
@@ -47,23 +48,26 @@ back settings claim =
 
 -- ---- the answer, and the output buffer: its bytes behind the result stay
 
+-- the answer: a refusal and its place, or the bytes of an input
 pub data Returned : Type 0 where
   refused : (number place : ℕ) → Returned
   given : List ℕ → Returned
 
+-- refusal 14, if there is no such input; refusal 3, if it is longer than the output
 unfoldable pub inRoom : (room : ℕ) → Option (List ℕ) → Returned
 inRoom room none = refused 14 0
 inRoom room (some bs) = if ltb room (length bs) then refused 3 0 else given bs
 
--- what is answered where the output has `room` bytes
+-- the answer where the output has `room` bytes
 unfoldable pub backAnswer : List Setting → (claim : List ℕ) (room : ℕ) → Returned
 backAnswer settings claim room = inRoom room (back settings claim)
 
+-- what the output buffer holds after this answer
 unfoldable pub over : Returned → (old : List ℕ) → List ℕ
 over (refused number place) old = old
 over (given bs) old = bs ++ drop (length bs) old
 
--- what the output buffer holds then
+-- what the output buffer holds after a claim is answered
 unfoldable pub backOutput : List Setting → (claim old : List ℕ) → List ℕ
 backOutput settings claim old = over (backAnswer settings claim (length old)) old
 

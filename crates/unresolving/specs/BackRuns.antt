@@ -30,6 +30,7 @@ pub record Run : Type 0 where
   pub input : List Raw
   pub back : List Raw
 
+-- rows that are given by their parts
 unfoldable pub rowsFrom : List Raw → List (Option Row)
 rowsFrom rs = map (λ (x : Raw). decodeRow (version1 .names) (rawBytes x)) rs
 
@@ -37,28 +38,33 @@ rowsFrom rs = map (λ (x : Raw). decodeRow (version1 .names) (rawBytes x)) rs
 unfoldable pub are : List Raw → Scope → Bool
 are rs s = sameNumbers (rowsBytes (flatten s)) (rawsBytes rs)
 
--- is that the result?
+-- is that tree the result?
 unfoldable pub is : Result (Scope × ℕ) → Scope → Bool
 is (refused why place) s = false
 is (ok r) s = sameNumbers (rowsBytes (flatten (r .0))) (rowsBytes (flatten s))
 
 module _ (rules : RuleSet) where
+  -- does the output come back as `back`, and does that resolve to the output?
   unfoldable pub rightAfter : List Raw → Result (Scope × ℕ) → Bool
   rightAfter back (refused why place) = false
   rightAfter back (ok r) = are back (unresolve (r .0)) && is (resolve rules (unresolve (r .0))) (r .0)
 
+  -- the same of a form that was read
   unfoldable pub rightReading : List Raw → RowsRead → Bool
   rightReading back (bad place) = false
   rightReading back (deep place) = false
   rightReading back (form s) = rightAfter back (resolve rules s)
 
+  -- does a run come out right?
   unfoldable pub right : Run → Bool
   right c = rightReading (c .back) (read rules 32 (rowsFrom (c .input)))
 
+  -- do all runs?
   unfoldable pub all : List Run → Bool
   all [] = true
   all (c ∷ cs) = right c && all cs
 
+-- runs under rule set 0: names, paths, written numbers and ascribed types, there and back
 unfoldable pub runs : List Run
 runs =
     -- P1: a type of the root, named in a component inside it: the same input
@@ -123,6 +129,7 @@ runs =
     }
     ∷ []
 
+-- they come out right
 pub all-right : all today runs ≡ true
 unfolding runs all right rightReading rightAfter is are rowsFrom rawsBytes isFresh anyFresh isInserted Tools.computes Rows.computes Tree.computes Shapes.computes Reader.computes Rules.computes Answer.computes Back.computes
 all-right = refl
@@ -140,12 +147,14 @@ newerRuns =
     }
     ∷ []
 
+-- the runs under rule set 1 come out right
 pub newer-right : all newer newerRuns ≡ true
 unfolding newerRuns all right rightReading rightAfter is are rowsFrom rawsBytes isFresh anyFresh isInserted Tools.computes Rows.computes Tree.computes Shapes.computes Reader.computes Rules.computes Answer.computes Back.computes
 newer-right = refl
 
 -- ---- bytes: what is given, and what no input has as its output
 
+-- a form of version 1 with these rows
 unfoldable pub formOf : List Raw → List ℕ
 formOf rs = inputBytes (record { version = version1; rules = today }) rs
 
@@ -153,6 +162,7 @@ formOf rs = inputBytes (record { version = version1; rules = today }) rs
 unfoldable pub secondForm : RuleSet → List Raw → List ℕ
 secondForm rules rs = inputBytes (record { version = version2; rules = rules }) rs
 
+-- are these the bytes that are given?
 unfoldable pub isGiven : Option (List ℕ) → List ℕ → Bool
 isGiven none expected = false
 isGiven (some bs) expected = sameNumbers bs expected
@@ -161,6 +171,7 @@ isGiven (some bs) expected = sameNumbers bs expected
 unfoldable pub inside : List Raw → List Raw
 inside rs = raw 7 0 0 0 0 0 ∷ raw 1 12 0 0 0 0 ∷ raw 2 9 0 1 0 0 ∷ raw 1 6 0 0 0 0 ∷ raw 2 11 0 2 0 0 ∷ raw 7 0 0 2 0 0 ∷ (rs ++ (raw 8 0 0 0 0 0 ∷ raw 8 0 0 0 0 0 ∷ []))
 
+-- an input comes back as bytes
 pub given :
     (isGiven (back base (formOf (inside (raw 1 11 0 0 0 70 ∷ raw 2 9 0 2147483648 0 70 ∷ raw 5 9 0 1 0 70 ∷ raw 1 12 0 0 0 0 ∷ raw 2 9 0 3 0 0 ∷ raw 3 9 0 0 0 70 ∷ []))))
     (formOf (inside (raw 1 12 0 0 0 0 ∷ raw 2 9 0 3 0 0 ∷ raw 3 9 1 1 0 70 ∷ [])))) ≡ true
@@ -188,13 +199,15 @@ unused-none = refl
 unfoldable pub ahead : List Raw → List Raw
 ahead rs = raw 7 0 0 0 0 0 ∷ raw 1 6 0 0 0 0 ∷ raw 2 11 0 2 0 0 ∷ raw 7 0 0 2 0 0 ∷ (rs ++ (raw 8 0 0 0 0 0 ∷ raw 1 12 0 0 0 0 ∷ raw 2 9 0 1 0 0 ∷ raw 8 0 0 0 0 0 ∷ []))
 
--- an outer alias of type 1, and a type that refers to it; and what it was
+-- an outer alias of type 1, and a type that refers to it
 unfoldable pub resolvedType : List Raw
 resolvedType = raw 1 11 0 0 0 70 ∷ raw 2 9 0 2147483648 0 70 ∷ raw 5 9 0 1 0 70 ∷ raw 1 12 0 0 0 0 ∷ raw 2 9 0 3 0 0 ∷ raw 3 9 0 0 0 70 ∷ []
 
+-- the type as it was, with a name
 unfoldable pub namedType : List Raw
 namedType = raw 1 12 0 0 0 0 ∷ raw 2 9 0 3 0 0 ∷ raw 3 9 1 1 0 70 ∷ []
 
+-- the same under rule set 1
 pub newer-given : isGiven (back Versions.all (secondForm newer (inside resolvedType))) (secondForm newer (inside namedType)) ≡ true
 unfolding inside resolvedType namedType isGiven secondForm inputBytes rawsBytes isFresh anyFresh isInserted Tools.computes Rows.computes Tree.computes Shapes.computes Reader.computes Rules.computes Answer.computes Back.computes BackAnswer.computes
 newer-given = refl
@@ -204,6 +217,7 @@ pub ahead-given : isGiven (back Versions.all (secondForm today (ahead resolvedTy
 unfolding ahead resolvedType namedType isGiven secondForm inputBytes rawsBytes isFresh anyFresh isInserted Tools.computes Rows.computes Tree.computes Shapes.computes Reader.computes Rules.computes Answer.computes Back.computes BackAnswer.computes
 ahead-given = refl
 
+-- under rule set 1 no input has that output
 pub ahead-none : back Versions.all (secondForm newer (ahead resolvedType)) ≡ none
 unfolding ahead resolvedType secondForm inputBytes rawsBytes isFresh anyFresh isInserted Tools.computes Rows.computes Tree.computes Shapes.computes Reader.computes Rules.computes Answer.computes Back.computes BackAnswer.computes
 ahead-none = refl

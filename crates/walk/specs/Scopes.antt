@@ -55,6 +55,7 @@ writeHeadT field entered names scopes out s =
 
 -- ---- steps A and B
 
+-- the answer of step B, with both tables
 unfoldable pub withTablesT : List Slot → Out Planned (List Slot) → Out Planned (Out (List Slot) (List Slot))
 withTablesT entered (p & names) = p & entered & names
 
@@ -63,6 +64,7 @@ abbrev pub planIn : WriteState → (at entered : ℕ) → PlanState
 planIn s at entered =
     record { at = at; entered = entered; depth = s .depth; used = s .used; fresh = s .fresh; first = s .used; before = s .before; early = s .early }
 
+-- step B after step A, unless that refused
 unfoldable pub plannedT : Out Entered (List Slot) → (rows ends : List ℕ) (names : List Slot) (scopes : List (List ℕ)) → WriteState → Out Planned (Out (List Slot) (List Slot))
 plannedT (Twice why told & entered) rows ends names scopes s = PlanRefused why told & entered & names
 plannedT (Upto count & entered) rows ends names scopes s =
@@ -99,10 +101,12 @@ startIn used depth early =
 abbrev pub Inner : Type 0
 Inner = (entered names : List Slot) (scopes : List (List ℕ)) (out : List ℕ) → WriteState → Wrote₃
 
+-- goes on after a part of the walk, by `f` if it is done and by `g` if it refused
 unfoldable pub wroteThen₃ : {A : Type 0} → Wrote₃ → (WriteState → List Slot → List Slot → List ℕ → A) → (Refusal → Told → List Slot → List Slot → List ℕ → A) → A
 wroteThen₃ (Done s & entered & names & out) f g = f s entered names out
 wroteThen₃ (Refused why told & entered & names & out) f g = g why told entered names out
 
+-- a refusal ends the walk
 abbrev pub stops₃ : Refusal → Told → List Slot → List Slot → List ℕ → Wrote₃
 stops₃ why told entered names out = Refused why told & entered & names & out
 
@@ -127,6 +131,7 @@ module _ (rows ends : List ℕ) where
   unfoldable pub closedT : (out : List ℕ) → WriteState → Out WriteState (List ℕ)
   closedT out s = closeScopeT rows out s
 
+  -- a scope has ended, with both tables as they are
   unfoldable pub endedT : Out WriteState (List ℕ) → (entered names : List Slot) → Wrote₃
   endedT (s & out) entered names = Done s & entered & names & out
 
@@ -144,13 +149,14 @@ module _ (rows ends : List ℕ) where
   insideT s p to =
       record { at = rowNumber (s .at) 1; to = to; used = p .used; fresh = p .fresh; depth = s .depth + 1; next = s .used; alias = s .used; seen = 0; before = s .used; early = s .early }
 
+  -- a scope after steps A and B, unless they refused: its OPEN, its fields, its CLOSE
   unfoldable pub scopedT : Inner → Out Planned (Out (List Slot) (List Slot)) → (scopes : List (List ℕ)) (out : List ℕ) → WriteState → Wrote₃
   scopedT inner (PlanRefused why told & entered & names) scopes out s = Refused why told & entered & names & out
   scopedT inner (PlanDone p & entered & names) scopes out s =
       putThen (copyRow rows (s .at) out (s .to)) λ to out′.
       fieldsWalkT inner entered names (set scopes (s .depth) (scopeOf (openName (rowAt rows (s .at))) (s .used) (p .used) (s .before))) out′ (insideT s p to) (s .depth + 1) (length rows / 16)
 
-  -- `allowed` more scopes may be opened
+  -- a scope, all of it, where `allowed` more scopes may be opened
   unfoldable pub scopeWalkT : (allowed : ℕ) → Inner
   scopeWalkT zero entered names scopes out s = Done s & entered & names & out
   scopeWalkT (suc allowed) entered names scopes out s =

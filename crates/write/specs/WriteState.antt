@@ -65,6 +65,7 @@ afterScopeT b i =
 abbrev pub Wrote : Type 0
 Wrote = Out Walked (List ℕ)
 
+-- goes on after something is written, by `f` if it is and by `g` if it is refused
 unfoldable pub wroteThen : {A : Type 0} → Wrote → (WriteState → List ℕ → A) → (Refusal → Told → List ℕ → A) → A
 wroteThen (Done s & out) f g = f s out
 wroteThen (Refused why told & out) f g = g why told out
