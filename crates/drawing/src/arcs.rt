@@ -2,21 +2,36 @@
 use crate::numbers::has_moved;
 use crate::svg::write;
 use crate::svg::write_unit;
+use meanings::entries::Entry;
+use meanings::meaning_at;
 use picture::arcs::MOST;
 use picture::arcs::entry_of;
 use picture::places::lane_at;
 use picture::places::line_at;
+use readings::Meaning;
 use row_parts::rows_in;
-use scopes::scope_of;
+
+// Whether what a reference means stands in a scope further out.
+fn leads_out(meaning: Meaning) -> bool {
+    match meaning {
+        Meaning::At {
+            row: _,
+            number: _,
+            out,
+            name: _,
+        } => 0 < out,
+        Meaning::Nowhere => false,
+    }
+}
 
 // The class of an arc: of a number that has moved, to a scope further out, or within the scope.
-fn arc_class(form: &[u8], row: u16, target: u16, is_moved: bool) -> u8 {
+fn arc_class(form: &[u8], entries: &[Entry], row: u16, is_moved: bool) -> u8 {
     if is_moved {
         b't'
-    } else if scope_of(form, row) == scope_of(form, target) {
-        b'a'
-    } else {
+    } else if leads_out(meaning_at(form, entries, row)) {
         b'c'
+    } else {
+        b'a'
     }
 }
 
@@ -55,9 +70,10 @@ fn draw_arc(row: u16, target: u16, lane: u16, class: u8, right: u16) {
     write(b")\"/>\n");
 }
 
-// Draws the arcs of a form. `targets` has for each row what it means, `lanes` the lane of the arcs to it, `list` this many numbers that have moved.
+// Draws the arcs of a form. `targets` has for each row what it means, by its entry, `lanes` the lane of the arcs to it, `list` this many numbers that have moved.
 pub(crate) fn draw_arcs(
     form: &[u8],
+    entries: &[Entry],
     targets: &[u16; MOST],
     lanes: &[u16; MOST],
     list: &[u8],
@@ -70,7 +86,7 @@ pub(crate) fn draw_arcs(
         let target = entry_of(targets, row);
         if target != row {
             let is_moved = has_moved(form, row, target, list, count);
-            let class = arc_class(form, row, target, is_moved);
+            let class = arc_class(form, entries, row, is_moved);
             draw_arc(row, target, entry_of(lanes, target), class, right);
         }
         row += 1;

@@ -5,6 +5,8 @@ use crate::svg::end_text;
 use crate::svg::write;
 use crate::svg::write_unit;
 use libc::STDOUT_FILENO;
+use meanings::entries::Entry;
+use meanings::number_at;
 use picture::arcs::MOST;
 use picture::arcs::entry_of;
 use picture::places::gap;
@@ -23,7 +25,6 @@ use rows::row::DECL;
 use rows::row::FIELD;
 use rows::row::OPEN;
 use scopes::level_behind;
-use scopes::number_of;
 use view::references::say_reference;
 use view::show::say_content;
 use words::kinds::say_scope;
@@ -67,7 +68,7 @@ fn write_reference(names: &[u8], form: &[u8], row: u16) {
 }
 
 // What any other row says, in fewer words than `wnt show` has; of a field also the place.
-fn write_words(names: &[u8], form: &[u8], row: u16) {
+fn write_words(names: &[u8], form: &[u8], entries: &[Entry], row: u16) {
     match code_at(form, row) {
         OPEN => {
             say_scope(STDOUT_FILENO, b_at(form, row));
@@ -77,7 +78,7 @@ fn write_words(names: &[u8], form: &[u8], row: u16) {
             STDOUT_FILENO,
             names,
             b_at(form, row),
-            number_of(form, row),
+            number_at(form, entries, row),
             x_at(form, row),
         ),
         FIELD => {
@@ -126,7 +127,7 @@ fn draw_reference(names: &[u8], form: &[u8], row: u16, level: u32, class: u8, ri
 }
 
 // A row that is no reference; on an orange ground if it was inserted.
-fn draw_other(names: &[u8], form: &[u8], row: u16, level: u32, right: u16) {
+fn draw_other(names: &[u8], form: &[u8], entries: &[Entry], row: u16, level: u32, right: u16) {
     let mut class = class_of(form, row);
     if is_marked(form, row) {
         write_ground(form, row, level, right);
@@ -137,18 +138,18 @@ fn draw_other(names: &[u8], form: &[u8], row: u16, level: u32, right: u16) {
         row_at(code_at(form, row), level, 4),
         line_at(row, 13),
     );
-    write_words(names, form, row);
+    write_words(names, form, entries, row);
     end_text();
 }
 
-// A row behind this many open scopes; of a reference it is said what it means, and whether it is a number that has moved.
+// A row behind this many open scopes; `class` is that of a reference.
 fn draw_row(
     names: &[u8],
     form: &[u8],
+    entries: &[Entry],
     row: u16,
     level: u32,
-    meant: u16,
-    is_moved: bool,
+    class: u8,
     right: u16,
 ) {
     if code_at(form, row) == CLOSE {
@@ -156,17 +157,17 @@ fn draw_row(
     }
     write_number(row);
     if is_reference(form, row) {
-        let class = reference_class(row, meant, is_moved);
         draw_reference(names, form, row, level, class, right);
     } else {
-        draw_other(names, form, row, level, right);
+        draw_other(names, form, entries, row, level, right);
     }
 }
 
-// Draws the rows of a form. `targets` has for each row what it means, `list` this many numbers that have moved.
+// Draws the rows of a form. `targets` has for each row what it means, by its entry, `list` this many numbers that have moved.
 pub(crate) fn draw_rows(
     names: &[u8],
     form: &[u8],
+    entries: &[Entry],
     targets: &[u16; MOST],
     list: &[u8],
     count: u32,
@@ -178,7 +179,8 @@ pub(crate) fn draw_rows(
     while row < rows {
         let meant = entry_of(targets, row);
         let is_moved = has_moved(form, row, meant, list, count);
-        draw_row(names, form, row, level, meant, is_moved, right);
+        let class = reference_class(row, meant, is_moved);
+        draw_row(names, form, entries, row, level, class, right);
         level = level_behind(level, code_at(form, row));
         row += 1;
     }

@@ -7,6 +7,8 @@ use crate::svg::begin_text;
 use crate::svg::end_text;
 use crate::svg::write;
 use libc::STDOUT_FILENO;
+use meanings::entries::Entry;
+use meanings::note_meanings;
 use picture::arcs::MOST;
 use picture::arcs::note_spans;
 use picture::arcs::note_targets;
@@ -50,15 +52,17 @@ fn lanes_of(rows: u16, targets: &[u16; MOST]) -> [u16; MOST] {
 pub fn draw(names: &[u8], form: &[u8], list: &[u8], count: u32, least: u32) {
     let rows = rows_in(form);
     let right = right_of(deepest(form), longest_line(names));
+    let mut entries: [Entry; MOST] = [[0; 4]; MOST];
     let mut targets = [0u16; MOST];
-    note_targets(form, &mut targets);
+    note_meanings(form, &mut entries);
+    note_targets(form, &entries, &mut targets);
     let lanes = lanes_of(rows, &targets);
     let width = lane_at(right, last_lane(rows, &lanes), 40);
     begin(greater(width, least), line_at(rows, 20));
     write_legend();
     draw_scopes(form, right);
-    draw_rows(names, form, &targets, list, count, right);
-    draw_arcs(form, &targets, &lanes, list, count, right);
+    draw_rows(names, form, &entries, &targets, list, count, right);
+    draw_arcs(form, &entries, &targets, &lanes, list, count, right);
 }
 
 pub fn begin_heading() {

@@ -15,6 +15,8 @@ use Rattle.readings.specs.Meaning.{meaningOf, isInsertedOuter}
 use Rattle.readings.specs.declared.Meaning.{Meaning}
 use Rattle.readings.specs.declared.Meaning.the-variants.{At, Nowhere}
 use Rattle.meanings.specs.Entries.{Entry, entry, noEntry, told, meantBy, noteFrom, noted, isNoted, read, meaningAt, numberAt, behindAt, finalAt}
+use Rattle.meanings.specs.Tables.{countOf}
+use Rattle.meanings.proofs.ScopedLaws.{number-count}
 
 -- ---- entries
 
@@ -54,9 +56,9 @@ pub ruleset told-ways = (told-at, told-nowhere, read-none, read-past, read-at, n
 -- ---- what a row means
 
 module _ (form : List ℕ) (row c : ℕ) (code : c ≡ codeAt form row) where
-  pub meant-decl : c ≡ 2 → (n x : ℕ) → n ≡ numberOf form row → x ≡ xAt form row → At row n 0 x ≡ meantBy form row
+  pub meant-decl : c ≡ 2 → (n x : ℕ) → n ≡ countOf form row → x ≡ xAt form row → At row n 0 x ≡ meantBy form row
   unfolding meantBy
-  meant-decl h n x hn hx = yes! _ (omega tests) (rw (hn, hx))
+  meant-decl h n x hn hx = yes! _ (omega tests) (rw (hn, hx, number-count form row))
 
   module _ (d : c ≡ 2 → ⊥) (i : Bool) (is : i ≡ isReference form row) where
     pub meant-reference : i ≡ true → (X : Meaning) → X ≡ meaningOf form row → X ≡ meantBy form row

@@ -1,63 +1,93 @@
--- The ways through the code that goes through scopes by their tables.
+-- The ways through the code that finds declarations with the tables of a form.
 use mathlib.Core.Path.{_≡_, refl, sym, _∙_}
-use mathlib.Core.Bool.{Bool, true, false, _&&_}
+use mathlib.Core.Bool.{Bool, true, false, _&&_, not}
 use mathlib.Core.List.{List}
 use native.Mathlib.Omega.{arith}
-use Prim.Native.Nat.{ℕ, _+_, _-_, _≤_, _<_, _/_}
-use borrow.Author.Tests.{ltb-true}
+use Prim.Native.Nat.{ℕ, suc, _-_, _<_}
+use borrow.Author.Needs.{needs}
+use borrow.Author.Tests.{ltb-true, eqb-true}
 use lib.Dec.{eqb, ltb}
-use lib.ListN.{length, getD}
-use Rattle.kit.specs.Pick.{pick}
-use Rattle.row_parts.specs.Parts.{codeAt, xAt, rowsIn, countOn}
-use Rattle.row_parts.proofs.PartLaws.{count-on}
-use Rattle.scope_rows.proofs.LevelLaws.{number-turn}
-use Rattle.scopes.specs.Scopes.{levelBehind, declares, isMeant, findFrom, numberFrom}
+use Rattle.row_parts.specs.Parts.{xAt, rowsIn}
+use Rattle.scopes.specs.Scopes.{scopeOf, isMeant, findIn}
 use Rattle.scopes.specs.declared.Key.{Key}
+use Rattle.scopes.specs.declared.Key.the-variants.{Name, Number}
 use Rattle.scopes.specs.declared.Found.{Found}
-use Rattle.scopes.proofs.ScopeLaws.{find-on}
-use Rattle.meanings.specs.Tables.{passOf, Passes}
-use Rattle.meanings.proofs.TableLaws.{pass-more, find-behind, number-behind}
+use Rattle.scopes.specs.declared.Found.the-variants.{At, Nothing}
+use Rattle.readings.specs.Meaning.{meant, inScope}
+use Rattle.readings.proofs.MeaningLaws.{meaning-ways}
+use Rattle.readings.specs.declared.Meaning.{Meaning}
+use Rattle.readings.specs.declared.Meaning.the-variants.{At as MeantAt, Nowhere}
+use Rattle.meanings.specs.Tables.{stands, countOf, kindOf, isScope, isSought, firstAbove, foundAt, Chains}
+use Rattle.meanings.proofs.ScopedLaws.{both-true, find-first}
 
-pub rows-most : (form : List ℕ) → rowsIn form ≤ 65535
-unfolding rowsIn pick
-rows-most form = by (ltb ((length form - 8) / 16) 65535) refl
-  where
-    by : (b : Bool) → ltb ((length form - 8) / 16) 65535 ≡ b → rowsIn form ≤ 65535
-    by true e = let h = ltb-true ((length form - 8) / 16) 65535 e in rw e (omega arith)
-    by false e = rw e (omega arith)
+pub is-scope-is : (form : List ℕ) (row rows s : ℕ) → rows ≡ rowsIn form → s ≡ scopeOf form row → (ltb 0 row && ltb row rows && eqb s row) ≡ isScope form row
+unfolding isScope
+is-scope-is form row rows s r e = rw (r, e)
 
--- ---- the entry of a row
+pub is-sought-is : (form : List ℕ) (scope space : ℕ) (key : Key) (row n x : ℕ) (d m : Bool) → d ≡ stands form scope space row → n ≡ countOf form row → x ≡ xAt form row → m ≡ isMeant key x n → (d && m) ≡ isSought form scope space key row
+unfolding isSought
+is-sought-is form scope space key row n x d m hd hn hx hm = rw (hd, hm, hn, hx)
 
-module _ (form passes : List ℕ) (row rows p : ℕ) (q : p ≡ getD passes row 0) (t : Passes form passes 0) (h : row < rows) where
-  module _ (r : rows ≤ rowsIn form) where
-    entry-is : p ≡ passOf form row
-    unfolding Passes
-    entry-is = q ∙ t row (omega arith) (omega arith)
+module _ (form : List ℕ) (behind : ℕ) where
+  pub found-none : behind ≡ 0 → Nothing ≡ foundAt form behind
+  unfolding foundAt
+  found-none e = rw e
 
-    entry-more : row < p
-    entry-more = let e = entry-is in let m = pass-more form row in omega arith
+  pub found-there : (behind ≡ 0 → ⊥) → (n : ℕ) → n ≡ countOf form (behind - 1) → At (behind - 1) n ≡ foundAt form behind
+  unfolding foundAt
+  found-there h n e = rw e (sym (same behind (omega arith)))
+    where
+      same : (b : ℕ) → b ≡ suc (behind - 1) → foundAt form b ≡ At (behind - 1) (countOf form (behind - 1))
+      same b q = rw q
 
-    -- no more declarations than rows
-    pub number-most : (number n : ℕ) → number ≤ row → n ≤ number + 1 → n ≤ p
-    number-most number n a b = let m = entry-more in omega arith
+module _ (form : List ℕ) (row : ℕ) (b : Bool) (is : b ≡ isScope form row) where
+  pub scope-left : not b ≡ false → isScope form row ≡ true
+  scope-left h = sym is ∙ by b h
+    where
+      by : (b : Bool) → not b ≡ false → b ≡ true
+      by true h = refl
+      by false h = sym h
 
-    pub entry-less : rows - p < rows - row
-    entry-less = let m = entry-more in omega arith
+-- a key's kind of chain
+module _ (form chains : List ℕ) (key : Key) (wanted : ℕ) where
+  pub chains-name : key ≡ Name wanted → (to : ℕ) → Chains form 1 chains to → Chains form (kindOf key) chains to
+  chains-name q to t = rw q t
 
--- ---- declarations
+  pub chains-number : key ≡ Number wanted → (to : ℕ) → Chains form 2 chains to → Chains form (kindOf key) chains to
+  chains-number q to t = rw q t
 
-module _ (form : List ℕ) (space : ℕ) (key : Key) (rows row number : ℕ) (T : Found) (inv : findFrom form space key row (rows - row) 0 number ≡ T) (h : row < rows) (c : ℕ) (code : c ≡ codeAt form row) (b : Bool) (bound : b ≡ (eqb 0 0 && eqb c 8)) (on : b ≡ false) where
-  pub find-next : (d : Bool) (here : d ≡ declares form row 0 space) (x : ℕ) (name : x ≡ xAt form row) (m : Bool) (meant : m ≡ isMeant key x number) → (d && m) ≡ false → (w : ℕ) → w ≡ countOn number d → number ≤ row → rows ≡ rowsIn form → (passes : List ℕ) (p : ℕ) → p ≡ getD passes row 0 → Passes form passes 0 → findFrom form space key p (rows - p) 0 w ≡ T
-  find-next d here x name m meant e w hw k r passes p q t =
-      let l : row < rowsIn form = omega arith in
-      let most = rows-most form in
-      let s = find-on form space key rows row 0 number T inv h c code b bound on d here x name m meant e w (levelBehind 0 c) (hw ∙ count-on number d (omega arith)) refl in
-      rw (entry-is form passes row rows p q t h (omega arith), r) (sym (find-behind form row l space key w) ∙ (rw (r, code) at s))
+module _ (key : Key) (wanted : ℕ) where
+  pub kind-name : key ≡ Name wanted → 0 < kindOf key
+  kind-name q = rw q (omega arith)
 
-module _ (form : List ℕ) (space decl row number T : ℕ) (inv : numberFrom form space row (decl - row) 0 number ≡ T) where
-  pub number-next : row < decl → decl < rowsIn form → (d : Bool) → d ≡ declares form row 0 space → (w : ℕ) → w ≡ countOn number d → number ≤ row → (passes : List ℕ) (p : ℕ) → p ≡ getD passes row 0 → Passes form passes 0 → numberFrom form space p (decl - p) 0 w ≡ T
-  number-next h l d here w hw k passes p q t =
-      let b : row < rowsIn form = omega arith in
-      let most = rows-most form in
-      let s = number-turn form space decl row 0 number T inv h d (codeAt form row) w (levelBehind 0 (codeAt form row)) here refl (hw ∙ count-on number d (omega arith)) refl in
-      rw (entry-is form passes row decl p q t h (omega arith)) (sym (number-behind form row b space decl w h (omega arith)) ∙ s)
+  pub kind-number : key ≡ Number wanted → 0 < kindOf key
+  kind-number q = rw q (omega arith)
+
+pub ruleset key-ways = (scope-left, chains-name, chains-number, kind-name, kind-number, needs)
+
+-- what is first on the chain is what the scope has
+pub follow-is : (form : List ℕ) (scope space : ℕ) (key : Key) (first : ℕ) (f : Found) → isScope form scope ≡ true → first ≡ firstAbove form scope space key (rowsIn form) 0 → f ≡ foundAt form first → f ≡ findIn form scope space key
+unfolding isScope
+follow-is form scope space key first f h q e =
+    let a = both-true (ltb 0 scope && ltb scope (rowsIn form)) (eqb (scopeOf form scope) scope) h in
+    let b = both-true (ltb 0 scope) (ltb scope (rowsIn form)) (a .0) in
+    e ∙ rw q (find-first form scope space key (ltb-true 0 scope (b .0)) (eqb-true (scopeOf form scope) scope (a .1)) (ltb-true scope (rowsIn form) (b .1)))
+
+pub ruleset found-ways = (is-scope-is, is-sought-is, found-none, found-there, follow-is, needs)
+
+-- ---- what was found, so many scopes out
+
+module _ (form : List ℕ) (f : Found) (out : ℕ) where
+  pub meant-at : (row number x : ℕ) → f ≡ At row number → x ≡ xAt form row → MeantAt row number out x ≡ meant form f out
+  unfolding meant
+  meant-at row number x q h = rw (q, h)
+
+  pub meant-nothing : f ≡ Nothing → Nowhere ≡ meant form f out
+  unfolding meant
+  meant-nothing q = rw q
+
+  pub meant-in : (scope space : ℕ) (key : Key) → f ≡ findIn form scope space key → (X : Meaning) → X ≡ meant form f out → X ≡ inScope form scope out space key
+  unfolding inScope
+  meant-in scope space key q X e = e ∙ rw q
+
+pub ruleset meant-ways = (meant-at, meant-nothing, meant-in, meaning-ways)

@@ -1,3 +1,5 @@
+pub mod ScopedLaws
+pub mod ChainLaws
 pub mod TableLaws
 pub mod FoundLaws
 pub mod EntryLaws

@@ -4,11 +4,12 @@ use mathlib.Core.Bool.{Bool, true, false, _&&_}
 use mathlib.Core.Logic.{_⊎_, inl, inr}
 use mathlib.Core.List.{List}
 use native.Mathlib.Omega.{arith}
-use Prim.Native.Nat.{ℕ, zero, suc, _+_, _-_, _≤_, _<_}
+use Prim.Native.Nat.{ℕ, zero, suc, _+_, _-_, _/_, _≤_, _<_}
 use borrow.Author.Tests.{ltb-true, leb-true, eqb-true}
 use lib.Dec.{eqb, ltb, leb}
 use lib.ListN.{length, getD, set, length-set}
 use lib.Seq.{getD-set-same, getD-set-other}
+use Rattle.kit.specs.Pick.{pick}
 use Rattle.kit.proofs.Laws.{yes!, no!, tests, pick-has, lt-or-le}
 use Rattle.row_parts.specs.Parts.{codeAt, xAt, rowsIn, nextOf, isInserted, isReference}
 use Rattle.scopes.specs.Scopes.{findFrom, findIn, numberOf}
@@ -21,9 +22,17 @@ use Rattle.readings.specs.Meaning.{meant, inScope, inOuter, outwardFor, through
 use Rattle.readings.specs.declared.Meaning.{Meaning}
 use Rattle.readings.specs.declared.Meaning.the-variants.{At, Nowhere}
 use Rattle.meanings.specs.Entries.{Entry, entry, noEntry, told, meantBy, noteFrom, noted, isNoted, read, meaningAt, numberAt, behindAt, finalAt}
-use Rattle.meanings.proofs.FoundLaws.{rows-most}
+use Rattle.meanings.proofs.ScopedLaws.{both-true}
 
 -- ---- the row of a declaration is a number of two bytes
+
+rows-most : (form : List ℕ) → rowsIn form ≤ 65535
+unfolding rowsIn pick
+rows-most form = by (ltb ((length form - 8) / 16) 65535) refl
+  where
+    by : (b : Bool) → ltb ((length form - 8) / 16) 65535 ≡ b → rowsIn form ≤ 65535
+    by true e = let h = ltb-true ((length form - 8) / 16) 65535 e in rw e (omega arith)
+    by false e = rw e (omega arith)
 
 abbrev FoundLow : Found → Type 0
 FoundLow (FoundAt row number) = row < 65536
@@ -91,10 +100,6 @@ note-length form entries from zero = refl
 note-length form entries from (suc left) = note-length form (set entries from (told (meantBy form from))) (from + 1) left ∙ length-set entries from _
 
 -- ---- what is read of noted rows
-
-both-true : (a b : Bool) → (a && b) ≡ true → (a ≡ true) × (b ≡ true)
-both-true true b e = (refl, e)
-both-true false b e = absurd (let z : _≡_ {A = ℕ} 0 1 = cc in omega arith)
 
 module _ (form : List ℕ) (entries : List Entry) (row : ℕ) where
   -- an entry is that of what the row means

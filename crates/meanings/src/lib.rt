@@ -2,18 +2,22 @@
 //
 // The readings go through scopes row by row, inner scopes among them, and up to a row's OPEN. Whoever asks for one row does best with them;
 // whoever asks for all has them noted here first.
+mod chains;
 pub mod entries;
 mod found;
 mod meaning;
 mod tables;
 
+use crate::chains::BY_NAME;
+use crate::chains::BY_NUMBER;
+use crate::chains::note_chains;
+use crate::chains::note_numbers;
 use crate::entries::Entry;
 use crate::entries::entry_at;
 use crate::entries::put_entry;
 use crate::entries::read;
 use crate::entries::told;
 use crate::meaning::meant_by;
-use crate::tables::note_passes;
 use crate::tables::note_scopes;
 use readings::Meaning;
 use readings::is_inserted_outer;
@@ -23,9 +27,8 @@ use row_parts::rows_in;
 use scopes::number_of;
 ghost use mathlib.Core.Path.{_≡_};
 ghost use Prim.Native.Nat.{_<_};
-ghost use lib.ListN.{length};
 ghost use Rattle.row_parts.specs.Parts.{rowsIn};
-ghost use Rattle.meanings.specs.Tables.{Scopes, Passes};
+ghost use Rattle.meanings.specs.Tables.{Known};
 ghost use Rattle.meanings.specs.Entries.{told, meantBy, noteFrom, noted, isNoted, meaningAt, numberAt, finalAt};
 
 // Forms of more rows are not noted. All that `wnt` loads have fewer.
@@ -33,22 +36,22 @@ pub const MOST: usize = 4096;
 
 // ---- noted
 
-fn entry_of(form: &[u8], scopes: &[u16], passes: &[u16], row: u16) -> Entry
-    requires { ⌜ Scopes (now form) (now scopes) (length (now scopes)) × Passes (now form) (now passes) 0 × (row < rowsIn (now form)) ⌝ }
+fn entry_of(form: &[u8], known: &[u16], names: &[u16], numbers: &[u16], row: u16) -> Entry
+    requires { ⌜ Known (now form) (now known) (now names) (now numbers) × (row < rowsIn (now form)) ⌝ }
     ensures { λ r. ⌜ r ≡ told (meantBy (now (form .entry)) row) ⌝ }
 {
-    told(meant_by(form, scopes, passes, row))
+    told(meant_by(form, known, names, numbers, row))
 }
 
 // Notes every row with the tables of the form.
-fn note_rows(form: &[u8], scopes: &[u16], passes: &[u16], entries: &mut [Entry])
-    requires { ⌜ Scopes (now form) (now scopes) (length (now scopes)) × Passes (now form) (now passes) 0 ⌝ }
+fn note_rows(form: &[u8], known: &[u16], names: &[u16], numbers: &[u16], entries: &mut [Entry])
+    requires { ⌜ Known (now form) (now known) (now names) (now numbers) ⌝ }
     ensures { λ _. ⌜ now (entries .exit) ≡ noteFrom (now (form .entry)) (now (entries .entry)) 0 (rowsIn (now (form .entry))) ⌝ }
 {
     let rows = rows_in(form);
     let mut row: u16 = 0;
     while row < rows {
-        let entry = entry_of(form, scopes, passes, row);
+        let entry = entry_of(form, known, names, numbers, row);
         put_entry(entries, row, entry);
         row += 1;
     }
@@ -61,11 +64,15 @@ pub fn note_meanings(form: &[u8], entries: &mut [Entry])
     if MOST < rows_in(form) as usize {
         return;
     }
-    let mut scopes = [0u16; MOST];
-    let mut passes = [0u16; MOST];
-    note_scopes(form, &mut scopes);
-    note_passes(form, &mut passes);
-    note_rows(form, &scopes, &passes, entries);
+    let mut known = [0u16; 2 * MOST];
+    let mut spaces = [0u16; 2 * MOST];
+    let mut names = [0u16; 2 * MOST];
+    let mut numbers = [0u16; 2 * MOST];
+    note_scopes(form, &mut known);
+    note_numbers(form, &mut known, &mut spaces);
+    note_chains(form, &known, &mut names, BY_NAME);
+    note_chains(form, &known, &mut numbers, BY_NUMBER);
+    note_rows(form, &known, &names, &numbers, entries);
 }
 
 // ---- read

@@ -1,7 +1,7 @@
 // What a row means, found with the tables of its form.
 use crate::found::find;
-use crate::found::number_of;
 use crate::found::scope_outward;
+use crate::tables::number_at;
 use crate::tables::scope_at;
 use operands::index_key;
 use operands::key_of;
@@ -23,18 +23,16 @@ use scopes::Outer;
 use scopes::Wanted;
 ghost use mathlib.Core.Path.{_≡_};
 ghost use Prim.Native.Nat.{_<_};
-ghost use lib.ListN.{length};
 ghost use Rattle.row_parts.specs.Parts.{rowsIn};
-ghost use Rattle.readings.specs.Meaning.{inScope, outwardFor, throughOuter, meaningOf};
-ghost use Rattle.meanings.specs.Tables.{Scopes, Passes};
+ghost use Rattle.readings.specs.Meaning.{meant, outwardFor, throughOuter, meaningOf};
+ghost use Rattle.meanings.specs.Tables.{Known};
 ghost use Rattle.meanings.specs.Entries.{meantBy};
 
-// The declaration that one scope has, so many scopes out.
-fn in_scope(form: &[u8], passes: &[u16], scope: u16, out: u32, space: u8, key: Key) -> Meaning
-    requires { ⌜ Passes (now form) (now passes) 0 ⌝ }
-    ensures { λ r. ⌜ r ≡ inScope (now (form .entry)) scope out space key ⌝ }
+// What was found so many scopes out.
+fn meant(form: &[u8], found: Found, out: u32) -> Meaning
+    ensures { λ r. ⌜ r ≡ meant (now (form .entry)) found out ⌝ }
 {
-    match find(form, passes, scope, space, key) {
+    match found {
         Found::At { row, number } => Meaning::At {
             row,
             number,
@@ -46,84 +44,114 @@ fn in_scope(form: &[u8], passes: &[u16], scope: u16, out: u32, space: u8, key: K
 }
 
 // A name by the outward reading.
-fn outward(form: &[u8], scopes: &[u16], passes: &[u16], row: u16, space: u8, name: u32) -> Meaning
-    requires { ⌜ Scopes (now form) (now scopes) (length (now scopes)) × Passes (now form) (now passes) 0 ⌝ }
+fn outward(
+    form: &[u8],
+    known: &[u16],
+    names: &[u16],
+    numbers: &[u16],
+    row: u16,
+    space: u8,
+    name: u32,
+) -> Meaning
+    requires { ⌜ Known (now form) (now known) (now names) (now numbers) ⌝ }
     ensures { λ r. ⌜ r ≡ outwardFor (now (form .entry)) row space name ⌝ }
 {
     match scope_outward(
         form,
-        scopes,
-        passes,
-        scope_at(form, scopes, row),
+        known,
+        names,
+        numbers,
+        scope_at(form, known, row),
         Wanted::Declaring { space, name },
     ) {
-        Outer::At { scope, out } => in_scope(form, passes, scope, out, space, Key::Name(name)),
+        Outer::At { scope, out } => meant(
+            form,
+            find(form, known, names, numbers, scope, space, Key::Name(name)),
+            out,
+        ),
         Outer::Nowhere => Meaning::Nowhere,
     }
 }
 
 // The declaration at an OUTER's index in its outer scope.
-fn through_outer(form: &[u8], scopes: &[u16], passes: &[u16], row: u16) -> Meaning
-    requires { ⌜ Scopes (now form) (now scopes) (length (now scopes)) × Passes (now form) (now passes) 0 ⌝ }
+fn through_outer(form: &[u8], known: &[u16], names: &[u16], numbers: &[u16], row: u16) -> Meaning
+    requires { ⌜ Known (now form) (now known) (now names) (now numbers) ⌝ }
     ensures { λ r. ⌜ r ≡ throughOuter (now (form .entry)) row ⌝ }
 {
     let e = e_at(form, row);
     match scope_outward(
         form,
-        scopes,
-        passes,
-        scope_at(form, scopes, row),
+        known,
+        names,
+        numbers,
+        scope_at(form, known, row),
         outer_wanted(e, x_at(form, row)),
     ) {
-        Outer::At { scope, out } => in_scope(
+        Outer::At { scope, out } => meant(
             form,
-            passes,
-            scope,
+            find(
+                form,
+                known,
+                names,
+                numbers,
+                scope,
+                b_at(form, row),
+                index_key(e, y_at(form, row)),
+            ),
             out,
-            b_at(form, row),
-            index_key(e, y_at(form, row)),
         ),
         Outer::Nowhere => Meaning::Nowhere,
     }
 }
 
 // The declaration that a REF or an OUTER means.
-fn meaning_of(form: &[u8], scopes: &[u16], passes: &[u16], row: u16) -> Meaning
-    requires { ⌜ Scopes (now form) (now scopes) (length (now scopes)) × Passes (now form) (now passes) 0 ⌝ }
+fn meaning_of(form: &[u8], known: &[u16], names: &[u16], numbers: &[u16], row: u16) -> Meaning
+    requires { ⌜ Known (now form) (now known) (now names) (now numbers) ⌝ }
     ensures { λ r. ⌜ r ≡ meaningOf (now (form .entry)) row ⌝ }
 {
     if code_at(form, row) == OUTER {
-        return through_outer(form, scopes, passes, row);
+        return through_outer(form, known, names, numbers, row);
     }
     let space = space_sought(form, row);
     if is_outward(form, row) {
-        return outward(form, scopes, passes, row, space, x_at(form, row));
+        return outward(form, known, names, numbers, row, space, x_at(form, row));
     }
-    in_scope(
+    meant(
         form,
-        passes,
-        scope_at(form, scopes, row),
+        find(
+            form,
+            known,
+            names,
+            numbers,
+            scope_at(form, known, row),
+            space,
+            key_of(form, row),
+        ),
         0,
-        space,
-        key_of(form, row),
     )
 }
 
 // The declaration that a row has or means.
-pub(crate) fn meant_by(form: &[u8], scopes: &[u16], passes: &[u16], row: u16) -> Meaning
-    requires { ⌜ Scopes (now form) (now scopes) (length (now scopes)) × Passes (now form) (now passes) 0 × (row < rowsIn (now form)) ⌝ }
+pub(crate) fn meant_by(
+    form: &[u8],
+    known: &[u16],
+    names: &[u16],
+    numbers: &[u16],
+    row: u16,
+) -> Meaning
+    requires { ⌜ Known (now form) (now known) (now names) (now numbers) × (row < rowsIn (now form)) ⌝ }
     ensures { λ r. ⌜ r ≡ meantBy (now (form .entry)) row ⌝ }
 {
     if code_at(form, row) == DECL {
         return Meaning::At {
             row,
-            number: number_of(form, scopes, passes, row),
+            number: number_at(form, known, row) as u32,
             out: 0,
             name: x_at(form, row),
         };
     }
     if is_reference(form, row) {
-        return meaning_of(form, scopes, passes, row);
+        return meaning_of(form, known, names, numbers, row);
     }
     Meaning::Nowhere
 }

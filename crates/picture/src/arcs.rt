@@ -1,7 +1,6 @@
 // From which rows arcs go, and to which.
 use meanings::entries::Entry;
 use meanings::meaning_at;
-use meanings::note_meanings;
 use readings::Meaning;
 use row_parts::is_reference;
 use row_parts::rows_in;
@@ -38,20 +37,14 @@ pub fn target_of(form: &[u8], entries: &[Entry], row: u16) -> u16
     }
 }
 
-fn note_by_entries(form: &[u8], entries: &[Entry], targets: &mut [u16; MOST]) {
+// Notes for each row of a form where its arc leads.
+pub fn note_targets(form: &[u8], entries: &[Entry], targets: &mut [u16; MOST]) {
     let rows = rows_in(form);
     let mut row: u16 = 0;
     while row < rows {
         targets[(row as usize) % MOST] = target_of(form, entries, row);
         row += 1;
     }
-}
-
-// Notes for each row of a form where its arc leads.
-pub fn note_targets(form: &[u8], targets: &mut [u16; MOST]) {
-    let mut entries: [Entry; MOST] = [[0; 4]; MOST];
-    note_meanings(form, &mut entries);
-    note_by_entries(form, &entries, targets);
 }
 
 // What a table has for a row.

@@ -46,7 +46,8 @@ pub enum Outer {
     Nowhere,
 }
 
-fn is_meant(key: Key, name: u32, number: u32) -> bool
+// Whether a declaration of that name and number has the key; 0 is no name.
+pub fn is_meant(key: Key, name: u32, number: u32) -> bool
     ensures { λ r. ⌜ r ≡ isMeant key name number ⌝ }
 {
     match key {

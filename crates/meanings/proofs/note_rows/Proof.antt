@@ -10,10 +10,10 @@ use Rattle.meanings.proofs.note_rows.Statement.{statement}
 use Rattle.meanings.proofs.note_rows.Tie as tie
 
 abbrev Inv-loop : tie.InvT-loop
-Inv-loop form scopes passes entries₀ rows row₀ entries row = (noteFrom form entries row (rows - row) ≡ noteFrom form entries₀ 0 (rowsIn form)) × (length entries ≡ length entries₀)
+Inv-loop form known names numbers entries₀ rows row₀ entries row = (noteFrom form entries row (rows - row) ≡ noteFrom form entries₀ 0 (rowsIn form)) × (length entries ≡ length entries₀)
 
 abbrev μ-loop : tie.MeasureT-loop
-μ-loop form scopes passes entries₀ rows row₀ entries row = rows - row
+μ-loop form known names numbers entries₀ rows row₀ entries row = rows - row
 
 pub note-rows-spec : {M : Type 1} → statement M
 note-rows-spec =

@@ -5,10 +5,10 @@ use Rattle.drawing.proofs.arcs.draw_arcs.Statement.{statement}
 use Rattle.drawing.proofs.arcs.draw_arcs.Tie as tie
 
 abbrev Inv-loop : tie.InvT-loop
-Inv-loop form targets lanes list count right rows row₀ row = Unit {0}
+Inv-loop form entries targets lanes list count right rows row₀ row = Unit {0}
 
 abbrev μ-loop : tie.MeasureT-loop
-μ-loop form targets lanes list count right rows row₀ row = rows - row
+μ-loop form entries targets lanes list count right rows row₀ row = rows - row
 
 pub draw-arcs-spec : {M : Type 1} → statement M
 draw-arcs-spec =

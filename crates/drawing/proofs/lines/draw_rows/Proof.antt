@@ -5,10 +5,10 @@ use Rattle.drawing.proofs.lines.draw_rows.Statement.{statement}
 use Rattle.drawing.proofs.lines.draw_rows.Tie as tie
 
 abbrev Inv-loop : tie.InvT-loop
-Inv-loop names form targets list count right rows level₀ row₀ level row = Unit {0}
+Inv-loop names form entries targets list count right rows level₀ row₀ level row = Unit {0}
 
 abbrev μ-loop : tie.MeasureT-loop
-μ-loop names form targets list count right rows level₀ row₀ level row = rows - row
+μ-loop names form entries targets list count right rows level₀ row₀ level row = rows - row
 
 pub draw-rows-spec : {M : Type 1} → statement M
 draw-rows-spec =
@@ -20,6 +20,7 @@ draw-rows-spec =
     (λ c. search needs)  -- loop-holds
     (λ c κs. search needs)  -- entry-of-requires
     (λ c κs. search needs)  -- has-moved-requires
+    (λ c κs. search needs)  -- reference-class-requires
     (λ c κs. search needs)  -- draw-row-requires
     (λ c κs. search needs)  -- code-at-requires
     (λ c κs. search needs)  -- level-behind-requires

@@ -8,10 +8,10 @@ use Rattle.meanings.proofs.found.scope_outward.Statement.{statement}
 use Rattle.meanings.proofs.found.scope_outward.Tie as tie
 
 abbrev Inv-loop : tie.InvT-loop
-Inv-loop form scopes passes scope wanted around₀ out₀ around out = (outwardFrom form wanted (scope - out) around out ≡ scopeOutward form scope wanted) × (around + out ≤ scope)
+Inv-loop form known names numbers scope wanted around₀ out₀ around out = (outwardFrom form wanted (scope - out) around out ≡ scopeOutward form scope wanted) × (around + out ≤ scope)
 
 abbrev μ-loop : tie.MeasureT-loop
-μ-loop form scopes passes scope wanted around₀ out₀ around out = around
+μ-loop form known names numbers scope wanted around₀ out₀ around out = around
 
 pub scope-outward-spec : {M : Type 1} → statement M
 scope-outward-spec =

@@ -1,5 +1,5 @@
 -- `meanings::meaning::outward` meets its contract.
-use Rattle.readings.proofs.MeaningLaws.{meaning-ways}
+use Rattle.meanings.proofs.FoundLaws.{meant-ways}
 use borrow.Author.Needs.{needs}
 use Rattle.meanings.proofs.meaning.outward.Statement.{statement}
 use Rattle.meanings.proofs.meaning.outward.Tie as tie
@@ -11,7 +11,8 @@ outward-spec =
     (λ c κs. search needs)  -- scope-at-requires
     (λ c κs. search needs)  -- scope-outward-requires
     (λ c. search needs)  -- enum-known-scope
-    (λ c κs. search needs)  -- in-scope-requires
+    (λ c κs. search needs)  -- find-requires
+    (λ c κs. search needs)  -- meant-requires
     (λ c. search needs)  -- enum-told
-    (λ c. search meaning-ways)  -- returns
-    (λ c. search meaning-ways))  -- returns-2
+    (λ c. search meant-ways)  -- returns
+    (λ c. search meant-ways))  -- returns-2

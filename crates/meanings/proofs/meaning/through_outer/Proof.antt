@@ -1,5 +1,5 @@
 -- `meanings::meaning::through_outer` meets its contract.
-use Rattle.readings.proofs.MeaningLaws.{meaning-ways}
+use Rattle.meanings.proofs.FoundLaws.{meant-ways}
 use borrow.Author.Needs.{needs}
 use Rattle.meanings.proofs.meaning.through_outer.Statement.{statement}
 use Rattle.meanings.proofs.meaning.through_outer.Tie as tie
@@ -17,7 +17,8 @@ through-outer-spec =
     (λ c κs. search needs)  -- b-at-requires
     (λ c κs. search needs)  -- y-at-requires
     (λ c κs. search needs)  -- index-key-requires
-    (λ c κs. search needs)  -- in-scope-requires
+    (λ c κs. search needs)  -- find-requires
+    (λ c κs. search needs)  -- meant-requires
     (λ c. search needs)  -- enum-told
-    (λ c. search meaning-ways)  -- returns
-    (λ c. search meaning-ways))  -- returns-2
+    (λ c. search meant-ways)  -- returns
+    (λ c. search meant-ways))  -- returns-2

@@ -1,5 +1,5 @@
 -- `meanings::tables::scope_at` meets its contract.
-use Rattle.meanings.proofs.TableLaws.{there-ways}
+use Rattle.meanings.proofs.TableLaws.{scope-ways}
 use borrow.Author.Needs.{needs}
 use Rattle.meanings.proofs.tables.scope_at.Statement.{statement}
 use Rattle.meanings.proofs.tables.scope_at.Tie as tie
@@ -8,8 +8,7 @@ pub scope-at-spec : {M : Type 1} → statement M
 scope-at-spec =
     tie.close
     (tie.spec
-    (λ c. search needs)  -- mul-result
-    (λ c. search needs)  -- shared-slice-read-result
+    (λ c κs. search needs)  -- at-requires
     (λ c κs. search needs)  -- scope-of-requires
-    (λ c. search there-ways)  -- returns
+    (λ c. search scope-ways)  -- returns
     (λ c. search needs))  -- returns-2

@@ -1,5 +1,5 @@
 -- `meanings::tables::scope_behind` meets its contract.
-use Rattle.meanings.proofs.TableLaws.{scope-ways}
+use Rattle.meanings.proofs.TableLaws.{behind-ways}
 use borrow.Author.Needs.{needs}
 use Rattle.meanings.proofs.tables.scope_behind.Statement.{statement}
 use Rattle.meanings.proofs.tables.scope_behind.Tie as tie
@@ -11,8 +11,9 @@ scope-behind-spec =
     (λ c κs. search needs)  -- code-at-requires
     (λ c. search needs)  -- add-result
     (λ c. search needs)  -- sub-at
+    (λ c. search needs)  -- cast-at
     (λ c κs. search needs)  -- at-requires
-    (λ c. search scope-ways)  -- returns
-    (λ c. search scope-ways)  -- returns-2
-    (λ c. search scope-ways)  -- returns-3
-    (λ c. search scope-ways))  -- returns-4
+    (λ c. search behind-ways)  -- returns
+    (λ c. search behind-ways)  -- returns-2
+    (λ c. search behind-ways)  -- returns-3
+    (λ c. search behind-ways))  -- returns-4

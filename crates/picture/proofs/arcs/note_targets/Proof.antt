@@ -1,8 +1,8 @@
--- `picture::arcs::note_by_entries` is safe and ends. The measure is the rows that are left.
+-- `picture::arcs::note_targets` is safe and ends. The measure is the rows that are left.
 use Prim.Native.Nat.{_-_}
 use borrow.Author.Needs.{needs}
-use Rattle.picture.proofs.arcs.note_by_entries.Statement.{statement}
-use Rattle.picture.proofs.arcs.note_by_entries.Tie as tie
+use Rattle.picture.proofs.arcs.note_targets.Statement.{statement}
+use Rattle.picture.proofs.arcs.note_targets.Tie as tie
 
 abbrev Inv-loop : tie.InvT-loop
 Inv-loop form entries targets₀ rows row₀ targets row = Unit {0}
@@ -10,8 +10,8 @@ Inv-loop form entries targets₀ rows row₀ targets row = Unit {0}
 abbrev μ-loop : tie.MeasureT-loop
 μ-loop form entries targets₀ rows row₀ targets row = rows - row
 
-pub note-by-entries-spec : {M : Type 1} → statement M
-note-by-entries-spec =
+pub note-targets-spec : {M : Type 1} → statement M
+note-targets-spec =
     tie.close
     (tie.spec
     Inv-loop
