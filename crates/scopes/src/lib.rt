@@ -1,4 +1,5 @@
-// Scopes and what they declare, found by going through the rows. Which scope a row has, and which number a declaration, is in `scope_rows`.
+// Scopes and what they declare, found by going through the rows, or with the tables of a form where they are lent. Which scope a row has, and
+// which number a declaration, is in `scope_rows`.
 //
 // A scope is known by its first row, the one behind its OPEN. The rows outside every OPEN have 0 for theirs.
 mod lookup;
