@@ -15,8 +15,8 @@ use Rattle.readings.specs.Meaning.{meaningOf, isInsertedOuter}
 use Rattle.readings.specs.declared.Meaning.{Meaning}
 use Rattle.readings.specs.declared.Meaning.the-variants.{At, Nowhere}
 use Rattle.meanings.specs.Entries.{Entry, entry, noEntry, told, meantBy, noteFrom, noted, isNoted, read, meaningAt, numberAt, behindAt, finalAt}
-use Rattle.meanings.specs.Tables.{countOf}
-use Rattle.meanings.proofs.ScopedLaws.{number-count}
+use Rattle.scopes.specs.Tables.{countOf}
+use Rattle.scopes.proofs.ScopedLaws.{number-count}
 
 -- ---- entries
 

@@ -22,7 +22,7 @@ use Rattle.readings.specs.Meaning.{meant, inScope, inOuter, outwardFor, through
 use Rattle.readings.specs.declared.Meaning.{Meaning}
 use Rattle.readings.specs.declared.Meaning.the-variants.{At, Nowhere}
 use Rattle.meanings.specs.Entries.{Entry, entry, noEntry, told, meantBy, noteFrom, noted, isNoted, read, meaningAt, numberAt, behindAt, finalAt}
-use Rattle.meanings.proofs.ScopedLaws.{both-true}
+use Rattle.scopes.proofs.ScopedLaws.{both-true}
 
 -- ---- the row of a declaration is a number of two bytes
 

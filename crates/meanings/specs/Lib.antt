@@ -1,3 +1,2 @@
--- What tables of a form hold, and what is noted of its rows.
-pub mod Tables
+-- What is noted of the rows of a form.
 pub mod Entries

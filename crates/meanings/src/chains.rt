@@ -3,35 +3,29 @@
 // has for each chain one more than its last row, and behind these for each row one more than the row before it on its chain; 0 ends it.
 //
 // Names that are chosen to meet on one chain still cost a pass over it for each reference.
-use crate::MOST;
-use crate::tables::at;
-use crate::tables::is_declared;
-use crate::tables::number_at;
 use crate::tables::put;
-use crate::tables::scope_at;
 use row_parts::b_at;
 use row_parts::code_at;
 use row_parts::rows_in;
 use row_parts::x_at;
 use rows::row::DECL;
+use scopes::tables::MOST;
+use scopes::tables::at;
+use scopes::tables::chain_of;
+use scopes::tables::is_declared;
+use scopes::tables::number_at;
+use scopes::tables::scope_at;
 ghost use mathlib.Core.Path.{_≡_};
 ghost use Prim.Native.Nat.{_+_, _<_, _≤_};
 ghost use lib.ListN.{length};
 ghost use Rattle.row_parts.specs.Parts.{rowsIn};
-ghost use Rattle.meanings.specs.Tables.{countOf, chainOf, valueOf, chainAt, linked, Scopes, Counts, Chains};
+ghost use Rattle.scopes.specs.Tables.{countOf, valueOf, chainAt, linked, Scopes, Counts, Chains};
 
 const BY_SPACE: u8 = 0;
 
 pub(crate) const BY_NAME: u8 = 1;
 
 pub(crate) const BY_NUMBER: u8 = 2;
-
-// The chain of a name or a number in a space of a scope. Those that follow each other are on chains of their own.
-pub(crate) fn chain_of(scope: u16, space: u8, value: u32) -> usize
-    ensures { λ r. ⌜ (r ≡ chainOf scope space value) × (r < 4096) ⌝ }
-{
-    ((value % 4096 + scope as u32 * 1031 + space as u32 * 331) % 4096) as usize
-}
 
 // By what a row is on a chain of a kind.
 fn value_at(form: &[u8], known: &[u16], kind: u8, row: u16) -> u32

@@ -4,7 +4,6 @@
 // whoever asks for all has them noted here first.
 mod chains;
 pub mod entries;
-mod found;
 mod meaning;
 mod tables;
 
@@ -28,16 +27,16 @@ use scopes::number_of;
 ghost use mathlib.Core.Path.{_≡_};
 ghost use Prim.Native.Nat.{_<_};
 ghost use Rattle.row_parts.specs.Parts.{rowsIn};
-ghost use Rattle.meanings.specs.Tables.{Known};
+ghost use Rattle.scopes.specs.Tables.{Tabled};
 ghost use Rattle.meanings.specs.Entries.{told, meantBy, noteFrom, noted, isNoted, meaningAt, numberAt, finalAt};
 
 // Forms of more rows are not noted. All that `wnt` loads have fewer.
-pub const MOST: usize = 4096;
+pub use scopes::tables::MOST;
 
 // ---- noted
 
 fn entry_of(form: &[u8], known: &[u16], names: &[u16], numbers: &[u16], row: u16) -> Entry
-    requires { ⌜ Known (now form) (now known) (now names) (now numbers) × (row < rowsIn (now form)) ⌝ }
+    requires { ⌜ Tabled (now form) (now known) (now names) (now numbers) × (row < rowsIn (now form)) ⌝ }
     ensures { λ r. ⌜ r ≡ told (meantBy (now (form .entry)) row) ⌝ }
 {
     told(meant_by(form, known, names, numbers, row))
@@ -45,7 +44,7 @@ fn entry_of(form: &[u8], known: &[u16], names: &[u16], numbers: &[u16], row: u16
 
 // Notes every row with the tables of the form.
 fn note_rows(form: &[u8], known: &[u16], names: &[u16], numbers: &[u16], entries: &mut [Entry])
-    requires { ⌜ Known (now form) (now known) (now names) (now numbers) ⌝ }
+    requires { ⌜ Tabled (now form) (now known) (now names) (now numbers) ⌝ }
     ensures { λ _. ⌜ now (entries .exit) ≡ noteFrom (now (form .entry)) (now (entries .entry)) 0 (rowsIn (now (form .entry))) ⌝ }
 {
     let rows = rows_in(form);

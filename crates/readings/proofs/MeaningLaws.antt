@@ -49,14 +49,18 @@ module _ (form : List ℕ) (row : ℕ) (r : Reading) (got : r ≡ readingOf form
 
 -- ---- meanings
 
-module _ (form : List ℕ) (scope out space : ℕ) (key : Key) (f : Found) (got : f ≡ findIn form scope space key) where
-  pub in-at : (row number x : ℕ) → f ≡ FoundAt row number → x ≡ xAt form row → At row number out x ≡ inScope form scope out space key
-  unfolding inScope meant
-  in-at row number x q h = rw (h, ← got, q)
+module _ (form : List ℕ) (f : Found) (out : ℕ) where
+  pub meant-at : (row number x : ℕ) → f ≡ FoundAt row number → x ≡ xAt form row → At row number out x ≡ meant form f out
+  unfolding meant
+  meant-at row number x q h = rw (q, h)
 
-  pub in-nothing : f ≡ Nothing → Nowhere ≡ inScope form scope out space key
-  unfolding inScope meant
-  in-nothing q = rw (← got, q)
+  pub meant-nothing : f ≡ Nothing → Nowhere ≡ meant form f out
+  unfolding meant
+  meant-nothing q = rw q
+
+  pub meant-in : (scope space : ℕ) (key : Key) → f ≡ findIn form scope space key → (X : Meaning) → X ≡ meant form f out → X ≡ inScope form scope out space key
+  unfolding inScope
+  meant-in scope space key q X e = e ∙ rw q
 
 module _ (form : List ℕ) (row space name s : ℕ) (around : s ≡ scopeOf form row) (o : Outer) (got : o ≡ scopeOutward form s (Declaring space name)) where
   pub outward-at : (scope out : ℕ) → o ≡ OuterAt scope out → (X : Meaning) → X ≡ inScope form scope out space (Name name) → X ≡ outwardFor form row space name
@@ -106,4 +110,4 @@ module _ (form : List ℕ) (row : ℕ) (m : Meaning) (got : m ≡ meaningOf form
 
 pub ruleset final-ways = (final-behind, final-itself, final-nowhere, needs)
 
-pub ruleset meaning-ways = (reading-counting, reading-outward, reading-looked-up, outward-yes, outward-looked-up, outward-counting, in-at, in-nothing, outward-at, outward-nowhere, through-at, through-nowhere, meaning-outer, meaning-outward, meaning-here, needs)
+pub ruleset meaning-ways = (reading-counting, reading-outward, reading-looked-up, outward-yes, outward-looked-up, outward-counting, meant-at, meant-nothing, meant-in, outward-at, outward-nowhere, through-at, through-nowhere, meaning-outer, meaning-outward, meaning-here, needs)

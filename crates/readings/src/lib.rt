@@ -1,5 +1,5 @@
 // What a reference on the rows of a form means: outward where it is a walked name, by counting where it is a number, or looked up in one
-// scope. It takes any bytes.
+// scope. It takes any bytes. Whoever has the tables of a form lends them, and whoever has none lends nothing.
 use operands::index_key;
 pub use operands::is_inserted_outer;
 use operands::is_walked;
@@ -17,11 +17,12 @@ use scopes::Found;
 use scopes::Key;
 use scopes::Outer;
 use scopes::Wanted;
-use scopes::find;
-use scopes::scope_of;
-use scopes::scope_outward;
+use scopes::find_with;
+use scopes::scope_outward_with;
+use scopes::tables::scope_at;
 ghost use mathlib.Core.Path.{_≡_};
-ghost use Rattle.readings.specs.Meaning.{readingOf, isOutward, inScope, outwardFor, throughOuter, meaningOf, finalMeaning};
+ghost use Rattle.scopes.specs.Tables.{Known};
+ghost use Rattle.readings.specs.Meaning.{readingOf, isOutward, meant, outwardFor, throughOuter, meaningOf, finalMeaning};
 
 // The DECL row that is meant, its number in its scope, how many scopes out that is, and its name.
 pub enum Meaning {
@@ -68,11 +69,11 @@ pub fn is_outward(form: &[u8], row: u16) -> bool
     }
 }
 
-// The declaration that one scope has, this many scopes out.
-fn in_scope(form: &[u8], scope: u16, out: u32, space: u8, key: Key) -> Meaning
-    ensures { λ r. ⌜ r ≡ inScope (now (form .entry)) scope out space key ⌝ }
+// What was found so many scopes out.
+fn meant(form: &[u8], found: Found, out: u32) -> Meaning
+    ensures { λ r. ⌜ r ≡ meant (now (form .entry)) found out ⌝ }
 {
-    match find(form, scope, space, key) {
+    match found {
         Found::At { row, number } => Meaning::At {
             row,
             number,
@@ -84,44 +85,112 @@ fn in_scope(form: &[u8], scope: u16, out: u32, space: u8, key: Key) -> Meaning
 }
 
 // A name by the outward reading: the innermost scope around a row that declares it.
-fn outward(form: &[u8], row: u16, space: u8, name: u32) -> Meaning
+fn outward(
+    form: &[u8],
+    known: &[u16],
+    names: &[u16],
+    numbers: &[u16],
+    row: u16,
+    space: u8,
+    name: u32,
+) -> Meaning
+    requires { ⌜ Known (now form) (now known) (now names) (now numbers) ⌝ }
     ensures { λ r. ⌜ r ≡ outwardFor (now (form .entry)) row space name ⌝ }
 {
-    match scope_outward(form, scope_of(form, row), Wanted::Declaring { space, name }) {
-        Outer::At { scope, out } => in_scope(form, scope, out, space, Key::Name(name)),
+    match scope_outward_with(
+        form,
+        known,
+        names,
+        numbers,
+        scope_at(form, known, row),
+        Wanted::Declaring { space, name },
+    ) {
+        Outer::At { scope, out } => meant(
+            form,
+            find_with(form, known, names, numbers, scope, space, Key::Name(name)),
+            out,
+        ),
         Outer::Nowhere => Meaning::Nowhere,
     }
+}
+
+// The declaration at an OUTER's index in its outer scope, found with the tables of the form where they are lent.
+pub fn through_outer_with(
+    form: &[u8],
+    known: &[u16],
+    names: &[u16],
+    numbers: &[u16],
+    row: u16,
+) -> Meaning
+    requires { ⌜ Known (now form) (now known) (now names) (now numbers) ⌝ }
+    ensures { λ r. ⌜ r ≡ throughOuter (now (form .entry)) row ⌝ }
+{
+    let e = e_at(form, row);
+    match scope_outward_with(
+        form,
+        known,
+        names,
+        numbers,
+        scope_at(form, known, row),
+        outer_wanted(e, x_at(form, row)),
+    ) {
+        Outer::At { scope, out } => meant(
+            form,
+            find_with(
+                form,
+                known,
+                names,
+                numbers,
+                scope,
+                b_at(form, row),
+                index_key(e, y_at(form, row)),
+            ),
+            out,
+        ),
+        Outer::Nowhere => Meaning::Nowhere,
+    }
+}
+
+// The declaration that a REF or an OUTER means, found with the tables of the form where they are lent; a number counts in its own scope, and no
+// alias is followed.
+pub fn meaning_with(form: &[u8], known: &[u16], names: &[u16], numbers: &[u16], row: u16) -> Meaning
+    requires { ⌜ Known (now form) (now known) (now names) (now numbers) ⌝ }
+    ensures { λ r. ⌜ r ≡ meaningOf (now (form .entry)) row ⌝ }
+{
+    if code_at(form, row) == OUTER {
+        return through_outer_with(form, known, names, numbers, row);
+    }
+    let space = space_sought(form, row);
+    if is_outward(form, row) {
+        return outward(form, known, names, numbers, row, space, x_at(form, row));
+    }
+    meant(
+        form,
+        find_with(
+            form,
+            known,
+            names,
+            numbers,
+            scope_at(form, known, row),
+            space,
+            key_of(form, row),
+        ),
+        0,
+    )
 }
 
 // The declaration at an OUTER's index in its outer scope.
 pub fn through_outer(form: &[u8], row: u16) -> Meaning
     ensures { λ r. ⌜ r ≡ throughOuter (now (form .entry)) row ⌝ }
 {
-    let e = e_at(form, row);
-    match scope_outward(form, scope_of(form, row), outer_wanted(e, x_at(form, row))) {
-        Outer::At { scope, out } => in_scope(
-            form,
-            scope,
-            out,
-            b_at(form, row),
-            index_key(e, y_at(form, row)),
-        ),
-        Outer::Nowhere => Meaning::Nowhere,
-    }
+    through_outer_with(form, &[], &[], &[], row)
 }
 
 // The declaration that a REF or an OUTER means; a number counts in its own scope, and no alias is followed.
 pub fn meaning_of(form: &[u8], row: u16) -> Meaning
     ensures { λ r. ⌜ r ≡ meaningOf (now (form .entry)) row ⌝ }
 {
-    if code_at(form, row) == OUTER {
-        return through_outer(form, row);
-    }
-    let space = space_sought(form, row);
-    if is_outward(form, row) {
-        return outward(form, row, space, x_at(form, row));
-    }
-    in_scope(form, scope_of(form, row), 0, space, key_of(form, row))
+    meaning_with(form, &[], &[], &[], row)
 }
 
 // What a reference means in the end: behind an inserted outer alias, the declaration that the alias's OUTER counts to.

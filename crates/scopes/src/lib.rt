@@ -1,6 +1,12 @@
-// Scopes and what they declare, found by going through the rows. Which scope a row has, and which number a declaration, is in `scope_rows`.
+// Scopes and what they declare, found by going through the rows, or with the tables of a form where they are lent. Which scope a row has, and
+// which number a declaration, is in `scope_rows`.
 //
 // A scope is known by its first row, the one behind its OPEN. The rows outside every OPEN have 0 for theirs.
+mod lookup;
+pub mod tables;
+
+pub use crate::lookup::find_with;
+pub use crate::lookup::scope_outward_with;
 use row_parts::FIRST_FRESH;
 use row_parts::code_at;
 use row_parts::counted;
@@ -13,8 +19,7 @@ pub use scope_rows::level_behind;
 pub use scope_rows::number_of;
 pub use scope_rows::scope_of;
 ghost use mathlib.Core.Path.{_≡_};
-ghost use Prim.Native.Nat.{_<_};
-ghost use Rattle.scopes.specs.Scopes.{isMeant, findIn, declaresName, isWanted, scopeOutward};
+ghost use Rattle.scopes.specs.Scopes.{isMeant, findIn, scopeOutward};
 
 // What a declaration is looked for by.
 pub enum Key {
@@ -82,40 +87,9 @@ pub fn find(form: &[u8], scope: u16, space: u8, key: Key) -> Found
     Found::Nothing
 }
 
-// Whether a scope declares a name in a space.
-fn declares_name(form: &[u8], scope: u16, space: u8, name: u32) -> bool
-    ensures { λ r. ⌜ r ≡ declaresName (now (form .entry)) scope space name ⌝ }
-{
-    match find(form, scope, space, Key::Name(name)) {
-        Found::At { row: _, number: _ } => true,
-        Found::Nothing => false,
-    }
-}
-
-// Whether a scope, this many scopes out, is the one that is wanted.
-fn is_wanted(form: &[u8], scope: u16, out: u32, wanted: Wanted) -> bool
-    requires { ⌜ 0 < scope ⌝ }
-    ensures { λ r. ⌜ r ≡ isWanted (now (form .entry)) scope out wanted ⌝ }
-{
-    match wanted {
-        Wanted::Out(count) => out == count,
-        Wanted::Named(name) => x_at(form, scope - 1) == name,
-        Wanted::Declaring { space, name } => declares_name(form, scope, space, name),
-    }
-}
-
 // The first scope that is wanted, from a scope outward, that scope included.
 pub fn scope_outward(form: &[u8], scope: u16, wanted: Wanted) -> Outer
     ensures { λ r. ⌜ r ≡ scopeOutward (now (form .entry)) scope wanted ⌝ }
 {
-    let mut around = scope;
-    let mut out: u32 = 0;
-    while 0 < around {
-        if is_wanted(form, around, out, wanted) {
-            return Outer::At { scope: around, out };
-        }
-        around = scope_of(form, around - 1);
-        out += 1;
-    }
-    Outer::Nowhere
+    scope_outward_with(form, &[], &[], &[], scope, wanted)
 }

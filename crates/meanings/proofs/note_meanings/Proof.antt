@@ -1,5 +1,5 @@
 -- `meanings::note_meanings` meets its contract.
-use Rattle.meanings.proofs.ChainLaws.{chains-none}
+use Rattle.scopes.proofs.ChainLaws.{chains-none}
 use Rattle.meanings.proofs.EntryLaws.{noted-ways}
 use borrow.Author.Needs.{needs}
 use Rattle.meanings.proofs.note_meanings.Statement.{statement}

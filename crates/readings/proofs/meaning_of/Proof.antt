@@ -1,6 +1,6 @@
 -- `readings::meaning_of` meets its contract.
+use Rattle.scopes.proofs.FoundLaws.{lent-ways}
 use borrow.Author.Needs.{needs}
-use Rattle.readings.proofs.MeaningLaws.{meaning-ways}
 use Rattle.readings.proofs.meaning_of.Statement.{statement}
 use Rattle.readings.proofs.meaning_of.Tie as tie
 
@@ -8,15 +8,8 @@ pub meaning-of-spec : {M : Type 1} → statement M
 meaning-of-spec =
     tie.close
     (tie.spec
-    (λ c κs. search needs)  -- code-at-requires
-    (λ c κs. search needs)  -- through-outer-requires
-    (λ c. search meaning-ways)  -- returns
-    (λ c κs. search needs)  -- space-sought-requires
-    (λ c κs. search needs)  -- is-outward-requires
-    (λ c κs. search needs)  -- x-at-requires
-    (λ c κs. search needs)  -- outward-requires
-    (λ c. search meaning-ways)  -- returns-2
-    (λ c κs. search needs)  -- scope-of-requires
-    (λ c κs. search needs)  -- key-of-requires
-    (λ c κs. search needs)  -- in-scope-requires
-    (λ c. search meaning-ways))  -- returns-3
+    (λ c. search needs)  -- slice-aggregate-meaning-with
+    (λ c. search needs)  -- slice-aggregate-meaning-with-2
+    (λ c. search needs)  -- slice-aggregate-meaning-with-3
+    (λ c κs. search lent-ways)  -- meaning-with-requires
+    (λ c. search needs))  -- returns

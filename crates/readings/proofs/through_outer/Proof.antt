@@ -1,6 +1,6 @@
 -- `readings::through_outer` meets its contract.
+use Rattle.scopes.proofs.FoundLaws.{lent-ways}
 use borrow.Author.Needs.{needs}
-use Rattle.readings.proofs.MeaningLaws.{meaning-ways}
 use Rattle.readings.proofs.through_outer.Statement.{statement}
 use Rattle.readings.proofs.through_outer.Tie as tie
 
@@ -8,16 +8,8 @@ pub through-outer-spec : {M : Type 1} → statement M
 through-outer-spec =
     tie.close
     (tie.spec
-    (λ c κs. search needs)  -- e-at-requires
-    (λ c κs. search needs)  -- scope-of-requires
-    (λ c κs. search needs)  -- x-at-requires
-    (λ c κs. search needs)  -- outer-wanted-requires
-    (λ c κs. search needs)  -- scope-outward-requires
-    (λ c. search needs)  -- enum-known-scope
-    (λ c κs. search needs)  -- b-at-requires
-    (λ c κs. search needs)  -- y-at-requires
-    (λ c κs. search needs)  -- index-key-requires
-    (λ c κs. search needs)  -- in-scope-requires
-    (λ c. search needs)  -- enum-told
-    (λ c. search meaning-ways)  -- returns
-    (λ c. search meaning-ways))  -- returns-2
+    (λ c. search needs)  -- slice-aggregate-through-outer-with
+    (λ c. search needs)  -- slice-aggregate-through-outer-with-2
+    (λ c. search needs)  -- slice-aggregate-through-outer-with-3
+    (λ c κs. search lent-ways)  -- through-outer-with-requires
+    (λ c. search needs))  -- returns

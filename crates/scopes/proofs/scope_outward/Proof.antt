@@ -1,30 +1,15 @@
--- `scopes::scope_outward` meets its contract. The invariant: the way outward from here answers what the way from the start does.
-use mathlib.Core.Path.{_≡_}
-use Prim.Native.Nat.{_+_, _-_, _≤_}
-use Rattle.scopes.specs.Scopes.{outwardFrom, scopeOutward}
+-- `scopes::scope_outward` meets its contract.
+use Rattle.scopes.proofs.FoundLaws.{lent-ways}
 use borrow.Author.Needs.{needs}
-use Rattle.scopes.proofs.ScopeLaws.{outward-ways}
 use Rattle.scopes.proofs.scope_outward.Statement.{statement}
 use Rattle.scopes.proofs.scope_outward.Tie as tie
-
-abbrev Inv-loop : tie.InvT-loop
-Inv-loop form scope wanted around₀ out₀ around out = (outwardFrom form wanted (scope - out) around out ≡ scopeOutward form scope wanted) × (around + out ≤ scope)
-
-abbrev μ-loop : tie.MeasureT-loop
-μ-loop form scope wanted around₀ out₀ around out = around
 
 pub scope-outward-spec : {M : Type 1} → statement M
 scope-outward-spec =
     tie.close
     (tie.spec
-    Inv-loop
-    μ-loop
-    (λ c. search outward-ways)  -- loop-holds
-    (λ c κs. search needs)  -- is-wanted-requires
-    (λ c. search outward-ways)  -- returns
-    (λ c. search needs)  -- sub-scope-of
-    (λ c κs. search needs)  -- scope-of-requires
-    (λ c. search needs)  -- add-out
-    (λ c. search needs)  -- loop-less
-    (λ c. search outward-ways)  -- loop-again
-    (λ c. search outward-ways))  -- returns-2
+    (λ c. search needs)  -- slice-aggregate-scope-outward-with
+    (λ c. search needs)  -- slice-aggregate-scope-outward-with-2
+    (λ c. search needs)  -- slice-aggregate-scope-outward-with-3
+    (λ c κs. search lent-ways)  -- scope-outward-with-requires
+    (λ c. search needs))  -- returns

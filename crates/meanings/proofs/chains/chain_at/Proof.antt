@@ -1,5 +1,5 @@
 -- `meanings::chains::chain_at` meets its contract.
-use Rattle.meanings.proofs.ChainLaws.{chain-ways}
+use Rattle.scopes.proofs.ChainLaws.{chain-ways}
 use Rattle.meanings.proofs.chains.chain_at.Statement.{statement}
 use Rattle.meanings.proofs.chains.chain_at.Tie as tie
 

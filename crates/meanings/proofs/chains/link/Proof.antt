@@ -1,5 +1,5 @@
 -- `meanings::chains::link` meets its contract.
-use Rattle.meanings.proofs.ChainLaws.{link-ways}
+use Rattle.scopes.proofs.ChainLaws.{link-ways}
 use borrow.Author.Needs.{needs}
 use Rattle.meanings.proofs.chains.link.Statement.{statement}
 use Rattle.meanings.proofs.chains.link.Tie as tie

@@ -1,13 +1,13 @@
 -- `meanings::chains::note_chains` meets its contract.
-use Rattle.meanings.proofs.ChainLaws.{chains-on, chains-all}
-use Rattle.meanings.proofs.TableLaws.{counts-below}
+use Rattle.scopes.proofs.ChainLaws.{chains-on, chains-all}
+use Rattle.scopes.proofs.TableLaws.{counts-below}
 use native.Mathlib.Omega.{arith}
 use borrow.Author.Needs.{needs}
 use mathlib.Core.Path.{_≡_}
 use Prim.Native.Nat.{_-_, _≤_}
 use lib.ListN.{length}
 use Rattle.row_parts.specs.Parts.{rowsIn}
-use Rattle.meanings.specs.Tables.{Chains}
+use Rattle.scopes.specs.Tables.{Chains}
 use Rattle.meanings.proofs.chains.note_chains.Statement.{statement}
 use Rattle.meanings.proofs.chains.note_chains.Tie as tie
 

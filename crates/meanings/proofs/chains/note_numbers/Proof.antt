@@ -1,13 +1,13 @@
 -- `meanings::chains::note_numbers` meets its contract.
-use Rattle.meanings.proofs.ChainLaws.{chain-space, chains-on}
-use Rattle.meanings.proofs.TableLaws.{counts-none, scopes-kept, counts-on, counts-below}
+use Rattle.scopes.proofs.ChainLaws.{chain-space, chains-on}
+use Rattle.scopes.proofs.TableLaws.{counts-none, scopes-kept, counts-on, counts-below}
 use native.Mathlib.Omega.{arith}
 use borrow.Author.Needs.{needs}
 use mathlib.Core.Path.{_≡_}
 use Prim.Native.Nat.{_-_, _≤_, _<_}
 use lib.ListN.{length}
 use Rattle.row_parts.specs.Parts.{rowsIn}
-use Rattle.meanings.specs.Tables.{Scopes, Counts, Chains}
+use Rattle.scopes.specs.Tables.{Scopes, Counts, Chains}
 use Rattle.meanings.proofs.chains.note_numbers.Statement.{statement}
 use Rattle.meanings.proofs.chains.note_numbers.Tie as tie
 

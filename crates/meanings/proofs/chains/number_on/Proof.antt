@@ -1,11 +1,11 @@
 -- `meanings::chains::number_on` meets its contract. The invariant: as many are counted above the next row on the chain as above the row.
-use Rattle.meanings.proofs.ChainLaws.{link-less, count-start, count-hit, count-next, count-end}
-use Rattle.meanings.proofs.TableLaws.{counts-below}
+use Rattle.scopes.proofs.ChainLaws.{link-less, count-start, count-hit, count-next, count-end}
+use Rattle.scopes.proofs.TableLaws.{counts-below}
 use native.Mathlib.Omega.{arith}
 use borrow.Author.Needs.{needs}
 use mathlib.Core.Path.{_≡_}
 use Prim.Native.Nat.{_≤_}
-use Rattle.meanings.specs.Tables.{countAbove, countOf, lastAbove}
+use Rattle.scopes.specs.Tables.{countAbove, countOf, lastAbove}
 use Rattle.meanings.proofs.chains.number_on.Statement.{statement}
 use Rattle.meanings.proofs.chains.number_on.Tie as tie
 

@@ -1,5 +1,5 @@
 -- `meanings::chains::value_at` meets its contract.
-use Rattle.meanings.proofs.ChainLaws.{chain-ways}
+use Rattle.scopes.proofs.ChainLaws.{chain-ways}
 use borrow.Author.Needs.{needs}
 use Rattle.meanings.proofs.chains.value_at.Statement.{statement}
 use Rattle.meanings.proofs.chains.value_at.Tie as tie

@@ -1,6 +1,7 @@
 -- `meanings::meaning::meant_by` meets its contract.
 use Rattle.meanings.proofs.EntryLaws.{meant-ways}
-use Rattle.meanings.proofs.TableLaws.{counts-below}
+use Rattle.scopes.proofs.FoundLaws.{lent-ways}
+use Rattle.scopes.proofs.TableLaws.{counts-below}
 use native.Mathlib.Omega.{arith}
 use borrow.Author.Needs.{needs}
 use Rattle.meanings.proofs.meaning.meant_by.Statement.{statement}
@@ -16,6 +17,6 @@ meant-by-spec =
     (λ c κs. search needs)  -- x-at-requires
     (λ c. search meant-ways)  -- returns
     (λ c κs. search needs)  -- is-reference-requires
-    (λ c κs. search needs)  -- meaning-of-requires
+    (λ c κs. search lent-ways)  -- meaning-with-requires
     (λ c. search meant-ways)  -- returns-2
     (λ c. search meant-ways))  -- returns-3

@@ -1,12 +1,12 @@
 -- `meanings::tables::note_scopes` meets its contract.
-use Rattle.meanings.proofs.TableLaws.{scopes-on, scopes-ways}
+use Rattle.scopes.proofs.TableLaws.{scopes-on, scopes-ways}
 use native.Mathlib.Omega.{arith}
 use borrow.Author.Needs.{needs}
 use mathlib.Core.Path.{_≡_}
 use Prim.Native.Nat.{_-_, _≤_}
 use lib.ListN.{length}
 use Rattle.scopes.specs.Scopes.{scopeOf}
-use Rattle.meanings.specs.Tables.{Scopes}
+use Rattle.scopes.specs.Tables.{Scopes}
 use Rattle.meanings.proofs.tables.note_scopes.Statement.{statement}
 use Rattle.meanings.proofs.tables.note_scopes.Tie as tie
 

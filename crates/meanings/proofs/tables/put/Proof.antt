@@ -1,5 +1,5 @@
 -- `meanings::tables::put` meets its contract.
-use Rattle.meanings.proofs.TableLaws.{table-ways}
+use Rattle.scopes.proofs.TableLaws.{table-ways}
 use borrow.Author.Needs.{needs}
 use Rattle.meanings.proofs.tables.put.Statement.{statement}
 use Rattle.meanings.proofs.tables.put.Tie as tie

@@ -1,5 +1,5 @@
 -- `meanings::tables::scope_behind` meets its contract.
-use Rattle.meanings.proofs.TableLaws.{behind-ways}
+use Rattle.scopes.proofs.TableLaws.{behind-ways}
 use borrow.Author.Needs.{needs}
 use Rattle.meanings.proofs.tables.scope_behind.Statement.{statement}
 use Rattle.meanings.proofs.tables.scope_behind.Tie as tie

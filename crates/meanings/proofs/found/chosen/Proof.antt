@@ -1,9 +1,0 @@
--- `meanings::found::chosen` meets its contract.
-use Rattle.kit.proofs.Laws.{picks}
-use Rattle.meanings.proofs.found.chosen.Statement.{statement}
-use Rattle.meanings.proofs.found.chosen.Tie as tie
-
-pub chosen-spec : {M : Type 1} → statement M
-chosen-spec = tie.close (tie.spec
-    (λ c. search picks)  -- returns
-    (λ c. search picks))  -- returns-2
