@@ -23,8 +23,8 @@ use Rattle.mend_form.proofs.Right.{rows-split}
 use Rattle.mend_list.specs.Listed.{listed, none, noted, changesIn}
 use Rattle.mend_list.specs.declared.Listed.{Listed}
 use Rattle.reader.specs.ReadTo.{readTo}
-use Rattle.reader.specs.declared.read.RowsRead.{RowsRead}
-use Rattle.reader.specs.declared.read.RowsRead.the-variants as rowsRead
+use Rattle.reader.specs.declared.RowsRead.{RowsRead}
+use Rattle.reader.specs.declared.RowsRead.the-variants as rowsRead
 use Rattle.mend.specs.Run.{Ran, refusedT, lettersT, asksT, placeT, newT, inPlace, writeT, readThen, roomT, toT, madeT}
 use Rattle.mend.specs.declared.run.Answer.{Answer}
 use Rattle.mend.specs.declared.run.Answer.the-variants.{Mended}

@@ -11,8 +11,8 @@ use Rattle.rules.specs.Answer.{headerBytes}
 use Rattle.limits.specs.declared.Limits.{Limits}
 use Rattle.limits.specs.Held.{settingIn, limitsOf, setting}
 use Rattle.reader.specs.ReadTo.{readTo}
-use Rattle.reader.specs.declared.read.RowsRead.{RowsRead}
-use Rattle.reader.specs.declared.read.RowsRead.the-variants as rowsRead
+use Rattle.reader.specs.declared.RowsRead.{RowsRead}
+use Rattle.reader.specs.declared.RowsRead.the-variants as rowsRead
 use Rattle.mending.specs.Mend.{listBytes}
 use Rattle.mend_form.specs.Kept.{keptIn}
 use Rattle.mend_form.specs.Filled.{mendedBodyT}

@@ -8,7 +8,7 @@ use mend_form::Kept;
 use mend_form::kept_in;
 use mend_list::list_changes;
 use mend_read::read_mended;
-use reader::read::RowsRead;
+use reader::RowsRead;
 use refusal::BROKEN;
 use refusal::DEEP;
 use refusal::NOT_A_FORM;

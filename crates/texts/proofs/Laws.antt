@@ -10,8 +10,8 @@ use lib.ListN.{length}
 use Rattle.kit.proofs.Laws.{yes!, no!, tests}
 use Rattle.kit.specs.Out.{Out, _&_}
 use Rattle.text.specs.declared.lines.Why.{Why}
-use Rattle.text.specs.declared.parse.Parsed.{Parsed}
-use Rattle.text.specs.declared.parse.Parsed.the-variants.{Rows, Wrong}
+use Rattle.text.specs.declared.Parsed.{Parsed}
+use Rattle.text.specs.declared.Parsed.the-variants.{Rows, Wrong}
 use Rattle.texts.specs.declared.make.Made.the-variants.{Form, Nothing}
 use Rattle.texts.specs.Made.{made}
 use Rattle.texts.specs.Whole.{rowsIn, beginsWell, countsWell, isWhole}

@@ -1,8 +1,8 @@
--- `text::parse::end_text` meets its contract.
+-- `text::end_text` meets its contract.
 use borrow.Author.Needs.{needs}
 use Rattle.text.proofs.TextLaws.{end-ways}
-use Rattle.text.proofs.parse.end_text.Statement.{statement}
-use Rattle.text.proofs.parse.end_text.Tie as tie
+use Rattle.text.proofs.end_text.Statement.{statement}
+use Rattle.text.proofs.end_text.Tie as tie
 
 pub end-text-spec : {M : Type 1} → statement M
 end-text-spec =

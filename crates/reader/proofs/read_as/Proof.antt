@@ -1,8 +1,8 @@
--- `reader::read::read_as` meets its contract.
+-- `reader::read_as` meets its contract.
 use Rattle.reader.proofs.Steps.{reads-ways}
 use borrow.Author.Needs.{needs}
-use Rattle.reader.proofs.read.read_as.Statement.{statement}
-use Rattle.reader.proofs.read.read_as.Tie as tie
+use Rattle.reader.proofs.read_as.Statement.{statement}
+use Rattle.reader.proofs.read_as.Tie as tie
 
 pub read-as-spec : {M : Type 1} → statement M
 read-as-spec =

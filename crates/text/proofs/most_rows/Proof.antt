@@ -1,8 +1,8 @@
--- `text::parse::most_rows` meets its contract.
+-- `text::most_rows` meets its contract.
 use borrow.Author.Needs.{needs}
 use Rattle.text.proofs.TextLaws.{most-ways}
-use Rattle.text.proofs.parse.most_rows.Statement.{statement}
-use Rattle.text.proofs.parse.most_rows.Tie as tie
+use Rattle.text.proofs.most_rows.Statement.{statement}
+use Rattle.text.proofs.most_rows.Tie as tie
 
 pub most-rows-spec : {M : Type 1} → statement M
 most-rows-spec =

@@ -1,8 +1,8 @@
--- `reader::read::read_to` meets its contract: its twin, and `read-right` of `Storey`.
+-- `reader::read_to` meets its contract: its twin, and `read-right` of `Storey`.
 use Rattle.reader.proofs.Steps.{read-other, read-kind, read-none, read-root}
 use borrow.Author.Needs.{needs}
-use Rattle.reader.proofs.read.read_to.Statement.{statement}
-use Rattle.reader.proofs.read.read_to.Tie as tie
+use Rattle.reader.proofs.read_to.Statement.{statement}
+use Rattle.reader.proofs.read_to.Tie as tie
 
 pub read-to-spec : {M : Type 1} → statement M
 read-to-spec =

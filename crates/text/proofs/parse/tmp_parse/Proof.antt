@@ -1,4 +1,4 @@
--- `text::parse::parse` meets its contract. The invariant: the lines from here on make of the rows so far what all lines make.
+-- `text::parse` meets its contract. The invariant: the lines from here on make of the rows so far what all lines make.
 use mathlib.Core.Path.{_≡_}
 use Prim.Native.Nat.{_-_, _≤_}
 use lib.ListN.{length, drop}
@@ -6,8 +6,8 @@ use Rattle.text.specs.Lines.{linesOf}
 use Rattle.text.specs.Text.{mostRows, linesThen, parsed}
 use borrow.Author.Needs.{needs}
 use Rattle.text.proofs.TextLaws.{text-start, text-end, text-wrong, text-many, row-room, rows-room, text-ways}
-use Rattle.text.proofs.parse.parse.Statement.{statement}
-use Rattle.text.proofs.parse.parse.Tie as tie
+use Rattle.text.proofs.parse.Statement.{statement}
+use Rattle.text.proofs.parse.Tie as tie
 
 abbrev Inv-loop : tie.InvT-loop
 Inv-loop text out₀ most from₀ line₀ rows₀ out from line rows = (linesThen (linesOf (drop from text)) most line rows out ≡ parsed text out₀) × (most ≡ mostRows (length out₀)) × (length out ≡ length out₀) × (rows ≤ most) × (line ≤ from) × (from ≤ length text)

@@ -1,4 +1,4 @@
--- `reader::read::read_on` meets its contract. The invariant: what the rows from here on come to is what they come to from the start.
+-- `reader::read_on` meets its contract. The invariant: what the rows from here on come to is what they come to from the start.
 use mathlib.Core.Path.{_≡_}
 use Prim.Native.Nat.{_-_, _/_}
 use lib.ListN.{length}
@@ -8,8 +8,8 @@ use Rattle.limits.specs.Held.{rulesOf}
 use Rattle.read_row.specs.Machine.{outcomeOf}
 use Rattle.reader.specs.Machine.{readOnT}
 use Rattle.reader.proofs.Steps.{on-ways}
-use Rattle.reader.proofs.read.read_on.Statement.{statement}
-use Rattle.reader.proofs.read.read_on.Tie as tie
+use Rattle.reader.proofs.read_on.Statement.{statement}
+use Rattle.reader.proofs.read_on.Tie as tie
 
 abbrev Inv-loop : tie.InvT-loop
 Inv-loop rows kinds₀ table allowed top rules n s₀ i₀ kinds s i =

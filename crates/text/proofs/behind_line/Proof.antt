@@ -1,12 +1,12 @@
--- `text::parse::behind_line` meets its contract. The invariant: the line is as long as what is passed of it and what is left.
+-- `text::behind_line` meets its contract. The invariant: the line is as long as what is passed of it and what is left.
 use mathlib.Core.Path.{_≡_}
 use Prim.Native.Nat.{_+_, _-_, _≤_}
 use lib.ListN.{length, drop}
 use Rattle.text.specs.Lines.{lineLength}
 use borrow.Author.Needs.{needs}
 use Rattle.text.proofs.TextLaws.{length-ways}
-use Rattle.text.proofs.parse.behind_line.Statement.{statement}
-use Rattle.text.proofs.parse.behind_line.Tie as tie
+use Rattle.text.proofs.behind_line.Statement.{statement}
+use Rattle.text.proofs.behind_line.Tie as tie
 
 abbrev Inv-loop : tie.InvT-loop
 Inv-loop text from end₀ end = (end + lineLength (drop end text) ≡ from + lineLength (drop from text)) × (from ≤ end) × (end ≤ length text)
