@@ -2,7 +2,7 @@
 use crate::numbers::enter_row;
 use crate::numbers::input_row;
 use crate::numbers::renamed_row;
-use form::header::HEADER;
+use fixed::HEADER;
 use form::header::Header;
 use form::header::header_of;
 use names::Slot;

@@ -1,5 +1,5 @@
 // The written numbers that inserted aliases have moved, in a form of any version that is in force: in working areas that are lent.
-use form::header::HEADER;
+use fixed::HEADER;
 use lent_areas::clear_areas;
 use moved::run::Answer;
 use moved::run::fill_fronts;

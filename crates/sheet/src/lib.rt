@@ -2,6 +2,7 @@
 //
 // Only the very bytes that document 01 writes for the input are its resolved form. So the input is resolved once more, in a working area
 // that is lent, and compared; the slots are then answered on the rows of the resolved form.
+use fixed::bytes_of;
 use refusal::ROOM;
 use refusal::Refusal;
 use resolver::run::Answer as Resolved;
@@ -82,7 +83,7 @@ fn resolves_to(form: &[u8], resolved: &[u8], area: &mut [u8]) -> bool
     if rows == 0 {
         return false;
     }
-    if resolved.len() != 8 + 16 * (rows as usize) {
+    if resolved.len() != bytes_of(rows) {
         return false;
     }
     begins(area, resolved)

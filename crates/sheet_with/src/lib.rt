@@ -1,5 +1,5 @@
 // A binding sheet held against an input and its resolved form of any version that is in force: in working areas that are lent.
-use form::header::HEADER;
+use fixed::HEADER;
 use lent_areas::are_roomy;
 use lent_areas::clear_areas;
 use limits::of_input;

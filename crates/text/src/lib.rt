@@ -9,10 +9,11 @@ use crate::lines::Why;
 use crate::lines::line_of;
 use crate::store::put_header;
 use crate::store::put_parts;
+use fixed::HEADER;
+use fixed::bytes_of;
 ghost use mathlib.Core.Path.{_≡_};
-ghost use Prim.Native.Nat.{_+_, _*_, _<_, _≤_};
+ghost use Prim.Native.Nat.{_+_, _<_, _≤_};
 ghost use lib.ListN.{length, drop};
-ghost use lib.Seq.{sets};
 ghost use Rattle.kit.specs.Out.{_&_};
 ghost use Rattle.text.specs.Lines.{lineLength};
 ghost use Rattle.text.specs.Text.{mostRows, ended, parsed};
@@ -30,10 +31,10 @@ pub enum Parsed {
 fn most_rows(length: usize) -> u32
     ensures { λ r. ⌜ (r ≡ mostRows length) × (r ≤ 4092) ⌝ }
 {
-    if length < 8 {
+    if length < HEADER {
         return 0;
     }
-    let rows = (length - 8) / 16;
+    let rows = (length - HEADER) / 16;
     if rows < 4092 { rows as u32 } else { MOST }
 }
 
@@ -50,12 +51,6 @@ fn behind_line(text: &[u8], from: usize) -> usize
         end += 1;
     }
     end
-}
-
-fn start_of(row: u32) -> usize
-    ensures { λ r. ⌜ r ≡ 8 + 16 * row ⌝ }
-{
-    8 + 16 * (row as usize)
 }
 
 // What is answered where the text ends.
@@ -94,7 +89,7 @@ pub fn parse(text: &[u8], out: &mut [u8]) -> Parsed
                         why: Why::Many,
                     };
                 }
-                put_parts(out, start_of(rows), parts);
+                put_parts(out, bytes_of(rows), parts);
                 rows += 1;
             }
         }

@@ -1,7 +1,7 @@
 // The whole way back: what is restored is given only if it resolves to the very bytes of the resolved form.
 use crate::restore::restore_first;
 use copy::copy;
-use form::header::HEADER;
+use fixed::HEADER;
 use refusal::ROOM;
 use refusal::Refusal;
 use refusal::Told;
