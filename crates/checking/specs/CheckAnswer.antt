@@ -2,10 +2,11 @@
 -- index of numbers.
 use mathlib.Core.Bool.{Bool, _||_, not}
 use mathlib.Core.Option.{Option, none, some}
-use mathlib.Core.List.{List, [], _∷_, _++_}
+use mathlib.Core.List.{List, [], _∷_}
 use Prim.Native.Nat.{ℕ, _+_, _*_}
 use lib.Dec.{eqb, ltb}
-use lib.ListN.{length, take, drop, replicate}
+use lib.ListN.{length, replicate}
+use Rattle.clearing.specs.Cleared.{cleared}
 use Rattle.rules.specs.Tools.{if_then_else_, between, _orElse_}
 use Rattle.rules.specs.Versions.{Version, Setting}
 use Rattle.rules.specs.Answer.{settingOf, rowCount}
@@ -38,10 +39,6 @@ checkAnswer settings input claim slots links = checkFor (settingOf settings inpu
 
 -- ---- the areas: after every return zero up to that size, all of them where they are shorter, and later ones unchanged
 
--- an area whose first `size` entries are zero, the others as they were
-unfoldable pub cleared : {A : Type 0} → (size : ℕ) (zero : A) → List A → List A
-cleared size zero old = replicate (length (take size old)) zero ++ drop size old
-
 -- the size is that of the version which the input asks for; the first's, if it asks for none that there is
 unfoldable pub sizedBy : List Setting → (input : List ℕ) → Option Setting
 sizedBy [] input = none
@@ -49,7 +46,7 @@ sizedBy (s ∷ ss) input = settingOf (s ∷ ss) input orElse some s
 
 unfoldable pub areaFor : {A : Type 0} → (Version → ℕ) → Option Setting → (zero : A) → List A → List A
 areaFor size none zero old = old
-areaFor size (some s) zero old = cleared (size (s .version)) zero old
+areaFor size (some s) zero old = cleared zero (size (s .version)) old
 
 -- what the table of slots holds after the call
 unfoldable pub tableAfter : List Setting → (input : List ℕ) (old : List (List ℕ)) → List (List ℕ)

@@ -1,14 +1,14 @@
--- `claim_check::area::clear_index` meets its contract.
+-- `areas::clear_links` meets its contract.
 use mathlib.Core.Path.{sym}
 use native.Mathlib.Omega.{arith}
 use lib.Seq.{length-take-le}
-use Rattle.claim_check.proofs.Ways.{fronts}
 use borrow.Author.Needs.{needs}
-use Rattle.claim_check.proofs.area.clear_index.Statement.{statement}
-use Rattle.claim_check.proofs.area.clear_index.Tie as tie
+use Rattle.areas.proofs.Zeros.{fronts}
+use Rattle.areas.proofs.clear_links.Statement.{statement}
+use Rattle.areas.proofs.clear_links.Tie as tie
 
-pub clear-index-spec : {M : Type 1} → statement M
-clear-index-spec =
+pub clear-links-spec : {M : Type 1} → statement M
+clear-links-spec =
     tie.close
     (tie.spec
     (λ c κs. search needs)  -- zero-links-requires

@@ -1,14 +1,14 @@
--- `claim_check::area::clear_table` meets its contract.
+-- `areas::clear_slots` meets its contract.
 use mathlib.Core.Path.{sym}
 use native.Mathlib.Omega.{arith}
 use lib.Seq.{length-take-le}
-use Rattle.claim_check.proofs.Ways.{fronts}
 use borrow.Author.Needs.{needs}
-use Rattle.claim_check.proofs.area.clear_table.Statement.{statement}
-use Rattle.claim_check.proofs.area.clear_table.Tie as tie
+use Rattle.areas.proofs.Zeros.{fronts}
+use Rattle.areas.proofs.clear_slots.Statement.{statement}
+use Rattle.areas.proofs.clear_slots.Tie as tie
 
-pub clear-table-spec : {M : Type 1} → statement M
-clear-table-spec =
+pub clear-slots-spec : {M : Type 1} → statement M
+clear-slots-spec =
     tie.close
     (tie.spec
     (λ c κs. search needs)  -- zero-slots-requires
