@@ -113,8 +113,8 @@ fn form_text(text: &[u8], from: &[u8], to: &[u8]) -> u8 {
 fn form_paths(from: &[u8], to: &[u8]) -> u8 {
     let mut buffer = [0u8; 524289];
     match load_text(from, &mut buffer) {
-        texts::load::Loaded::Bytes(length) => form_text(text_part(&buffer, length), from, to),
-        texts::load::Loaded::Failed => FAILED,
+        Loaded::Bytes(length) => form_text(text_part(&buffer, length), from, to),
+        Loaded::Failed => FAILED,
     }
 }
 
