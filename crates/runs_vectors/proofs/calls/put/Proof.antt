@@ -1,10 +1,10 @@
--- `vectors::calls::put` is safe and ends: the bytes that are left fall, and the buffer keeps its length.
+-- `runs_vectors::calls::put` is safe and ends: the bytes that are left fall, and the buffer keeps its length.
 use mathlib.Core.Path.{_≡_}
 use Prim.Native.Nat.{_-_, _≤_}
 use lib.ListN.{length}
 use borrow.Author.Needs.{needs}
-use Rattle.vectors.proofs.calls.put.Statement.{statement}
-use Rattle.vectors.proofs.calls.put.Tie as tie
+use Rattle.runs_vectors.proofs.calls.put.Statement.{statement}
+use Rattle.runs_vectors.proofs.calls.put.Tie as tie
 
 abbrev Inv-loop : tie.InvT-loop
 Inv-loop form buffer₀ i₀ buffer i = (i ≤ length form) × (length buffer ≡ length buffer₀)

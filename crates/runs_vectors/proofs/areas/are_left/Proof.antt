@@ -1,8 +1,8 @@
--- `vectors::areas::are_left` is safe and ends: the elements that are left fall.
+-- `runs_vectors::areas::are_left` is safe and ends: the elements that are left fall.
 use Prim.Native.Nat.{_-_}
 use borrow.Author.Needs.{needs}
-use Rattle.vectors.proofs.areas.are_left.Statement.{statement}
-use Rattle.vectors.proofs.areas.are_left.Tie as tie
+use Rattle.runs_vectors.proofs.areas.are_left.Statement.{statement}
+use Rattle.runs_vectors.proofs.areas.are_left.Tie as tie
 
 abbrev Inv-loop : tie.InvT-loop
 Inv-loop slots links numbers cleared i₀ i = Unit {0}

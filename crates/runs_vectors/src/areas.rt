@@ -3,7 +3,7 @@ use crate::head::Head;
 use crate::head::cleared_at;
 use names::Slot;
 ghost use Prim.Native.Nat.{_+_, _≤_};
-ghost use Rattle.vectors.specs.Lent.{Counts};
+ghost use Rattle.runs_vectors.specs.Lent.{Counts};
 
 pub const FILLED_LINK: u16 = 42405;
 
