@@ -1,5 +1,5 @@
 #!/usr/bin/env python3
-"""Writes crates/runs/stdin and crates/runs/stdout: the runs of the rules' Examples and FurtherRuns, and those on both sides of each
+"""Writes crates/runs_rules/stdin and crates/runs_rules/stdout: the runs of the rules' Examples and FurtherRuns, and those on both sides of each
 line of document 01. What is expected is that of the rules' files, or is said here; no resolver is asked."""
 import re, struct
 
@@ -85,9 +85,9 @@ run("rule set 1", form(empty, mark=b"WNT\x01\x00\x01"), 136, 1, 0)
 run("a byte more", form(empty) + b"\0", 136, 2, 0)
 run("a row less", form(empty, 3), 200, 2, 0)
 
-with open("crates/runs/stdin", "wb") as f:
+with open("crates/runs_rules/stdin", "wb") as f:
     for name, data, room, *_ in runs:
         f.write(name.encode().ljust(16) + struct.pack("<II", len(data), room) + data)
-with open("crates/runs/stdout", "w") as f:
+with open("crates/runs_rules/stdout", "w") as f:
     for name, _, _, number, place, sum, _ in runs:
         f.write(f"{name.ljust(16)} {number} {place} {sum}\n")

@@ -1,5 +1,5 @@
 //! Fixed vectors: calls of the library's functions, and what must come of them by the readings of this package, in a flat
-//! file that `crates/vectors` replays.
+//! file that `crates/runs_vectors` replays.
 //!
 //! A vector begins with 25 words, little endian: the function; a number that it is given (a version, a choice, a length, a
 //! row); the upper and the lower half of its answer; the lengths of three inputs; and for each of six buffers that it is

@@ -1,8 +1,8 @@
-/* Does the runs of crates/runs with the static library, and prints the lines that the proved program prints: for each run
+/* Does the runs of crates/runs_rules with the static library, and prints the lines that the proved program prints: for each run
  * its name, the refusal's number and place or 0 and the number of rows, and a sum over the output.
  * examples/README.md says how it is built and run.
  *
- * crates/runs/src/main.rt has the layout of the input. */
+ * crates/runs_rules/src/main.rt has the layout of the input. */
 #include <inttypes.h>
 #include <stdio.h>
 #include <string.h>

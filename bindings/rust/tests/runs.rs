@@ -1,5 +1,5 @@
-//! The runs of crates/runs through the wrapper: P1 to P10, both sides of each limit, every refusal. The lines are those that
-//! the proved program prints; `crates/runs/src/main.rt` has the layout of its input.
+//! The runs of crates/runs_rules through the wrapper: P1 to P10, both sides of each limit, every refusal. The lines are those that
+//! the proved program prints; `crates/runs_rules/src/main.rt` has the layout of its input.
 
 use std::fs;
 use wnt::resolve_into;
@@ -35,8 +35,8 @@ fn run(rest: &mut &[u8]) -> String {
 
 #[test]
 fn the_runs_give_what_is_stored() {
-    let input = fs::read("../../crates/runs/stdin").expect("the repository has the runs");
-    let stored = fs::read_to_string("../../crates/runs/stdout").expect("the repository has their output");
+    let input = fs::read("../../crates/runs_rules/stdin").expect("the repository has the runs");
+    let stored = fs::read_to_string("../../crates/runs_rules/stdout").expect("the repository has their output");
     let (mut rest, mut lines) = (&input[..], String::new());
     while !rest.is_empty() {
         lines.push_str(&run(&mut rest));

@@ -14,8 +14,8 @@ use Rattle.names.specs.Table.{Slot, emptySlot}
 use Rattle.index.specs.Indexed.{Holds}
 use Rattle.index.proofs.Storey.{holds-none}
 use Rattle.reader.specs.ReadTo.{readOf}
-use Rattle.reader.specs.declared.read.RowsRead.{RowsRead}
-use Rattle.reader.specs.declared.read.RowsRead.the-variants as rowsRead
+use Rattle.reader.specs.declared.RowsRead.{RowsRead}
+use Rattle.reader.specs.declared.RowsRead.the-variants as rowsRead
 use Rattle.anonymise.specs.Seen.{slotsFrom, seenIn, Knows}
 use Rattle.anonymise.specs.Renamed.{keyOf, rowsWritten}
 use Rattle.anonymise.specs.Run.{allWritten, fillNamesT, before, readThen, runT}

@@ -7,8 +7,8 @@ use Rattle.kit.specs.Pick.{pick}
 use Rattle.kit.specs.Out.{Out, _&_}
 use Rattle.renaming.specs.Anonymous.{over}
 use Rattle.reader.specs.ReadTo.{readOf}
-use Rattle.reader.specs.declared.read.RowsRead.{RowsRead}
-use Rattle.reader.specs.declared.read.RowsRead.the-variants as rowsRead
+use Rattle.reader.specs.declared.RowsRead.{RowsRead}
+use Rattle.reader.specs.declared.RowsRead.the-variants as rowsRead
 use Rattle.anonymise.specs.Renamed.{keyOf, rowsWritten}
 use Rattle.anonymise.specs.declared.run.Answer.{Answer}
 use Rattle.anonymise.specs.declared.run.Answer.the-variants.{Accepted, Room, Broken, Deep}

@@ -1,5 +1,6 @@
 // The names of a form, each once in a table with its number, and rows that have numbers for names.
-use index::FRESH;
+use fixed::FIRST_FRESH;
+use fixed::LAST_NAME;
 use index::find;
 use index::push;
 use names::Found;
@@ -17,14 +18,11 @@ ghost use Rattle.anonymise.specs.Renamed.{inputRow, indexNamesT, rowName
 // The space under which all names are entered.
 const NAMES: u32 = 0;
 
-// The highest name of an input.
-const TOP: u32 = 2147483647;
-
 // The row at i of an input, Broken where there is none.
 pub(crate) fn input_row(rows: &[u8], i: usize) -> Row
     ensures { λ r. ⌜ r ≡ inputRow (now (rows .entry)) i ⌝ }
 {
-    row_to(rows, i, TOP)
+    row_to(rows, i, LAST_NAME)
 }
 
 // ---- names are entered
@@ -108,7 +106,7 @@ fn number(table: &[Slot], index: &[u16], used: usize, name: u32) -> u32
     if name == 0 {
         return name;
     }
-    if FRESH <= name {
+    if FIRST_FRESH <= name {
         return name;
     }
     match find(table, index, 0, used, NAMES, name) {

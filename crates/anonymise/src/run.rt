@@ -2,14 +2,14 @@
 use crate::numbers::enter_row;
 use crate::numbers::input_row;
 use crate::numbers::renamed_row;
-use form::header::HEADER;
+use fixed::HEADER;
 use form::header::Header;
 use form::header::header_of;
 use names::Slot;
 use names::slot_at;
 use put::put_row;
-use reader::read::RowsRead;
-use reader::read::read;
+use reader::RowsRead;
+use reader::read;
 ghost use mathlib.Core.Path.{_≡_};
 ghost use Prim.Native.Nat.{_*_, _/_, _≤_, _<_};
 ghost use lib.ListN.{length, take};

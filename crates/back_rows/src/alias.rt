@@ -1,7 +1,8 @@
 // An inserted field: an alias of an export, or of an outer item, with a fresh name.
 use back_notes::note::Note;
 use back_notes::note::note_at;
-use index::FRESH;
+use fixed::FIRST_FRESH;
+use fixed::INSTANCE;
 use parts::Parts;
 use parts::parts_at;
 use rows::row::DECL;
@@ -14,9 +15,6 @@ ghost use Rattle.back_rows.specs.Alias.{noParts, noAliasT, aliasOfT, ali
 
 // The code of a field that is an alias of an instance's export.
 const OF_EXPORT: u8 = 9;
-
-// The space of instances.
-const INSTANCE: u8 = 10;
 
 // How many rows it has, and the first of them: none, and the row behind it, where the rows are no inserted field. Its FIELD, its
 // DECL and the DECL's number, its operand; and the number of the export, or the name of the outer item.
@@ -70,7 +68,7 @@ fn alias_of(rows: &[u8], noted: &[Note], end: usize, size: usize, value: u32) ->
     if decl.code != DECL {
         return no_alias(end);
     }
-    if decl.x < FRESH {
+    if decl.x < FIRST_FRESH {
         return no_alias(end);
     }
     Alias {

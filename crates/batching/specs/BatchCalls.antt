@@ -1,9 +1,9 @@
 -- What the two C functions of batches answer and leave, with the working areas that they are lent. Each area has a fixed size, by the version of
 -- the prelude; `short` says that one of them is below its size.
 use mathlib.Core.Bool.{Bool}
-use mathlib.Core.List.{List, _++_}
+use mathlib.Core.List.{List}
 use Prim.Native.Nat.{ℕ}
-use lib.ListN.{length, take, drop, replicate}
+use lib.ListN.{length}
 use Rattle.rules.specs.Tools.{if_then_else_}
 use Rattle.rules.specs.Versions.{Setting}
 use Rattle.batching.specs.Batch.{memberAnswer, memberOutput}
@@ -14,10 +14,6 @@ use Rattle.batching.specs.BatchBytes.{packed, packedBatch, Buffers, byte
 -- Refusal 3: "output shorter than 8 + 64 x rows, or a lent working area below its fixed size". So there is no room for the prelude then.
 unfoldable pub roomWith : (short : Bool) (room : ℕ) → ℕ
 roomWith short room = if short then 0 else room
-
--- "After every return its bytes up to that size (all of them, where it is shorter) are zero, and later ones unchanged."
-unfoldable pub cleared : {A : Type 0} → (zero : A) (size : ℕ) (old : List A) → List A
-cleared zero size old = replicate (length (take size old)) zero ++ drop size old
 
 module _ (settings : List Setting) (short : Bool) (prelude : List ℕ) where
   -- ---- one member; `area` is the length of the working area in which the prelude is resolved
@@ -43,5 +39,5 @@ module _ (settings : List Setting) (short : Bool) (prelude : List ℕ) where
 
 -- Unfolds all of this module: for a claim that antt computes.
 unfoldable pub computes : Unit {0}
-unfolding roomWith cleared memberCall memberLeaves batchCall batchLeaves
+unfolding roomWith memberCall memberLeaves batchCall batchLeaves
 computes = tt

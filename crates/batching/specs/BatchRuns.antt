@@ -26,7 +26,8 @@ use Rattle.batching.specs.Batch.{BatchAnswer, refused, done, memberAnswe
 use Rattle.batching.specs.BatchBytes
 use Rattle.batching.specs.BatchBytes.{Buffers, packedBatch, bytesAnswer, bytesBuffers}
 use Rattle.batching.specs.BatchCalls
-use Rattle.batching.specs.BatchCalls.{cleared, memberCall, memberLeaves, batchCall, batchLeaves}
+use Rattle.clearing.specs.Cleared.{cleared}
+use Rattle.batching.specs.BatchCalls.{memberCall, memberLeaves, batchCall, batchLeaves}
 use Rattle.batching.specs.BatchReadings
 use Rattle.batching.specs.BatchReadings.{Meant, inPrelude, inMember, memberMeans}
 use Rattle.rules.specs.Examples
@@ -317,5 +318,5 @@ areas-right :
     (sameNumbers (cleared 0 3 (7 ∷ 7 ∷ 7 ∷ 7 ∷ [])) (0 ∷ 0 ∷ 0 ∷ 7 ∷ []) && (sameNumbers (cleared 0 3 (7 ∷ 7 ∷ [])) (0 ∷ 0 ∷ [])
     && (sameNumbers (memberLeaves base true (inputBytes one decoders) 840 (inputBytes one (naming 4)) (replicate 330 6)) (replicate 330 6)
     && sameNumbers (batchLeaves base true (inputBytes one decoders) two (88 ∷ 88 ∷ []) (held 16) .prelude) (replicate 841 7)))) ≡ true
-unfolding two held decoders naming inputBytes rawsBytes Tools.computes Rows.computes Tree.computes Shapes.computes Reader.computes Rules.computes Answer.computes Batch.computes BatchBytes.computes BatchCalls.computes
+unfolding cleared two held decoders naming inputBytes rawsBytes Tools.computes Rows.computes Tree.computes Shapes.computes Reader.computes Rules.computes Answer.computes Batch.computes BatchBytes.computes BatchCalls.computes
 areas-right = refl

@@ -22,7 +22,9 @@ use Rattle.rules.specs.Laws.ToolLaws.{and-left, and-right}
 use Rattle.rules.specs.Laws.RowLaws.{Bytes, bytes-drop}
 use Rattle.read_form.specs.ReadForm.{readForm}
 use Rattle.read_form.specs.Laws.ReadFormLaws.{ReadAs, read-exactly}
-use Rattle.checking.specs.CheckAnswer.{slotsOf, linksOf, cleared}
+use Rattle.clearing.specs.Cleared.{cleared}
+use Rattle.clearing.specs.Laws.{cleared-kept}
+use Rattle.checking.specs.CheckAnswer.{slotsOf, linksOf}
 use Rattle.refusal.specs.declared.Refusal.{Refusal}
 use Rattle.refusal.specs.declared.Told.{Told}
 use Rattle.limits.specs.Held.{setting}
@@ -165,9 +167,8 @@ module _ (i : ℕ) (e n : List Slot) (k c m : List ℕ) (large : Large i e n k c
 
 -- ---- try_lent
 
-area-left : {A : Type 0} (size : ℕ) (z : A) (old mid new : List A) → Kept size old mid → new ≡ areas.cleared z size mid → new ≡ areas.cleared z size old
-unfolding areas.cleared
-area-left size z old mid new K e = e ∙ rw (K .long, K .rest)
+area-left : {A : Type 0} (size : ℕ) (z : A) (old mid new : List A) → Kept size old mid → new ≡ cleared z size mid → new ≡ cleared z size old
+area-left size z old mid new K e = e ∙ cleared-kept z size old mid (K .long) (K .rest)
 
 pub areas-left : (v : Version) (e e₁ e′ n n₁ n′ : List Slot) (k k₁ k′ c c₁ c′ m m₁ m′ : List ℕ)
     → Kept (slotsFor v) e e₁ × Kept (slotsFor v) n n₁ × Kept (linksFor v) k k₁ × Kept (linksFor v) c c₁ × Kept (slotsFor v) m m₁
@@ -199,5 +200,5 @@ module _ (i : ℕ) (form claim : List ℕ) (table : List Slot) (most : ℕ) (m :
   claim-judged v q =
       sym q ∙ (e ∙ ap (λ (room : ℕ). claimBy i form claim room (formOf (readForm (asClaimed (setting i)) claim))) (length-take-le most table (omega (arith, m, h)) ∙ m))
 
-pub front-cleared : {A : Type 0} (size n : ℕ) (z : A) (old front new : List A) → n ≡ size → size ≤ length old → length front ≡ length (take n old) → new ≡ cleared size z (front ++ drop n old) → new ≡ cleared size z old
+pub front-cleared : {A : Type 0} (size n : ℕ) (z : A) (old front new : List A) → n ≡ size → size ≤ length old → length front ≡ length (take n old) → new ≡ cleared z size (front ++ drop n old) → new ≡ cleared z size old
 front-cleared size n z old front new e h k q = table-left [] size z old (front ++ drop n old) new (kept-front size n old front e (omega (arith, e, h)) k) q

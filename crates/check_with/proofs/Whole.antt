@@ -18,7 +18,8 @@ use Rattle.rules.specs.Answer.{AnswerOf, refused, accepted, hasHeader, settingO
 use Rattle.rules.specs.Laws.ToolLaws.{and-left, and-right}
 use Rattle.read_form.specs.ReadForm.{readForm}
 use Rattle.read_form.specs.Laws.ReadFormLaws.{read-exactly}
-use Rattle.checking.specs.CheckAnswer.{slotsOf, linksOf, checkFor, checkAnswer, cleared, sizedBy, areaFor, tableAfter, indexAfter}
+use Rattle.clearing.specs.Cleared.{cleared}
+use Rattle.checking.specs.CheckAnswer.{slotsOf, linksOf, checkFor, checkAnswer, sizedBy, areaFor, tableAfter, indexAfter}
 use Rattle.refusal.specs.declared.Refusal.{Refusal}
 use Rattle.limits.specs.Held.{setting}
 use Rattle.names.specs.Table.{Slot, emptySlot}
@@ -156,11 +157,11 @@ module _ (form : List ℕ) (i : ℕ) (asks : setting i ≡ asked form) where
   sized : sizedBy all form ≡ some (setting i)
   sized = sized-asked form ∙ ap (λ (s : Setting). some s) (sym asks)
 
-  pub table-after : (old new : List Slot) → new ≡ cleared (slotsOf (versionOf i)) emptySlot old → new ≡ tableAfter all form old
+  pub table-after : (old new : List Slot) → new ≡ cleared emptySlot (slotsOf (versionOf i)) old → new ≡ tableAfter all form old
   unfolding tableAfter areaFor
   table-after old new e = rw sized e
 
-  pub index-after : (old new : List ℕ) → new ≡ cleared (linksOf (versionOf i)) 0 old → new ≡ indexAfter all form old
+  pub index-after : (old new : List ℕ) → new ≡ cleared 0 (linksOf (versionOf i)) old → new ≡ indexAfter all form old
   unfolding indexAfter areaFor
   index-after old new e = rw sized e
 

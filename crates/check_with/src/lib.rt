@@ -25,7 +25,8 @@ ghost use lib.Dec.{ltb};
 ghost use lib.ListN.{length};
 ghost use Rattle.rules.specs.Versions.{asClaimed, all};
 ghost use Rattle.read_form.specs.ReadForm.{readForm};
-ghost use Rattle.checking.specs.CheckAnswer.{slotsOf, linksOf, cleared, tableAfter, indexAfter};
+ghost use Rattle.clearing.specs.Cleared.{cleared};
+ghost use Rattle.checking.specs.CheckAnswer.{slotsOf, linksOf, tableAfter, indexAfter};
 ghost use Rattle.limits.specs.Held.{setting};
 ghost use Rattle.names.specs.Table.{emptySlot};
 ghost use Rattle.whole_form.specs.Whole.{formOf};
@@ -145,7 +146,7 @@ fn try_lent(
 fn judge_lent(form: &[u8], claim: &[u8], i: usize, table: &mut [Slot], index: &mut [u16]) -> Verdict
     requires { ⌜ (slotsOf (versionOf i) ≤ length (now table)) × (linksOf (versionOf i) ≤ length (now index)) × (versionOf i .header ≤ length (now form)) ⌝ }
     ensures { λ r. ⌜ r ≡ claimBy i (now (form .entry)) (now (claim .entry)) (slotsOf (versionOf i)) (formOf (readForm (asClaimed (setting i)) (now (claim .entry)))) ⌝ }
-    ensures { λ r. ⌜ (now (table .exit) ≡ cleared (slotsOf (versionOf i)) emptySlot (now (table .entry))) × (now (index .exit) ≡ cleared (linksOf (versionOf i)) 0 (now (index .entry))) ⌝ }
+    ensures { λ r. ⌜ (now (table .exit) ≡ cleared emptySlot (slotsOf (versionOf i)) (now (table .entry))) × (now (index .exit) ≡ cleared 0 (linksOf (versionOf i)) (now (index .entry))) ⌝ }
 {
     let most = slots(i);
     let all = links(i);

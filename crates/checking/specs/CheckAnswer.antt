@@ -2,10 +2,11 @@
 -- index of numbers.
 use mathlib.Core.Bool.{Bool, _||_, not}
 use mathlib.Core.Option.{Option, none, some}
-use mathlib.Core.List.{List, [], _∷_, _++_}
+use mathlib.Core.List.{List, [], _∷_}
 use Prim.Native.Nat.{ℕ, _+_, _*_}
 use lib.Dec.{eqb, ltb}
-use lib.ListN.{length, take, drop, replicate}
+use lib.ListN.{length, replicate}
+use Rattle.clearing.specs.Cleared.{cleared}
 use Rattle.rules.specs.Tools.{if_then_else_, between, _orElse_}
 use Rattle.rules.specs.Versions.{Version, Setting}
 use Rattle.rules.specs.Answer.{settingOf, rowCount}
@@ -39,10 +40,6 @@ checkAnswer settings input claim slots links = checkFor (settingOf settings inpu
 
 -- ---- the areas: after every return zero up to that size, all of them where they are shorter, and later ones unchanged
 
--- an area whose first `size` entries are zero, the others as they were
-unfoldable pub cleared : {A : Type 0} → (size : ℕ) (zero : A) → List A → List A
-cleared size zero old = replicate (length (take size old)) zero ++ drop size old
-
 -- the setting by which the areas have their sizes: the one that the input asks for; the first, if it asks for none of these
 unfoldable pub sizedBy : List Setting → (input : List ℕ) → Option Setting
 sizedBy [] input = none
@@ -51,7 +48,7 @@ sizedBy (s ∷ ss) input = settingOf (s ∷ ss) input orElse some s
 -- an area after the call, if its size goes by this setting
 unfoldable pub areaFor : {A : Type 0} → (Version → ℕ) → Option Setting → (zero : A) → List A → List A
 areaFor size none zero old = old
-areaFor size (some s) zero old = cleared (size (s .version)) zero old
+areaFor size (some s) zero old = cleared zero (size (s .version)) old
 
 -- what the table of slots holds after the call
 unfoldable pub tableAfter : List Setting → (input : List ℕ) (old : List (List ℕ)) → List (List ℕ)

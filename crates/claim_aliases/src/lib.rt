@@ -7,7 +7,7 @@ use claim_scopes::entries::enter;
 use claim_scopes::entries::look_up;
 use claim_scopes::open::behind_row;
 use claim_scopes::open::here;
-use index::FRESH;
+use fixed::FIRST_FRESH;
 use names::Scope;
 use names::Slot;
 use parts::Parts;
@@ -54,7 +54,11 @@ fn is_alias(code: u8) -> bool
 fn counted(name: u32) -> u32
     ensures { λ r. ⌜ r ≡ aliasNewT name ⌝ }
 {
-    if FRESH <= name { name - FRESH + 1 } else { 0 }
+    if FIRST_FRESH <= name {
+        name - FIRST_FRESH + 1
+    } else {
+        0
+    }
 }
 
 // Whether the name of a DECL was entered for its scope and space.

@@ -6,7 +6,7 @@ use mathlib.Core.List.{List, [], _∷_, _++_}
 use Prim.Native.Nat.{ℕ, zero, suc, _+_, _*_, _/_, _%_, _<_, _≤_}
 use native.Mathlib.Omega.{arith}
 use lib.Dec.{eqb, leb, ltb}
-use lib.ListN.{length, getD, take, drop, replicate, length-drop, length-take}
+use lib.ListN.{length, getD, drop, replicate, length-drop}
 use lib.Seq.{length-take-le}
 use mir.Syntax.{w8}
 use mir.Val.{Fits}
@@ -25,7 +25,9 @@ use Rattle.read_form.specs.ReadForm.{readForm}
 use Rattle.read_form.specs.Laws.ReadFormLaws.{ReadAs, read-exactly}
 use Rattle.checking.specs.Check
 use Rattle.checking.specs.Check.{Verdict as Ruled, unless, conditions, ofClaim, ofSteps, ofInput, verdictFor, condition2, condition3, condition4}
-use Rattle.checking.specs.CheckAnswer.{slotsOf, linksOf, checkFor, checkAnswer, cleared, sizedBy, areaFor, tableAfter, indexAfter}
+use Rattle.clearing.specs.Cleared.{cleared}
+use Rattle.clearing.specs.Laws.{cleared-kept}
+use Rattle.checking.specs.CheckAnswer.{slotsOf, linksOf, checkFor, checkAnswer, sizedBy, areaFor, tableAfter, indexAfter}
 use Rattle.refusal.specs.declared.Refusal.{Refusal}
 use Rattle.limits.specs.Held.{limitsOf, setting}
 use Rattle.limits.proofs.Laws.{few-rows, stand-for}
@@ -218,17 +220,14 @@ module _ (form : List ℕ) where
       go true e = rw e
       go false e = rw e
 
-  pub table-left : {A : Type 0} (size : ℕ) (z : A) (old mid new : List A) → Kept size old mid → new ≡ cleared size z mid → new ≡ cleared size z old
-  unfolding cleared
-  table-left size z old mid new K e =
-      let n : length (take size mid) ≡ length (take size old) = length-take size mid ∙ rw (K .long) (sym (length-take size old)) in
-      e ∙ rw (n, K .rest)
+  pub table-left : {A : Type 0} (size : ℕ) (z : A) (old mid new : List A) → Kept size old mid → new ≡ cleared z size mid → new ≡ cleared z size old
+  table-left size z old mid new K e = e ∙ cleared-kept z size old mid (K .long) (K .rest)
 
-  pub table-cleared : (old mid new : List Slot) → Kept (slotsOf (versionOf 0)) old mid → new ≡ cleared (slotsOf (versionOf 0)) emptySlot mid → new ≡ tableAfter base form old
+  pub table-cleared : (old mid new : List Slot) → Kept (slotsOf (versionOf 0)) old mid → new ≡ cleared emptySlot (slotsOf (versionOf 0)) mid → new ≡ tableAfter base form old
   unfolding tableAfter areaFor
   table-cleared old mid new K e = rw sized (table-left (slotsOf (versionOf 0)) emptySlot old mid new K e)
 
-  pub index-cleared : (old mid new : List ℕ) → Kept (linksOf (versionOf 0)) old mid → new ≡ cleared (linksOf (versionOf 0)) 0 mid → new ≡ indexAfter base form old
+  pub index-cleared : (old mid new : List ℕ) → Kept (linksOf (versionOf 0)) old mid → new ≡ cleared 0 (linksOf (versionOf 0)) mid → new ≡ indexAfter base form old
   unfolding indexAfter areaFor
   index-cleared old mid new K e = rw sized (table-left (linksOf (versionOf 0)) 0 old mid new K e)
 

@@ -25,7 +25,8 @@ use Rattle.whole_form.proofs.Laws.{whole-read}
 use Rattle.resolver.specs.Steps.{stepsT}
 use Rattle.resolver.specs.declared.steps.Steps.{Steps}
 use Rattle.resolver.specs.declared.steps.Steps.the-variants as steps
-use Rattle.checking.specs.CheckAnswer.{slotsOf, linksOf, cleared}
+use Rattle.clearing.specs.Cleared.{cleared}
+use Rattle.checking.specs.CheckAnswer.{slotsOf, linksOf}
 use Rattle.claim_check.specs.Run.{Fit, Kept, versionOf, bodyOf, refusedT, conditionsT, claimBy, stepsBy, inputBy, judgeT, smallBy, smallT, decideT}
 use Rattle.claim_check.specs.declared.Verdict.{Verdict}
 use Rattle.claim_check.specs.declared.Verdict.the-variants.{Yes, No, Refused}
@@ -149,7 +150,7 @@ pub decide-judge : (i : ℕ) (form claim : List ℕ) (table : List Slot) (links 
     → v ≡ judgeT i form claim (length (take most table)) → v ≡ decideT i form claim (length table) links
 decide-judge i form claim table links most all v m h n g q = judged i form claim (length table) links most m h all n v g (rw (length-take-le most table h) at q)
 
-pub cleared-by : {A : Type 0} (n size : ℕ) (z : A) (old new : List A) → n ≡ size → new ≡ cleared n z old → new ≡ cleared size z old
+pub cleared-by : {A : Type 0} (n size : ℕ) (z : A) (old new : List A) → n ≡ size → new ≡ cleared z n old → new ≡ cleared z size old
 cleared-by n size z old new e q = rw (← e) q
 
 pub kept-same : {A : Type 0} (size : ℕ) (l : List A) → Kept size l l

@@ -1,17 +1,15 @@
 -- Each way through the code that clears an area or tries a condition.
 use mathlib.Core.Path.{_≡_, refl, sym, ap, _∙_}
-use mathlib.Core.List.{List, [], _∷_, _++_, append-nil}
-use Prim.Native.Nat.{ℕ, zero, suc, _+_, _*_, _%_, _<_, _≤_}
-use native.Mathlib.Omega.{arith}
+use mathlib.Core.List.{List, [], _++_}
+use Prim.Native.Nat.{ℕ, _+_, _*_, _%_}
 use mathlib.Core.Bool.{false}
 use lib.ListN.{length, take, drop, set, replicate, length-set, length-replicate}
-use lib.Seq.{take-all, take-at, length-take-le}
+use lib.Seq.{take-at, length-take-le}
 use borrow.Author.Needs.{needs}
 use Rattle.kit.specs.Out.{Out, _&_}
 use Rattle.names.specs.Table.{Slot, emptySlot}
 use Rattle.index.specs.Indexed.{Holds}
 use Rattle.index.proofs.Storey.{holds-none}
-use Rattle.checking.specs.CheckAnswer.{cleared}
 use Rattle.claim_rows.specs.Left.{rowsAt}
 use Rattle.claim_rows.specs.Same.{differsT}
 use Rattle.claim_rows.specs.declared.Tried.{Tried}
@@ -25,26 +23,6 @@ use Rattle.claim_operands.specs.Operands.{tryOperandsT}
 use Rattle.claim_check.specs.Run.{Fit, noT, unlessT, triedIn, fourthT, thirdT, conditionsT}
 use Rattle.claim_check.specs.declared.Verdict.{Verdict}
 use Rattle.claim_check.specs.declared.Verdict.the-variants.{Yes}
-
--- ---- the areas
-
-module _ {A : Type 0} where
-  -- the whole of a short one, and the front of a long one
-  pub cleared-all : (l l′ : List A) (size : ℕ) (z : A) → length l < size → l′ ≡ replicate (length l) z → l′ ≡ cleared size z l
-  unfolding cleared
-  cleared-all l l′ size z h e = rw (take-all size l (omega arith), drop-all l size (omega arith), append-nil) e
-    where
-      drop-all : (l : List A) (size : ℕ) → length l ≤ size → drop size l ≡ []
-      drop-all [] zero g = refl
-      drop-all [] (suc n) g = refl
-      drop-all (a ∷ l) zero g = absurd (omega arith)
-      drop-all (a ∷ l) (suc n) g = drop-all l n (omega arith)
-
-  pub cleared-front : (l l′ : List A) (size : ℕ) (z : A) → l′ ≡ replicate (length (take size l)) z → l′ ++ drop size l ≡ cleared size z l
-  unfolding cleared
-  cleared-front l l′ size z e = rw e
-
-pub ruleset fronts = (cleared-all, cleared-front, needs)
 
 -- ---- an index that was cleared
 

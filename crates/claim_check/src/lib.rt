@@ -1,5 +1,4 @@
 // Checks another assembler's output: whether it is one of an input.
-pub mod area;
 mod conditions;
 pub mod run;
 

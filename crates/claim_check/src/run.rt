@@ -1,8 +1,8 @@
 // The whole check: the refusals of the input, then the conditions. A setting goes by its place in the list of all.
 use crate::Verdict;
-use crate::area::clear_index;
-use crate::area::clear_table;
 use crate::conditions::try_conditions;
+use areas::clear_links;
+use areas::clear_slots;
 use form::header::Header;
 use form::header::header_to;
 use limits::of_input;
@@ -21,7 +21,8 @@ ghost use Prim.Native.Nat.{_≤_};
 ghost use lib.ListN.{length};
 ghost use Rattle.rules.specs.Versions.{base};
 ghost use Rattle.names.specs.Table.{emptySlot};
-ghost use Rattle.checking.specs.CheckAnswer.{slotsOf, linksOf, cleared, checkAnswer, tableAfter, indexAfter};
+ghost use Rattle.clearing.specs.Cleared.{cleared};
+ghost use Rattle.checking.specs.CheckAnswer.{slotsOf, linksOf, checkAnswer, tableAfter, indexAfter};
 ghost use Rattle.claim_check.specs.Meaning.{meaning, ruled};
 ghost use Rattle.claim_check.specs.Run.{Fit, Kept, versionOf, bodyOf, refusedT, conditionsT, claimBy, stepsBy, judgeT, smallT, decideT};
 ghost use Rattle.whole_form.specs.Whole.{formOf};
@@ -160,10 +161,10 @@ fn decide(form: &[u8], claim: &[u8], i: usize, table: &mut [Slot], index: &mut [
 
 // The areas are handed back empty.
 pub fn clear(table: &mut [Slot], index: &mut [u16], i: usize)
-    ensures { λ _. ⌜ (now (table .exit) ≡ cleared (slotsOf (versionOf i)) emptySlot (now (table .entry))) × (now (index .exit) ≡ cleared (linksOf (versionOf i)) 0 (now (index .entry))) ⌝ }
+    ensures { λ _. ⌜ (now (table .exit) ≡ cleared emptySlot (slotsOf (versionOf i)) (now (table .entry))) × (now (index .exit) ≡ cleared 0 (linksOf (versionOf i)) (now (index .entry))) ⌝ }
 {
-    clear_table(table, slots(i));
-    clear_index(index, links(i));
+    clear_slots(table, slots(i));
+    clear_links(index, links(i));
 }
 
 // Says whether a claim is an output of the form: yes, or no with the condition that is broken and the first claimed row that

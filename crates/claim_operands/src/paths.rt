@@ -3,6 +3,8 @@ use claim_reach::alias::Sought;
 use claim_reach::alias::through_export;
 use claim_scopes::entries::Entry;
 use claim_scopes::entries::look_up;
+use fixed::CORE_INSTANCE;
+use fixed::INSTANCE;
 use names::Slot;
 use parts::Parts;
 use parts::parts_at;
@@ -12,13 +14,6 @@ ghost use lib.ListN.{take};
 ghost use Rattle.index.specs.Indexed.{Holds};
 ghost use Rattle.claim_rows.specs.Left.{rowsAt};
 ghost use Rattle.claim_operands.specs.Paths.{onward, instanceSpace, throughPathsT, instanceT};
-
-// The space of instances, and the last of the spaces whose items are exports of core instances, with their space.
-const INSTANCE: u8 = 10;
-
-const LAST_CORE: u8 = 6;
-
-const CORE_INSTANCE: u8 = 6;
 
 // The number of an instance, of which the next alias is sought.
 fn instance_in(s: Sought, number: u32) -> Sought
@@ -65,7 +60,7 @@ pub(crate) fn through_paths(
 fn instance_space(space: u8) -> u8
     ensures { λ r. ⌜ r ≡ instanceSpace space ⌝ }
 {
-    if space <= LAST_CORE {
+    if space <= CORE_INSTANCE {
         CORE_INSTANCE
     } else {
         INSTANCE

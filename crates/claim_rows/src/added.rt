@@ -1,5 +1,5 @@
 // Which fields of a claim are added: those with a DECL whose name no input has.
-use index::FRESH;
+use fixed::FIRST_FRESH;
 use parts::parts_at;
 use rows::row::CLOSE;
 use rows::row::DECL;
@@ -19,7 +19,7 @@ fn any_fresh(rows: &[u8], from: usize) -> bool
         if p.code != DECL {
             return false;
         }
-        if FRESH <= p.x {
+        if FIRST_FRESH <= p.x {
             return true;
         }
         i += 1;

@@ -4,7 +4,6 @@ use files::parts::is_dash;
 use libc::STDERR_FILENO;
 use libc::STDOUT_FILENO;
 ghost use mathlib.Core.Path.{_≡_};
-ghost use Prim.Native.Nat.{_+_, _*_};
 ghost use lib.ListN.{take};
 ghost use Rattle.command.specs.Status.{talkBeside};
 
@@ -13,13 +12,6 @@ pub fn part(buffer: &[u8; 65536], count: usize) -> &[u8]
     ensures { λ r. ⌜ now r ≡ take count (now (buffer .entry)) ⌝ }
 {
     front(buffer, count)
-}
-
-// How many bytes a form of this many rows has.
-pub fn bytes_of(rows: u32) -> usize
-    ensures { λ r. ⌜ r ≡ 8 + 16 * rows ⌝ }
-{
-    8 + 16 * (rows as usize)
 }
 
 // Where to say what happened, if the form goes to a path.

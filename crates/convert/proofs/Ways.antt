@@ -35,8 +35,8 @@ use Rattle.limits.specs.declared.Limits.{Limits}
 use Rattle.limits.specs.Held.{settingIn, limitsOf, setting}
 use Rattle.limits.proofs.Laws.{stand-for, few-rows}
 use Rattle.reader.specs.ReadTo.{answerOf, readTo}
-use Rattle.reader.specs.declared.read.RowsRead.{RowsRead}
-use Rattle.reader.specs.declared.read.RowsRead.the-variants as rowsRead
+use Rattle.reader.specs.declared.RowsRead.{RowsRead}
+use Rattle.reader.specs.declared.RowsRead.the-variants as rowsRead
 use Rattle.whole_form.specs.Asked.{askedOf}
 use Rattle.whole_form.specs.Whole.{formOf}
 use Rattle.whole_form.specs.declared.asked.Asked.{Asked}

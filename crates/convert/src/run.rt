@@ -1,8 +1,8 @@
 // The same rows behind the header of another version: the refusals of the form as it is, then those of the version asked for.
 use copy::copy;
 use limits::of_input;
-use reader::read::RowsRead;
-use reader::read::read_to;
+use reader::RowsRead;
+use reader::read_to;
 use refusal::BROKEN;
 use refusal::DEEP;
 use refusal::NOT_A_FORM;

@@ -2,7 +2,6 @@
 use command::arguments::behind;
 use command::arguments::has_words;
 use command::arguments::wrong_count;
-use command::forms::bytes_of;
 use command::forms::part;
 use command::forms::talk_beside;
 use command::status::DONE;
@@ -15,6 +14,7 @@ use files::read::Loaded;
 use files::read::load;
 use files::standard::error_noted;
 use files::write::save;
+use fixed::bytes_of;
 use known::version::is_second;
 use known::version::say_second;
 use resolver::run::Answer;

@@ -2,7 +2,6 @@
 use command::arguments::behind;
 use command::arguments::has_words;
 use command::arguments::wrong_count;
-use command::forms::bytes_of;
 use command::forms::part;
 use command::forms::talk_beside;
 use command::status::DONE;
@@ -15,6 +14,7 @@ use files::read::Loaded;
 use files::read::load;
 use files::standard::error_noted;
 use files::write::save;
+use fixed::bytes_of;
 use known::file::say_told;
 use libc::STDOUT_FILENO;
 use resolver::run::Answer;
@@ -113,8 +113,8 @@ fn form_text(text: &[u8], from: &[u8], to: &[u8]) -> u8 {
 fn form_paths(from: &[u8], to: &[u8]) -> u8 {
     let mut buffer = [0u8; 524289];
     match load_text(from, &mut buffer) {
-        texts::load::Loaded::Bytes(length) => form_text(text_part(&buffer, length), from, to),
-        texts::load::Loaded::Failed => FAILED,
+        Loaded::Bytes(length) => form_text(text_part(&buffer, length), from, to),
+        Loaded::Failed => FAILED,
     }
 }
 

@@ -13,11 +13,14 @@ use command::topic::say_topic;
 use convert::run::Answer;
 use convert::run::convert;
 use files::parts::front;
+use files::read::Loaded;
 use files::standard::error_noted;
 use files::write::save;
+use fixed::HEADER_NARROW;
+use fixed::LONG_HEADER_NARROW;
+use fixed::bytes_with;
 use libc::STDERR_FILENO;
 use refusal::Refusal;
-use texts::load::Loaded;
 use texts::load::load_text;
 use texts::load::text_part;
 use words::refusals::say_meaning;
@@ -41,12 +44,12 @@ fn version_of(word: &[u8]) -> Version {
     }
 }
 
-// How many bytes a form of a version and this many rows has: its header has 8 bytes, or 16.
-fn bytes_of(version: u32, rows: u32) -> usize {
+// How many bytes a header of a version has.
+fn header_of(version: u32) -> u8 {
     if version == 1 {
-        8 + 16 * (rows as usize)
+        HEADER_NARROW
     } else {
-        16 + 16 * (rows as usize)
+        LONG_HEADER_NARROW
     }
 }
 
@@ -95,7 +98,12 @@ fn convert_form(form: &[u8], version: u32, path: &[u8]) -> u8 {
     let mut out = [0u8; 262160];
     match convert(form, version, &mut out) {
         Answer::Converted(rows) => {
-            save_form(front(&out, bytes_of(version, rows)), path, version, rows)
+            save_form(
+                front(&out, bytes_with(header_of(version), rows)),
+                path,
+                version,
+                rows,
+            )
         }
         Answer::Refused(refusal) => refuse(path, refusal),
     }

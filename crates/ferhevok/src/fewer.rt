@@ -10,7 +10,8 @@ ghost use Rattle.checking.specs.CheckAnswer.{tableAfter, indexAfter};
 ghost use Rattle.share.specs.Lent.{sharedWith, outputWith};
 ghost use Rattle.resolver.specs.Meaning.{ruled};
 ghost use Rattle.resolver_with.specs.Asked.{asked};
-ghost use Rattle.resolver_with.specs.Areas.{lentOf, cleared, Cleared};
+ghost use Rattle.clearing.specs.Cleared.{cleared};
+ghost use Rattle.resolver_with.specs.Areas.{lentOf, Cleared};
 ghost use Rattle.share_with.specs.With.{bytesFor, sharedWith as sharedLent, outputWith as outputLent};
 ghost use Rattle.ferhevok.specs.Packed.{packed};
 

@@ -3,7 +3,7 @@ use Prim.Native.Nat.{ℕ, _≤_}
 use Rattle.files.specs.declared.read.Loaded.{Loaded}
 use Rattle.files.specs.declared.read.Loaded.the-variants.{Bytes, Failed}
 
--- no more bytes than the longest form has
-abbrev pub Fits : Loaded → Type 0
-Fits (Bytes count) = count ≤ 65480
-Fits Failed = Unit {0}
+-- no more bytes than that
+abbrev pub Fits : (most : ℕ) → Loaded → Type 0
+Fits most (Bytes count) = count ≤ most
+Fits most Failed = Unit {0}

@@ -1,4 +1,4 @@
-// A file read whole, if it is no longer than a form can be.
+// A file read whole, if it is no longer than it may be.
 use crate::errors::say_failure;
 use crate::errors::say_wrong;
 use crate::parts::is_dash;
@@ -20,12 +20,12 @@ fn is_at_end(file: i32) -> bool {
     libc::read(file, &mut probe) == 0
 }
 
-fn read_whole(file: i32, path: &[u8], form: &mut [u8; 65536]) -> Loaded
-    ensures { λ r. ⌜ Fits r ⌝ }
+fn read_whole(file: i32, path: &[u8], buffer: &mut [u8], most: usize, long: &[u8]) -> Loaded
+    ensures { λ r. ⌜ Fits most r ⌝ }
 {
-    let length = io::read_full(file, form);
-    if LARGEST < length {
-        say_wrong(path, b" has more than the 65480 bytes of the longest form");
+    let length = io::read_full(file, buffer);
+    if most < length {
+        say_wrong(path, long);
         return Loaded::Failed;
     }
     if !is_at_end(file) {
@@ -35,19 +35,31 @@ fn read_whole(file: i32, path: &[u8], form: &mut [u8; 65536]) -> Loaded
     Loaded::Bytes(length)
 }
 
-// Reads the file of a path into a buffer.
-pub fn load(path: &[u8], form: &mut [u8; 65536]) -> Loaded
-    ensures { λ r. ⌜ Fits r ⌝ }
+// Reads the file of a path into a buffer, which has a byte more than the most that may be read; `long` says what is wrong with a longer file.
+pub fn load_within(path: &[u8], buffer: &mut [u8], most: usize, long: &[u8]) -> Loaded
+    ensures { λ r. ⌜ Fits most r ⌝ }
 {
     if is_dash(path) {
-        return read_whole(STDIN_FILENO, b"standard input", form);
+        return read_whole(STDIN_FILENO, b"standard input", buffer, most, long);
     }
     let file = os::open_read(path);
     if file < 0 {
         say_failure(path, b" cannot be opened");
         return Loaded::Failed;
     }
-    let loaded = read_whole(file, path, form);
+    let loaded = read_whole(file, path, buffer, most, long);
     libc::close(file);
     loaded
+}
+
+// Reads a file that is no longer than a form can be.
+pub fn load(path: &[u8], form: &mut [u8; 65536]) -> Loaded
+    ensures { λ r. ⌜ Fits 65480 r ⌝ }
+{
+    load_within(
+        path,
+        form,
+        LARGEST,
+        b" has more than the 65480 bytes of the longest form",
+    )
 }

@@ -1,6 +1,6 @@
 -- The header as the code tests it is the rules' header.
 use mathlib.Core.Path.{_≡_, refl, sym, ap, _∙_}
-use mathlib.Core.Bool.{Bool, true, false, _&&_, not, and-true, and-false}
+use mathlib.Core.Bool.{Bool, true, false, _&&_, not, and-true, and-false, and-assoc}
 use mathlib.Core.Option.{Option, none, some}
 use mathlib.Core.List.{List, [], _∷_}
 use native.Mathlib.Omega.{arith}
@@ -17,6 +17,7 @@ use Rattle.rules.specs.Rows.{value, bytes}
 use Rattle.rules.specs.Versions.{Setting}
 use Rattle.rules.specs.Answer.{mark, sameNumbers, hasHeader, settingOf, rowCount}
 use Rattle.rows.proofs.Laws.{value-four}
+use Rattle.form_bytes.specs.Begins.{beginsAs}
 use Rattle.limits.specs.declared.Limits.{Limits}
 use Rattle.limits.specs.Held.{settingIn, limitsOf, setting}
 use Rattle.form.specs.Header.{headerIn, headerFor, headerTo, headerOf}
@@ -62,15 +63,15 @@ high-byte n h = omega arith
 marked-right : (s : Setting) → s .version .number < 256 → s .rules .number < 256 → (l : List ℕ) → sameNumbers (take 6 l) (mark s) ≡ isMarkedT (s .version .number) (s .rules .number) l
 unfolding isMarkedT mark sameNumbers bytes pick
 marked-right s v r [] = refl
-marked-right s v r (a ∷ []) = simp and-false
-marked-right s v r (a ∷ b ∷ []) = simp and-false
-marked-right s v r (a ∷ b ∷ c ∷ []) = simp and-false
-marked-right s v r (a ∷ b ∷ c ∷ d ∷ []) = simp and-false
-marked-right s v r (a ∷ b ∷ c ∷ d ∷ e ∷ []) = simp and-false
+marked-right s v r (a ∷ []) = simp (and-false, and-assoc)
+marked-right s v r (a ∷ b ∷ []) = simp (and-false, and-assoc)
+marked-right s v r (a ∷ b ∷ c ∷ []) = simp (and-false, and-assoc)
+marked-right s v r (a ∷ b ∷ c ∷ d ∷ []) = simp (and-false, and-assoc)
+marked-right s v r (a ∷ b ∷ c ∷ d ∷ e ∷ []) = simp (and-false, and-assoc)
 marked-right s v r (a ∷ b ∷ c ∷ d ∷ e ∷ f ∷ l) =
     let n = suc (suc (suc (suc (suc (suc (length l)))))) in
     let t : ltb n 6 ≡ false = omega tests in
-    rw (t, low-byte (s .version .number) v, high-byte (s .version .number) v, low-byte (s .rules .number) r) (simp and-true)
+    rw (t, low-byte (s .version .number) v, high-byte (s .version .number) v, low-byte (s .rules .number) r) (simp (and-true, and-assoc))
 
 -- what `is_marked` finds
 module _ (v r : ℕ) (l : List ℕ) where
@@ -78,9 +79,9 @@ module _ (v r : ℕ) (l : List ℕ) where
   unfolding isMarkedT
   marked-short h = yes! _ (omega tests) refl
 
-  pub marked-found : 6 ≤ length l → (a b : ℕ) → a ≡ getD l 3 0 → b ≡ getD l 5 0 → (eqb (getD l 0 0) 87 && (eqb (getD l 1 0) 78 && (eqb (getD l 2 0) 84 && (eqb a v && (eqb (getD l 4 0) 0 && eqb b r))))) ≡ isMarkedT v r l
+  pub marked-found : 6 ≤ length l → (w : Bool) → w ≡ beginsAs l v → (w && (eqb (getD l 4 0) 0 && eqb (getD l 5 0) r)) ≡ isMarkedT v r l
   unfolding isMarkedT
-  marked-found h a b p q = no! _ (omega tests) (rw (p, q))
+  marked-found h w p = no! _ (omega tests) (rw p)
 
 -- ---- the row count
 
@@ -133,10 +134,10 @@ module _ (lim : Limits) (l : List ℕ) (h : ℕ) (is : h ≡ lim .header) where
   unfolding hasHeader settingIn
   header-short g = let t : leb (lim .header) (length l) ≡ false = omega tests in rw t
 
-  module _ (g : h ≤ length l) (v r : ℕ) (vs : v ≡ lim .version) (rs : r ≡ lim .rules) (vl : v < 256) (rl : r < 256) (m : Bool) (e : m ≡ isMarkedT v r l) where
+  module _ (g : h ≤ length l) (vl : lim .version < 256) (rl : lim .rules < 256) (m : Bool) (e : m ≡ isMarkedT (lim .version) (lim .rules) l) where
     marked : sameNumbers (take 6 l) (mark (settingIn lim)) ≡ m
     unfolding settingIn
-    marked = marked-right (settingIn lim) (omega arith) (omega arith) l ∙ sym (rw (← vs, ← rs) e)
+    marked = marked-right (settingIn lim) vl rl l ∙ sym e
 
     pub header-other : not m ≡ true → false ≡ hasHeader (settingIn lim) l
     unfolding hasHeader

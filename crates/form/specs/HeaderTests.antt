@@ -5,12 +5,13 @@ use Prim.Native.Nat.{ℕ, _+_, _*_}
 use lib.Dec.{eqb, ltb}
 use lib.ListN.{length, getD}
 use Rattle.kit.specs.Pick.{pick}
+use Rattle.form_bytes.specs.Begins.{beginsAs}
 
 -- do the first six bytes say WNT, this version and this rule set?
 unfoldable pub isMarkedT : (version rules : ℕ) → List ℕ → Bool
 isMarkedT version rules l =
     pick (ltb (length l) 6) false
-    (eqb (getD l 0 0) 87 && (eqb (getD l 1 0) 78 && (eqb (getD l 2 0) 84 && (eqb (getD l 3 0) version && (eqb (getD l 4 0) 0 && eqb (getD l 5 0) rules)))))
+    (beginsAs l version && (eqb (getD l 4 0) 0 && eqb (getD l 5 0) rules))
 
 -- the row count in a header, of two bytes or of four
 unfoldable pub rowCountT : (long : Bool) → List ℕ → ℕ

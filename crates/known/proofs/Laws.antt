@@ -1,16 +1,14 @@
 -- The ways through the code: each law is one unfolding of a definition, with the facts in the form in which the code gives them.
 use mathlib.Core.Path.{_≡_, refl}
-use mathlib.Core.Bool.{Bool, true, false, _&&_}
+use mathlib.Core.Bool.{Bool, true, false}
 use mathlib.Core.List.{List}
 use Prim.Native.Nat.{ℕ, _+_, _≤_, _<_}
 use borrow.Author.Needs.{needs}
-use lib.Dec.{eqb}
 use lib.ListN.{length, getD, drop, drop-of-length-le}
 use Rattle.kit.specs.Pick.{pick}
 use Rattle.kit.proofs.Laws.{yes!, no!, tests, drop-next}
 use Rattle.known.specs.Text.{isTextByte, isText}
 use Rattle.known.specs.Known.{knownOf}
-use Rattle.known.specs.Version.{isSecond}
 use Rattle.known.specs.declared.file.Known.the-variants.{NoForm, Whole, Resolved, Broken}
 
 -- ---- text
@@ -54,13 +52,7 @@ module _ (number : ℕ) (resolved : Bool) where
       unfolding knownOf
       known-broken h = no! _ (omega tests) (no! _ (omega tests) (no! _ h refl))
 
--- ---- version 2
-
-module _ (bytes : List ℕ) (w n t v : ℕ) (hw : w ≡ getD bytes 0 0) (hn : n ≡ getD bytes 1 0) (ht : t ≡ getD bytes 2 0) (hv : v ≡ getD bytes 3 0) where
-  pub second-is : (eqb w 87 && eqb n 78 && eqb t 84 && eqb v 2) ≡ isSecond bytes
-  second-is = rw (hw, hn, ht, hv)
-
-pub ruleset ways = (known-none, known-whole, known-resolved, known-broken, second-is, needs)
+pub ruleset ways = (known-none, known-whole, known-resolved, known-broken, needs)
 
 -- The laws of a loop end in any `T`, so a search tries them everywhere: it has its own set.
 pub ruleset bytes-ways = (bytes-end, bytes-on, bytes-stop, needs)

@@ -1,5 +1,5 @@
 // A form of another version than the one that the program takes.
-use form_bytes::byte_at;
+use form_bytes::begins_as;
 use words::say;
 ghost use mathlib.Core.Path.{_≡_};
 ghost use Rattle.known.specs.Version.{isSecond};
@@ -8,10 +8,7 @@ ghost use Rattle.known.specs.Version.{isSecond};
 pub fn is_second(bytes: &[u8]) -> bool
     ensures { λ r. ⌜ r ≡ isSecond (now (bytes .entry)) ⌝ }
 {
-    (byte_at(bytes, 0) == b'W')
-        & (byte_at(bytes, 1) == b'N')
-        & (byte_at(bytes, 2) == b'T')
-        & (byte_at(bytes, 3) == 2)
+    begins_as(bytes, 2)
 }
 
 // The one sentence on it.

@@ -1,25 +1,21 @@
 -- The ways through the code.
 use mathlib.Core.Path.{_≡_, refl, ap, _∙_}
 use mathlib.Core.Bool.{_&&_}
-use mathlib.Core.List.{List, _++_}
-use Prim.Native.Nat.{ℕ, _-_}
+use mathlib.Core.List.{List}
+use Prim.Native.Nat.{ℕ}
 use lib.Dec.{leb}
-use lib.ListN.{length, take, drop, replicate}
 use borrow.Author.Needs.{needs}
 use Rattle.rules.specs.Versions.{Version}
 use Rattle.names.specs.Table.{Slot, emptySlot}
-use Rattle.resolver_with.specs.Areas.{slotsFor, linksFor, roomy, cleared, Cleared}
-use Rattle.resolver_with.proofs.Zeros.{cleared-is}
+use Rattle.clearing.specs.Cleared.{cleared}
+use Rattle.resolver_with.specs.Areas.{slotsFor, linksFor, roomy, Cleared}
 
 pub roomy-tests : (v : Version) (slots links a b c d e : ℕ) → slots ≡ slotsFor v → links ≡ linksFor v
     → (leb slots a && (leb slots b && (leb links c && (leb links d && leb slots e)))) ≡ roomy v (record { entered = a; names = b; known = c; chains = d; ends = e })
 unfolding roomy
 roomy-tests v slots links a b c d e p q = rw (p, q)
 
-pub front-cleared : {A : Type 0} (size a : ℕ) (z : A) (l f : List A) → a ≡ size - (size - length l) → f ≡ replicate (length (take a l)) z → f ++ drop a l ≡ cleared z size l
-front-cleared size a z l f least e = cleared-is size a l least z f e
-
-pub ruleset ways = (roomy-tests, front-cleared, needs)
+pub ruleset ways = (roomy-tests, needs)
 
 pub all-cleared : (v : Version) (slots links : ℕ) → slots ≡ slotsFor v → links ≡ linksFor v → (e e′ n n′ : List Slot) (k k′ c c′ m m′ : List ℕ)
     → e′ ≡ cleared emptySlot slots e → n′ ≡ cleared emptySlot slots n → k′ ≡ cleared 0 links k → c′ ≡ cleared 0 links c → m′ ≡ cleared 0 slots m → Cleared v e e′ n n′ k k′ c c′ m m′

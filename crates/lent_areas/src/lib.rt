@@ -1,15 +1,13 @@
 // Working areas that are lent, by the form's version: whether they are large enough, and how they are handed back.
-use areas::zero_links;
-use areas::zero_numbers;
-use areas::zero_slots;
+use areas::clear_links;
+use areas::clear_numbers;
+use areas::clear_slots;
 use names::Slot;
-use resolver_with::sizes::least;
 use resolver_with::sizes::links_for;
 use resolver_with::sizes::slots_for;
 ghost use mathlib.Core.Path.{_≡_};
 ghost use Rattle.limits.specs.Held.{setting};
-ghost use Rattle.names.specs.Table.{emptySlot};
-ghost use Rattle.resolver_with.specs.Areas.{roomy, cleared, Cleared};
+ghost use Rattle.resolver_with.specs.Areas.{roomy, Cleared};
 
 // Whether areas of these lengths are large enough for a form of the setting at place i.
 pub fn are_roomy(
@@ -26,30 +24,6 @@ pub fn are_roomy(
     let links = links_for(i);
     (slots <= entered)
         & ((slots <= names) & ((links <= known) & ((links <= chains) & (slots <= ends))))
-}
-
-// The first slots become empty, as far as there are any.
-pub fn clear_slots(table: &mut [Slot], size: usize)
-    ensures { λ _. ⌜ now (table .exit) ≡ cleared emptySlot size (now (table .entry)) ⌝ }
-{
-    let front = least(size, table.len());
-    zero_slots(&mut table[..front]);
-}
-
-// The first numbers of an index become 0, as far as there are any.
-pub fn clear_links(index: &mut [u16], size: usize)
-    ensures { λ _. ⌜ now (index .exit) ≡ cleared 0 size (now (index .entry)) ⌝ }
-{
-    let front = least(size, index.len());
-    zero_links(&mut index[..front]);
-}
-
-// The first of other numbers become 0, as far as there are any.
-pub fn clear_numbers(numbers: &mut [u32], size: usize)
-    ensures { λ _. ⌜ now (numbers .exit) ≡ cleared 0 size (now (numbers .entry)) ⌝ }
-{
-    let front = least(size, numbers.len());
-    zero_numbers(&mut numbers[..front]);
 }
 
 // The areas for a form of the setting at place i are handed back empty.

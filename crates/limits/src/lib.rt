@@ -1,4 +1,7 @@
 // What a form is held to, by value: the numbers of its version and its rule set. A version more is an entry here.
+use fixed::HEADER_NARROW;
+use fixed::LAST_NAME;
+use fixed::LONG_HEADER_NARROW;
 ghost use mathlib.Core.Path.{_≡_};
 ghost use Prim.Native.Nat.{_≤_};
 ghost use Rattle.rules.specs.Versions.{version2, asClaimed};
@@ -25,9 +28,9 @@ fn first() -> Limits
 {
     Limits {
         version: 1,
-        header: 8,
+        header: HEADER_NARROW,
         wide: false,
-        names: 2147483647,
+        names: LAST_NAME,
         rows: 1023,
         scopes: 32,
         rules: 0,
@@ -40,9 +43,9 @@ fn second(rules: u8) -> Limits
 {
     Limits {
         version: 2,
-        header: 16,
+        header: LONG_HEADER_NARROW,
         wide: true,
-        names: 2147483647,
+        names: LAST_NAME,
         rows: 16383,
         scopes: 64,
         rules,

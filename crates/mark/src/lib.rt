@@ -5,7 +5,7 @@
 // the order of their OPEN rows. The table has the names that a scope declares, and behind them those that have an alias already,
 // with the alias's name as their number.
 use codes::here_only;
-use index::FRESH;
+use fixed::FIRST_FRESH;
 use index::find;
 use index::leave;
 use index::push;
@@ -355,7 +355,7 @@ fn mark_scopes(rows: &[u8], ends: &[u32], marked: &mut [u8], table: &mut [Slot],
     ensures { λ _. ⌜ ((now (table .exit) & now (marked .exit)) ≡ scopesT (now (rows .entry)) (now (ends .entry)) 0 (length (now (rows .entry)) / 16) 2147483648 (now (table .entry)) (now (marked .entry))) × Holds (now (table .exit)) (now (index .exit)) 0 ⌝ }
 {
     let count = rows.len() / 16;
-    let mut fresh = FRESH;
+    let mut fresh = FIRST_FRESH;
     let mut i = 0;
     while i < count {
         fresh = mark_at(rows, ends, i, marked, table, index, fresh);

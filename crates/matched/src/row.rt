@@ -1,4 +1,6 @@
 // Whether two rows are the same, as far as they count: bit 0 of the choice ignores places, bit 1 which fresh name it is.
+use fixed::FIRST_FRESH;
+use fixed::LAST_NAME;
 use parts::Parts;
 use parts::parts_at;
 ghost use mathlib.Core.Path.{_≡_};
@@ -7,11 +9,6 @@ ghost use Rattle.comparing.specs.Laws.Parts.{isNameX, isNameY};
 ghost use Rattle.parts.specs.PartsAt.{partsAt};
 ghost use Rattle.matched.specs.Counted.{choiceOf, numberT, countedT, allSame, sameT};
 
-// The highest name of an input, and the one that all fresh names count as.
-const TOP: u32 = 2147483647;
-
-const ANY_FRESH: u32 = 2147483648;
-
 // A place as it counts.
 fn place_counted(z: u32, choice: u32) -> u32
     ensures { λ r. ⌜ r ≡ blurPlace (choiceOf choice) z ⌝ }
@@ -19,13 +16,13 @@ fn place_counted(z: u32, choice: u32) -> u32
     if choice % 2 == 1 { 0 } else { z }
 }
 
-// A name as it counts.
+// A name as it counts: all fresh names may count as the first.
 fn name_counted(n: u32, choice: u32) -> u32
     ensures { λ r. ⌜ r ≡ blurName (choiceOf choice) n ⌝ }
 {
     if choice / 2 % 2 == 1 {
-        if TOP < n {
-            return ANY_FRESH;
+        if LAST_NAME < n {
+            return FIRST_FRESH;
         }
     }
     n

@@ -195,17 +195,17 @@ module _ (form : List ℕ) where
   unfolding partOf
   part-first h g = no! _ (omega tests) (no! _ (ne-eqb _ _ g) refl)
 
-module _ (form P : List ℕ) (is-p : P ≡ partOf form) (row : ℕ) where
-  pub row-there : (e : ℕ) → e ≡ 8 + 16 * row + 16 → e ≤ length P → take (e - (8 + 16 * row)) (drop (8 + 16 * row) P) ≡ rowPart form row
+module _ (form P : List ℕ) (is-p : P ≡ partOf form) (row a : ℕ) (is-a : a ≡ 8 + 16 * row) (e : ℕ) (is-e : e ≡ a + 16) where
+  pub row-there : e ≤ length P → take (e - a) (drop a P) ≡ rowPart form row
   unfolding rowPart
-  row-there e q h =
-      let n : e - (8 + 16 * row) ≡ 16 = omega arith in
+  row-there h =
+      let n : e - a ≡ 16 = omega arith in
       let g : 8 + 16 * row + 16 ≤ length (partOf form) = rw (← is-p) (omega arith) in
-      rw (n, is-p) (yes! _ (le-leb _ _ g) refl)
+      rw (n, is-a, is-p) (yes! _ (le-leb _ _ g) refl)
 
-  pub row-not : (e : ℕ) → e ≡ 8 + 16 * row + 16 → length P < e → [] ≡ rowPart form row
+  pub row-not : length P < e → [] ≡ rowPart form row
   unfolding rowPart
-  row-not e q h =
+  row-not h =
       let g : length (partOf form) < 8 + 16 * row + 16 = rw (← is-p) (omega arith) in
       no! _ (lt-leb _ _ g) refl
 

@@ -2,6 +2,7 @@
 // form by itself, and behind all scopes of the member in the root of the prelude.
 //
 // Both forms are lent, and looked at by their rows alone. They are of version 1 or 2; any bytes will do.
+use fixed::bytes_of;
 use readings::Meaning;
 use readings::Reading;
 use readings::meaning_of;
@@ -210,7 +211,7 @@ fn row_part(form: &[u8], row: u16) -> &[u8]
     ensures { λ r. ⌜ now r ≡ rowPart (now (form .entry)) row ⌝ }
 {
     let part = part_of(form);
-    let a = 8 + 16 * (row as usize);
+    let a = bytes_of(row as u32);
     let e = a + 16;
     if e <= part.len() {
         return &part[a..e];

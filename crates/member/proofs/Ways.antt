@@ -4,7 +4,6 @@ use mathlib.Core.Bool.{Bool, true, false}
 use mathlib.Core.Logic.{_⊎_, inl, inr}
 use mathlib.Core.List.{List, [], _∷_, _++_}
 use native.Mathlib.Omega.{arith}
-use native.Mathlib.Nat.{sub-zero}
 use Prim.Native.Nat.{ℕ, zero, suc, _+_, _-_, _*_, _≤_, _<_}
 use mir.Syntax.{w8}
 use mir.Val.{Fits}
@@ -23,10 +22,11 @@ use Rattle.rules.specs.Answer.{AnswerOf, refused, accepted, mapAnswer, answer, 
 use Rattle.read_form.specs.Laws.OutputLength.{output-length}
 use Rattle.batching.specs.Batch.{Prelude, rootOf, insideAnswer, insideOutput, preludeOf, memberAnswer, memberOutput}
 use Rattle.batching.specs.BatchBytes.{packed}
-use Rattle.batching.specs.BatchCalls.{roomWith, cleared}
+use Rattle.clearing.specs.Cleared.{cleared}
+use Rattle.clearing.specs.Laws.{cleared-kept}
+use Rattle.batching.specs.BatchCalls.{roomWith}
 use Rattle.batching.specs.Laws.MemberLaws.{prelude-told}
 use Rattle.batching.specs.Laws.CallLaws.{short-prelude}
-use Rattle.stores.specs.Zeros.{zeroFrom}
 use Rattle.refusal.specs.declared.Refusal.{Refusal}
 use Rattle.refusal.specs.declared.Told.{Told}
 use Rattle.resolver.specs.Meaning.{Numbers, numbers, Said, meaning, ruled}
@@ -256,33 +256,15 @@ room-whole area h = rw (le-ltb area 65480 h)
 -- ---- clear
 
 module _ (size : ℕ) where
-  same-rest : (old : List ℕ) (front : ℕ) → front ≡ size - (size - length old) → drop front old ≡ drop size old
-  same-rest old front e =
-      either (lt-or-le (length old) size)
-      (λ h. drop-of-length-le old {i = front} (omega arith) ∙ sym (drop-of-length-le old {i = size} (omega arith)))
-      (λ h. let q : front ≡ size = omega arith in ap (λ (n : ℕ). drop n old) q)
-
-  taken : (l : List ℕ) → length (take size l) ≡ size - (size - length l)
-  taken l = sym (ap length (take-less size (size - (size - length l)) l refl)) ∙ length-take-le (size - (size - length l)) l (omega arith)
-
-  pub clears : (old zeros : List ℕ) (front : ℕ) → front ≡ size - (size - length old) → zeros ≡ zeroFrom (take front old) 0 → zeros ++ drop front old ≡ cleared 0 size old
-  unfolding cleared zeroFrom
-  clears old zeros front e f =
-      let l : length (take front old) ≡ front = length-take-le front old (omega arith) in
-      let m : length (take size old) ≡ front = taken old ∙ sym e in
-      rw (f, same-rest old front e, l, m, sub-zero)
-
   -- what was written within the size does not matter
   cleared-same : (old area : List ℕ) (room : ℕ) → room ≤ length old → room ≤ size → length area ≡ room → cleared 0 size (area ++ drop room old) ≡ cleared 0 size old
-  unfolding cleared
   cleared-same old area room less fits long =
       let n : length (area ++ drop room old) ≡ length old = length-append area (drop room old) ∙ (omega (arith, length-drop room old)) in
       let q : size ≡ length area + (size - room) = omega arith in
       let k : room + (size - room) ≡ size = omega arith in
       let rest : drop size (area ++ drop room old) ≡ drop size old =
       ap (λ (x : ℕ). drop x (area ++ drop room old)) q ∙ (drop-append-add area (drop room old) (size - room) ∙ (drop-drop (size - room) room old ∙ ap (λ (x : ℕ). drop x old) k)) in
-      let same : length (take size (area ++ drop room old)) ≡ length (take size old) = taken (area ++ drop room old) ∙ (ap (λ (x : ℕ). size - (size - x)) n ∙ sym (taken old)) in
-      rw (rest, same)
+      cleared-kept 0 size old (area ++ drop room old) n rest
 
 -- ---- member
 

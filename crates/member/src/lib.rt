@@ -1,11 +1,12 @@
 // One member of a batch by itself, inside the root of its resolved prelude, in version 1. It is given the prelude and the member and nothing
 // of another member.
+use areas::clear_bytes;
 use inside::run::resolve_inside;
+use names::least;
 use refusal::Refusal;
 use resolver::run::Answer;
 use resolver::run::header_size;
 use resolver::run::resolve;
-use stores::zero_from;
 ghost use mathlib.Core.Path.{_≡_};
 ghost use Prim.Native.Nat.{_+_, _-_, _*_, _≤_};
 ghost use lib.Dec.{ltb};
@@ -14,7 +15,8 @@ ghost use Rattle.kit.specs.Pick.{pick};
 ghost use Rattle.rules.specs.Versions.{base};
 ghost use Rattle.limits.specs.Held.{setting};
 ghost use Rattle.batching.specs.Batch.{memberAnswer, memberOutput};
-ghost use Rattle.batching.specs.BatchCalls.{roomWith, cleared};
+ghost use Rattle.clearing.specs.Cleared.{cleared};
+ghost use Rattle.batching.specs.BatchCalls.{roomWith};
 ghost use Rattle.resolver.specs.Meaning.{numbers, meaning, ruled};
 
 // The size of the working area: the output of a prelude of as many rows as a form may have.
@@ -22,13 +24,6 @@ pub const AREA: usize = 65480;
 
 // What is added to the number of a prelude's refusal.
 const OF_PRELUDE: u32 = 200;
-
-// The lesser of two.
-fn least(a: usize, b: usize) -> usize
-    ensures { λ r. ⌜ (r ≡ a - (a - b)) × (r ≤ b) ⌝ }
-{
-    if a < b { a } else { b }
-}
 
 // The rows of the form at the front of these bytes, as many as its header counts; the form is of the setting at place i.
 pub fn rows_of(form: &[u8], i: usize, count: u32) -> &[u8]
@@ -85,14 +80,6 @@ fn room_in(area: usize) -> usize
     if area < AREA { 0 } else { AREA }
 }
 
-// Zeroes a working area up to its size.
-pub fn clear(work: &mut [u8], size: usize)
-    ensures { λ _. ⌜ now (work .exit) ≡ cleared 0 size (now (work .entry)) ⌝ }
-{
-    let front = least(size, work.len());
-    zero_from(&mut work[..front], 0);
-}
-
 // Resolves a member as if its root lay inside the resolved prelude's root: number and place of the refusal, or 0 and the number of
 // rows. Of `work` the first AREA bytes are zero afterwards.
 pub fn member(prelude: &[u8], member: &[u8], out: &mut [u8], work: &mut [u8]) -> Refusal
@@ -102,6 +89,6 @@ pub fn member(prelude: &[u8], member: &[u8], out: &mut [u8], work: &mut [u8]) ->
 {
     let room = room_in(work.len());
     let answer = resolve_member(prelude, member, out, &mut work[..room]);
-    clear(work, AREA);
+    clear_bytes(work, AREA);
     answer
 }

@@ -27,7 +27,9 @@ use Rattle.resolver.specs.Meaning.{numbers, meaning, ruled}
 use Rattle.resolver.specs.declared.run.Answer.{Answer}
 use Rattle.resolver_with.specs.Asked.{asked}
 use Rattle.resolver_with.specs.Areas as areas
-use Rattle.resolver_with.specs.Areas.{slotsFor, linksFor, lentOf, roomy, cleared}
+use Rattle.clearing.specs.Cleared.{cleared}
+use Rattle.clearing.specs.Laws.{cleared-kept}
+use Rattle.resolver_with.specs.Areas.{slotsFor, linksFor, lentOf, roomy}
 use Rattle.resolver_with.specs.With.{Ran}
 use Rattle.resolver_with.proofs.Asked.{setting-asked}
 use Rattle.resolver_with.proofs.Runs.{able-at}
@@ -92,13 +94,12 @@ front-is size s a l is e h = let g = ltb-false (length l) size h in length-take-
 
 -- an area whose front came back, and which is cleared then
 recleared : {A : Type 0} (z : A) (size s a : ℕ) (l front new : List A) → s ≡ size → a ≡ s - (s - length l) → length front ≡ length (take a l) → new ≡ cleared z size (front ++ drop a l) → new ≡ cleared z size l
-unfolding cleared
 recleared z size s a l front new is e k q =
     let t = length-take-le a l (omega arith) in
     let d = length-drop a l in
     let long : length (front ++ drop a l) ≡ length l = length-append front (drop a l) ∙ (omega arith) in
     let rest : drop size (front ++ drop a l) ≡ drop size l = go (lt-or-le (length l) size) in
-    q ∙ rw (long, rest)
+    q ∙ cleared-kept z size l (front ++ drop a l) long rest
   where
     go : (length l < size) ⊎ (size ≤ length l) → drop size (front ++ drop a l) ≡ drop size l
     go (inl h) =
@@ -206,7 +207,7 @@ module _ (i : ℕ) (prelude : List ℕ) (asks : setting i ≡ asked prelude) (wo
         ∙ (ap (λ (s : Setting). memberOutput (s ∷ []) prelude (roomWith (shortWith prelude (length work) (lentOf e n k c m)) (areaFor (asked prelude .version))) member old) asks
         ∙ sym (one-writes prelude (roomWith (shortWith prelude (length work) (lentOf e n k c m)) (areaFor (asked prelude .version))) member old)))
 
-  pub with-cleared : (area work′ : List ℕ) (size : ℕ) → size ≡ areaFor (setting i .version) → room ≤ areaFor (setting i .version) → SameArea (take room work) area → work′ ≡ calls.cleared 0 size (area ++ drop room work)
-      → work′ ≡ calls.cleared 0 (areaFor (asked prelude .version)) work
+  pub with-cleared : (area work′ : List ℕ) (size : ℕ) → size ≡ areaFor (setting i .version) → room ≤ areaFor (setting i .version) → SameArea (take room work) area → work′ ≡ cleared 0 size (area ++ drop room work)
+      → work′ ≡ cleared 0 (areaFor (asked prelude .version)) work
   with-cleared area work′ size q fits same h =
-      as-cleared work area work′ room size less (omega (arith, q, fits)) (same .long) h ∙ ap (λ (x : ℕ). calls.cleared 0 x work) (q ∙ ap (λ (s : Setting). areaFor (s .version)) asks)
+      as-cleared work area work′ room size less (omega (arith, q, fits)) (same .long) h ∙ ap (λ (x : ℕ). cleared 0 x work) (q ∙ ap (λ (s : Setting). areaFor (s .version)) asks)

@@ -10,7 +10,8 @@ use Rattle.limits.specs.Held.{setting}
 use Rattle.names.specs.Table.{Slot, emptySlot}
 use Rattle.resolver_with.specs.Asked.{asked}
 use Rattle.resolver_with.specs.Areas as areas
-use Rattle.resolver_with.specs.Areas.{slotsFor, linksFor, cleared}
+use Rattle.clearing.specs.Cleared.{cleared}
+use Rattle.resolver_with.specs.Areas.{slotsFor, linksFor}
 use Rattle.inside.specs.Areas.{bothFor, chainsFor}
 
 -- the bytes of the longest output

@@ -4,16 +4,16 @@ use crate::sizes::area_for;
 use crate::sizes::both_for;
 use crate::sizes::chains_for;
 use crate::sizes::clear_tables;
+use areas::clear_bytes;
 use inside::run::resolve_around;
-use member::clear;
 use member::of_prelude;
 use member::rows_of;
 use member::said;
 use names::Slot;
+use names::least;
 use refusal::Refusal;
 use resolver_with::run::asked_for;
 use resolver_with::run::resolve_at;
-use resolver_with::sizes::least;
 use resolver_with::sizes::links_for;
 use resolver_with::sizes::slots_for;
 ghost use mathlib.Core.Path.{_≡_};
@@ -24,7 +24,8 @@ ghost use lib.Dec.{ltb};
 ghost use lib.ListN.{length};
 ghost use Rattle.limits.specs.Held.{setting};
 ghost use Rattle.batching.specs.Batch.{memberAnswer, memberOutput};
-ghost use Rattle.batching.specs.BatchCalls.{roomWith, cleared};
+ghost use Rattle.clearing.specs.Cleared.{cleared};
+ghost use Rattle.batching.specs.BatchCalls.{roomWith};
 ghost use Rattle.resolver.specs.Meaning.{numbers, ruled};
 ghost use Rattle.rules.specs.Versions.{all};
 ghost use Rattle.resolver_with.specs.Asked.{asked};
@@ -154,6 +155,6 @@ pub fn member_with(
         chains,
         ends,
     );
-    clear(work, area_for(i));
+    clear_bytes(work, area_for(i));
     answer
 }

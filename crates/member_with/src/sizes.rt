@@ -1,7 +1,7 @@
 // The working areas for a form inside a root, by the version: how large each is, and how they are handed back.
-use lent_areas::clear_links;
-use lent_areas::clear_numbers;
-use lent_areas::clear_slots;
+use areas::clear_links;
+use areas::clear_numbers;
+use areas::clear_slots;
 use names::Slot;
 use resolver::run::header_size;
 use resolver_with::sizes::links_for;

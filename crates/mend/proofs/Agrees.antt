@@ -1,6 +1,6 @@
 -- What the code answers and leaves is what the rules say, for every setting.
 use mathlib.Core.Path.{_≡_, refl, sym, ap, ap₂, _∙_, subst}
-use mathlib.Core.Bool.{Bool, true, false, _&&_, _||_, not, and-true}
+use mathlib.Core.Bool.{Bool, true, false, _&&_, _||_, not, and-true, and-assoc}
 use mathlib.Core.Logic.{_⊎_, inl, inr}
 use mathlib.Core.Option.{Option, none, some}
 use mathlib.Core.List.{List, [], _∷_, _++_, append-assoc, append-nil}
@@ -58,10 +58,10 @@ module _ (a b c d e f g h : ℕ) (rest : List ℕ) where
       let n = suc (suc (suc (suc (suc (suc (suc (suc (length rest)))))))) in
       let t : leb 8 n ≡ true = omega tests in
       let u : ltb n 8 ≡ false = omega tests in
-      rw (t, u) (simp and-true)
+      rw (t, u) (simp (and-true, and-assoc))
 
   abbrev letters : (version : ℕ) → Bool
-  letters version = eqb a 87 && (eqb b 78 && (eqb c 84 && (eqb d version && eqb e 0)))
+  letters version = eqb a 87 && eqb b 78 && eqb c 84 && eqb d version && eqb e 0
 
   abbrev said : (version : ℕ) → Bool
   said version = eqb a 87 && (eqb b 78 && (eqb c 84 && (eqb d version && (eqb e 0 && true))))
@@ -79,7 +79,7 @@ module _ (a b c d e f g h : ℕ) (rest : List ℕ) where
       go (inr s) =
           let t : leb 16 (length whole) ≡ true = omega tests in
           let v : ltb (length whole) 16 ≡ false = omega tests in
-          rw (t, v) (simp and-true)
+          rw (t, v) (simp (and-true, and-assoc))
 
   asks-two : asksFor (setting 1) whole ≡ asksT (limitsOf (setting 1)) whole
   unfolding asksFor asksT lettersT mark sameNumbers bytes pick

@@ -22,14 +22,19 @@ use Rattle.mend_form.specs.declared.Kept.{Kept}
 use Rattle.mend_form.proofs.Right.{rows-split}
 use Rattle.mend_list.specs.Listed.{listed, none, noted, changesIn}
 use Rattle.mend_list.specs.declared.Listed.{Listed}
+use Rattle.form_bytes.specs.Begins.{beginsAs}
 use Rattle.reader.specs.ReadTo.{readTo}
-use Rattle.reader.specs.declared.read.RowsRead.{RowsRead}
-use Rattle.reader.specs.declared.read.RowsRead.the-variants as rowsRead
+use Rattle.reader.specs.declared.RowsRead.{RowsRead}
+use Rattle.reader.specs.declared.RowsRead.the-variants as rowsRead
 use Rattle.mend.specs.Run.{Ran, refusedT, lettersT, asksT, placeT, newT, inPlace, writeT, readThen, roomT, toT, madeT}
 use Rattle.mend.specs.declared.run.Answer.{Answer}
 use Rattle.mend.specs.declared.run.Answer.the-variants.{Mended}
 
 -- ---- the setting
+
+pub letters-is : (form : List ℕ) (version : ℕ) (w : Bool) (z : ℕ) → w ≡ beginsAs form version → z ≡ getD form 4 0 → (w && eqb z 0) ≡ lettersT form version
+unfolding lettersT
+letters-is form version w z hw hz = rw (hw, hz)
 
 module _ (l : Limits) (form : List ℕ) where
   pub asks-few : length form < 8 → false ≡ asksT l form

@@ -10,9 +10,10 @@ use Rattle.kit.specs.Out.{Out, _&_}
 use Rattle.rules.specs.Answer.{headerBytes}
 use Rattle.limits.specs.declared.Limits.{Limits}
 use Rattle.limits.specs.Held.{settingIn, limitsOf, setting}
+use Rattle.form_bytes.specs.Begins.{beginsAs}
 use Rattle.reader.specs.ReadTo.{readTo}
-use Rattle.reader.specs.declared.read.RowsRead.{RowsRead}
-use Rattle.reader.specs.declared.read.RowsRead.the-variants as rowsRead
+use Rattle.reader.specs.declared.RowsRead.{RowsRead}
+use Rattle.reader.specs.declared.RowsRead.the-variants as rowsRead
 use Rattle.mending.specs.Mend.{listBytes}
 use Rattle.mend_form.specs.Kept.{keptIn}
 use Rattle.mend_form.specs.Filled.{mendedBodyT}
@@ -33,8 +34,7 @@ refusedT number place = Refused (record { number = number; place = place })
 
 -- the letters, and this version
 unfoldable pub lettersT : List ℕ → (version : ℕ) → Bool
-lettersT l version =
-    eqb (getD l 0 0) 87 && (eqb (getD l 1 0) 78 && (eqb (getD l 2 0) 84 && (eqb (getD l 3 0) version && eqb (getD l 4 0) 0)))
+lettersT l version = beginsAs l version && eqb (getD l 4 0) 0
 
 -- whether a form begins as one of these limits does
 unfoldable pub asksT : Limits → List ℕ → Bool

@@ -2,13 +2,15 @@
 // refused any more.
 use crate::place::put_form;
 use crate::place::wide;
+use form_bytes::begins_as;
+use form_bytes::byte_at;
 use limits::Limits;
 use limits::of_input;
 use mend_form::Kept;
 use mend_form::kept_in;
 use mend_list::list_changes;
 use mend_read::read_mended;
-use reader::read::RowsRead;
+use reader::RowsRead;
 use refusal::BROKEN;
 use refusal::DEEP;
 use refusal::NOT_A_FORM;
@@ -50,13 +52,11 @@ fn refused(number: u32, place: u32) -> Answer
 
 // ---- the setting
 
-// Whether a form begins with the letters and this version.
+// Whether a form begins with the letters and this version, and a zero.
 fn has_letters(form: &[u8], version: u8) -> bool
-    requires { ⌜ 5 ≤ length (now form) ⌝ }
     ensures { λ r. ⌜ r ≡ lettersT (now (form .entry)) version ⌝ }
 {
-    (form[0] == b'W')
-        & ((form[1] == b'N') & ((form[2] == b'T') & ((form[3] == version) & (form[4] == 0))))
+    begins_as(form, version) & (byte_at(form, 4) == 0)
 }
 
 // Whether a form begins as one of these limits does. Byte 5 of version 1 is mended, and so is not asked.

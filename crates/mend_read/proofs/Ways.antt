@@ -21,8 +21,8 @@ use Rattle.read_row.specs.Machine.{Outcome, on, outcomeOf, positionOf, readStep
 use Rattle.read_row.specs.declared.ReadState.{ReadState}
 use Rattle.reader.specs.Machine.{readRowsT, readOnT, readAsT}
 use Rattle.reader.specs.ReadTo.{readTo}
-use Rattle.reader.specs.declared.read.RowsRead.{RowsRead}
-use Rattle.reader.specs.declared.read.RowsRead.the-variants.{Broken, Deep}
+use Rattle.reader.specs.declared.RowsRead.{RowsRead}
+use Rattle.reader.specs.declared.RowsRead.the-variants.{Broken, Deep}
 use Rattle.reader.proofs.Steps
 use Rattle.reader.proofs.Steps.{notOpen}
 use Rattle.mend_form.specs.Kept.{keptIn}

@@ -1,5 +1,5 @@
 // The written numbers that inserted aliases have moved, in a form of any version that is in force: in working areas that are lent.
-use form::header::HEADER;
+use fixed::HEADER;
 use lent_areas::clear_areas;
 use moved::run::Answer;
 use moved::run::fill_fronts;
@@ -7,12 +7,12 @@ use moved::run::refusal_in;
 use moved::run::rows_asked;
 use moved_list::Listed;
 use names::Slot;
+use names::least;
 use refusal::ROOM;
 use refusal::Refusal;
 use resolver::run::header_size;
 use resolver_with::run::asked_for;
 use resolver_with::run::resolve_with;
-use resolver_with::sizes::least;
 ghost use mathlib.Core.Path.{_≡_};
 ghost use Prim.Native.Nat.{_*_, _≤_};
 ghost use mathlib.Core.Bool.{_||_};

@@ -5,6 +5,8 @@ use crate::enter::row_number;
 use codes::Spaces;
 use codes::has;
 use codes::here_only;
+use fixed::CORE_INSTANCE_WIDE;
+use fixed::INSTANCE_WIDE;
 use form::part::field_rows;
 use index::outward;
 use index::push;
@@ -48,13 +50,8 @@ const NOT_EARLIER: u32 = 13;
 // The code that no field has.
 const NO_FIELD: u8 = 0;
 
-// The spaces of core items that cannot be exported.
+// Core types cannot be exported, nor can core instances.
 const CORE_TYPE: u32 = 4;
-
-const CORE_INSTANCE: u32 = 6;
-
-// The space of instances, which every PATH but the last leads to.
-const INSTANCE: u32 = 10;
 
 // How far step B of a scope has come.
 pub struct PlanState {
@@ -165,7 +162,7 @@ fn plan_paths(
     let mut left = paths;
     while 1 < left {
         left -= 1;
-        p = insert(names, chains, counts, p, INSTANCE, row, 0, 0);
+        p = insert(names, chains, counts, p, INSTANCE_WIDE, row, 0, 0);
     }
     insert(names, chains, counts, p, space, row, 0, 0)
 }
@@ -318,7 +315,7 @@ fn plan_ref(
                 Told { space: 0, first: 0 },
             );
         }
-        if r.space == CORE_INSTANCE {
+        if r.space == CORE_INSTANCE_WIDE {
             return Planned::Refused(
                 Refusal {
                     number: NOT_EXPORTED,

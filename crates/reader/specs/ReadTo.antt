@@ -8,8 +8,8 @@ use Rattle.rules.specs.Reader.{read}
 use Rattle.rules.specs.Answer.{rowsOf}
 use Rattle.limits.specs.declared.Limits.{Limits}
 use Rattle.limits.specs.Held.{settingIn}
-use Rattle.reader.specs.declared.read.RowsRead.{RowsRead}
-use Rattle.reader.specs.declared.read.RowsRead.the-variants.{Whole, Broken, Deep}
+use Rattle.reader.specs.declared.RowsRead.{RowsRead}
+use Rattle.reader.specs.declared.RowsRead.the-variants.{Whole, Broken, Deep}
 
 -- the rules' answer as the code gives it
 unfoldable pub answerOf : rules.RowsRead → RowsRead

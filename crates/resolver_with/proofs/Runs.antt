@@ -40,7 +40,8 @@ use Rattle.resolver.proofs.Bytes.{all-bytes}
 use Rattle.resolver.proofs.Starts.{served-new, stacked-start}
 use Rattle.resolver.proofs.Root.{Able, able-1, able-2, Rooms}
 use Rattle.resolver.proofs.Agrees.{answers-early, leaves-early, run-agrees}
-use Rattle.resolver_with.specs.Areas.{slotsFor, linksFor, Lent, lentOf, roomy, cleared, Cleared}
+use Rattle.clearing.specs.Cleared.{cleared}
+use Rattle.resolver_with.specs.Areas.{slotsFor, linksFor, Lent, lentOf, roomy, Cleared}
 use Rattle.resolver_with.specs.Exact.{exactly, Suits, Zeroed}
 use Rattle.resolver_with.specs.Asked.{asked}
 use Rattle.resolver_with.specs.With.{answerWith, outputWith, Ran}

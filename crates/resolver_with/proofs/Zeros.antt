@@ -16,7 +16,8 @@ use Rattle.limits.specs.declared.Limits.{Limits}
 use Rattle.limits.specs.Held.{limitsOf, setting}
 use Rattle.limits.proofs.Laws.{few-rows}
 use Rattle.names.specs.Table.{Slot}
-use Rattle.resolver_with.specs.Areas.{slotsFor, linksFor, Lent, lentOf, roomy, cleared}
+use Rattle.clearing.specs.Cleared.{cleared}
+use Rattle.resolver_with.specs.Areas.{slotsFor, linksFor, Lent, lentOf, roomy}
 use Rattle.resolver_with.specs.Exact.{exactly}
 
 -- ---- slots_for, links_for
@@ -44,9 +45,15 @@ module _ {A : Type 0} (size a : ℕ) (l : List A) (least : a ≡ size - (size - 
       (λ h. drop-of-length-le l {i = a} (omega arith) ∙ sym (drop-of-length-le l {i = size} (omega arith)))
       (λ h. let e : a ≡ size = omega arith in ap (λ (k : ℕ). drop k l) e)
 
+  taken : length (take size l) ≡ a
+  taken =
+      either (lt-or-le (length l) size)
+      (λ h. ap length (take-all size l (omega arith)) ∙ (omega arith))
+      (λ h. length-take-le size l h ∙ (omega arith))
+
   pub cleared-is : (z : A) (f : List A) → f ≡ replicate (length (take a l)) z → f ++ drop a l ≡ cleared z size l
   unfolding cleared
-  cleared-is z f e = rw (e, front-length, rest-is, least)
+  cleared-is z f e = rw (e, front-length, rest-is, taken)
 
   -- the front has the size exactly where the area is not too small
   fits : eqb (length (take a l)) size ≡ leb size (length l)

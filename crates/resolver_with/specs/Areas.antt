@@ -1,10 +1,11 @@
 -- The working areas: their sizes by version, and what they hold after a call.
 use mathlib.Core.Path.{_≡_}
 use mathlib.Core.Bool.{Bool, _&&_}
-use mathlib.Core.List.{List, _++_}
+use mathlib.Core.List.{List}
 use Prim.Native.Nat.{ℕ, _+_, _-_}
 use lib.Dec.{leb}
-use lib.ListN.{length, drop, replicate}
+use lib.ListN.{length}
+use Rattle.clearing.specs.Cleared.{cleared}
 use Rattle.rules.specs.Versions.{Version}
 use Rattle.names.specs.Table.{Slot, emptySlot}
 
@@ -33,10 +34,6 @@ lentOf entered names known chains ends =
 unfoldable pub roomy : Version → Lent → Bool
 roomy v l =
     leb (slotsFor v) (l .entered) && (leb (slotsFor v) (l .names) && (leb (linksFor v) (l .known) && (leb (linksFor v) (l .chains) && leb (slotsFor v) (l .ends))))
-
--- the first `size` elements are zero, all where there are fewer, and those beyond stay
-unfoldable pub cleared : {A : Type 0} → (zero : A) (size : ℕ) → List A → List A
-cleared zero size area = replicate (size - (size - length area)) zero ++ drop size area
 
 -- what each area holds then, beside what it held before
 pub record Cleared (v : Version) (e e′ n n′ : List Slot) (k k′ c c′ m m′ : List ℕ) : Type 0 where

@@ -1,5 +1,4 @@
 // The run on a form, in working areas that are lent.
-use crate::sizes::least;
 use crate::sizes::links_for;
 use crate::sizes::slots_for;
 use areas::zero_links;
@@ -12,6 +11,7 @@ use limits::most_scopes;
 use limits::of_input;
 use names::Scope;
 use names::Slot;
+use names::least;
 use refusal::ROOM;
 use refusal::Refusal;
 use refusal::Told;

@@ -1,7 +1,7 @@
 // The working areas: how large each is for a form.
 use limits::of_input;
 ghost use mathlib.Core.Path.{_≡_};
-ghost use Prim.Native.Nat.{_-_, _≤_};
+ghost use Prim.Native.Nat.{_≤_};
 ghost use Rattle.limits.specs.Held.{setting};
 ghost use Rattle.resolver_with.specs.Areas.{slotsFor, linksFor};
 
@@ -18,11 +18,4 @@ pub fn links_for(i: usize) -> usize
     ensures { λ r. ⌜ (r ≡ linksFor (setting i .version)) × (r ≤ 32768) ⌝ }
 {
     2 * slots_for(i)
-}
-
-// The lesser of two.
-pub fn least(a: usize, b: usize) -> usize
-    ensures { λ r. ⌜ r ≡ a - (a - b) ⌝ }
-{
-    if a < b { a } else { b }
 }

@@ -1,4 +1,5 @@
 // The parts of the rows of a form, by the bytes in which they stand. What lies past the end is 0, so that any bytes can be looked at.
+use fixed::bytes_of;
 use form_bytes::byte_at;
 use form_bytes::half_at;
 use form_bytes::word_at;
@@ -10,7 +11,7 @@ ghost use Rattle.row_bytes.specs.Parts.{startOf, codeAt, bAt, eAt, xAt, 
 pub fn start_of(row: u16) -> u32
     ensures { λ r. ⌜ (r ≡ startOf row) × (r < 1048576) ⌝ }
 {
-    8 + 16 * (row as u32)
+    bytes_of(row as u32) as u32
 }
 
 pub fn code_at(form: &[u8], row: u16) -> u8

@@ -9,15 +9,13 @@ use lib.Dec.{eqb}
 use lib.ListN.{length, getD}
 use Rattle.kit.proofs.Laws.{yes!, no!, tests}
 use Rattle.parts.specs.PartsAt.{two}
+use Rattle.form_bytes.specs.Begins.{beginsAs}
 use Rattle.row_bytes.specs.Parts.{startOf}
-use Rattle.row_count.specs.Count.{beginsWnt, hasHeader, rowsIn, isWhole}
+use Rattle.row_count.specs.Count.{hasHeader, rowsIn, isWhole}
 
 module _ (form : List ℕ) where
-  pub wnt-is : (a b c : ℕ) → a ≡ getD form 0 0 → b ≡ getD form 1 0 → c ≡ getD form 2 0 → (eqb a 87 && eqb b 78 && eqb c 84) ≡ beginsWnt form
-  wnt-is a b c ha hb hc = rw (ha, hb, hc)
-
-  pub header-is : (w : Bool) (a b c : ℕ) → w ≡ beginsWnt form → a ≡ getD form 3 0 → b ≡ getD form 4 0 → c ≡ getD form 5 0 → (w && eqb a 1 && eqb b 0 && eqb c 0) ≡ hasHeader form
-  header-is w a b c hw ha hb hc = rw (hw, ha, hb, hc)
+  pub header-is : (w : Bool) (b c : ℕ) → w ≡ beginsAs form 1 → b ≡ getD form 4 0 → c ≡ getD form 5 0 → (w && eqb b 0 && eqb c 0) ≡ hasHeader form
+  header-is w b c hw hb hc = rw (hw, hb, hc)
 
   pub rows-none : length form < 8 → 0 ≡ rowsIn form
   unfolding rowsIn
@@ -35,4 +33,4 @@ pub whole-is : (form : List ℕ) (rows said start : ℕ) → rows ≡ rowsIn for
 unfolding isWhole
 whole-is form rows said start r s t = rw (s, t, r)
 
-pub ruleset count-ways = (wnt-is, header-is, rows-none, rows-few, rows-many, whole-is, needs)
+pub ruleset count-ways = (header-is, rows-none, rows-few, rows-many, whole-is, needs)

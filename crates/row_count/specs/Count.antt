@@ -6,15 +6,12 @@ use lib.Dec.{eqb, ltb}
 use lib.ListN.{length, getD}
 use Rattle.kit.specs.Pick.{pick}
 use Rattle.parts.specs.PartsAt.{two}
+use Rattle.form_bytes.specs.Begins.{beginsAs}
 use Rattle.row_bytes.specs.Parts.{startOf}
-
--- are the first three letters WNT?
-abbrev pub beginsWnt : List ℕ → Bool
-beginsWnt form = eqb (getD form 0 0) 87 && eqb (getD form 1 0) 78 && eqb (getD form 2 0) 84
 
 -- is it that of version 1?
 abbrev pub hasHeader : List ℕ → Bool
-hasHeader form = beginsWnt form && eqb (getD form 3 0) 1 && eqb (getD form 4 0) 0 && eqb (getD form 5 0) 0
+hasHeader form = beginsAs form 1 && eqb (getD form 4 0) 0 && eqb (getD form 5 0) 0
 
 -- how many whole rows stand behind it, at most 65535
 unfoldable pub rowsIn : List ℕ → ℕ

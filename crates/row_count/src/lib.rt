@@ -1,22 +1,18 @@
 // What the header of a form says, and how many rows there are.
+use fixed::HEADER;
+use form_bytes::begins_as;
 use form_bytes::byte_at;
 use form_bytes::half_at;
 use row_bytes::start_of;
 ghost use mathlib.Core.Path.{_≡_};
 ghost use Rattle.parts.specs.PartsAt.{two};
-ghost use Rattle.row_count.specs.Count.{beginsWnt, hasHeader, rowsIn, isWhole};
-
-fn begins_wnt(form: &[u8]) -> bool
-    ensures { λ r. ⌜ r ≡ beginsWnt (now (form .entry)) ⌝ }
-{
-    (byte_at(form, 0) == b'W') & (byte_at(form, 1) == b'N') & (byte_at(form, 2) == b'T')
-}
+ghost use Rattle.row_count.specs.Count.{hasHeader, rowsIn, isWhole};
 
 // Whether the header is that of version 1.
 pub fn has_header(form: &[u8]) -> bool
     ensures { λ r. ⌜ r ≡ hasHeader (now (form .entry)) ⌝ }
 {
-    begins_wnt(form) & (byte_at(form, 3) == 1) & (byte_at(form, 4) == 0) & (byte_at(form, 5) == 0)
+    begins_as(form, 1) & (byte_at(form, 4) == 0) & (byte_at(form, 5) == 0)
 }
 
 // The row count of the header.
@@ -30,10 +26,10 @@ pub fn rows_said(form: &[u8]) -> u32
 pub fn rows_in(form: &[u8]) -> u16
     ensures { λ r. ⌜ r ≡ rowsIn (now (form .entry)) ⌝ }
 {
-    if form.len() < 8 {
+    if form.len() < HEADER {
         return 0;
     }
-    let rows = (form.len() - 8) / 16;
+    let rows = (form.len() - HEADER) / 16;
     if rows < 65535 { rows as u16 } else { 65535 }
 }
 

@@ -1,4 +1,5 @@
 // Single rows of a form: which are inserted DECLs, which refer to something, the row behind one; and how rows are counted.
+use fixed::FIRST_FRESH;
 use row_bytes::code_at;
 use row_bytes::x_at;
 use rows::row::DECL;
@@ -7,9 +8,6 @@ use rows::row::REF;
 ghost use mathlib.Core.Path.{_≡_};
 ghost use Prim.Native.Nat.{_+_, _≤_};
 ghost use Rattle.row_kinds.specs.Kinds.{isInserted, isReference, nextOf, countOn};
-
-// A DECL's name from here up was inserted.
-pub const FIRST_FRESH: u32 = 2147483648;
 
 // The row behind a row; the last that can be is its own.
 pub fn next(row: u16) -> u16

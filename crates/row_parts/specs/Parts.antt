@@ -7,7 +7,7 @@ use lib.Dec.{eqb}
 use Rattle.kit.specs.Pick.{pick}
 pub use Rattle.row_bytes.specs.Parts.{startOf}
 unfoldable pub use Rattle.row_bytes.specs.Parts.{codeAt, bAt, eAt, xAt, yAt, zAt}
-pub use Rattle.row_count.specs.Count.{beginsWnt, hasHeader}
+pub use Rattle.row_count.specs.Count.{hasHeader}
 unfoldable pub use Rattle.row_count.specs.Count.{rowsIn, isWhole}
 unfoldable pub use Rattle.row_kinds.specs.Kinds.{isInserted, isReference, nextOf, countOn}
 

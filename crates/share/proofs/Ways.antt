@@ -20,7 +20,8 @@ use Rattle.rules.specs.Answer.{refused, accepted, answer, rowsBytes, output}
 use Rattle.rules.specs.Laws.RowLaws.{Bytes}
 use Rattle.rules.specs.Laws.InputLaws.{base-usual}
 use Rattle.read_form.specs.Laws.OutputLength.{output-length}
-use Rattle.checking.specs.CheckAnswer.{slotsOf, linksOf, checkAnswer, cleared, tableAfter, indexAfter}
+use Rattle.clearing.specs.Cleared.{cleared}
+use Rattle.checking.specs.CheckAnswer.{slotsOf, linksOf, checkAnswer, tableAfter, indexAfter}
 use Rattle.sharing.specs.Sharing.{mark, shared, sharedOutput}
 use Rattle.sharing.specs.Laws.SharedAccepted.{shared-refuses}
 use Rattle.refusal.specs.declared.Refusal.{Refusal}
@@ -116,10 +117,10 @@ module _ (slots links : ℕ) where
 -- ---- the areas
 
 module _ (form : List ℕ) where
-  pub table-empty : (old new : List Slot) → new ≡ cleared 2046 emptySlot old → new ≡ tableAfter base form old
+  pub table-empty : (old new : List Slot) → new ≡ cleared emptySlot 2046 old → new ≡ tableAfter base form old
   table-empty old new e = table-cleared form old old new (record { long = refl; rest = refl }) (unfold slotsOf in e)
 
-  pub index-empty : (old new : List ℕ) → new ≡ cleared 3070 0 old → new ≡ indexAfter base form old
+  pub index-empty : (old new : List ℕ) → new ≡ cleared 0 3070 old → new ≡ indexAfter base form old
   index-empty old new e = index-cleared form old old new (record { long = refl; rest = refl }) (unfold linksOf slotsOf in e)
 
 -- ---- share, where an area is too small

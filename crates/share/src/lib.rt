@@ -3,12 +3,12 @@
 // The resolver's own run gives every refusal. Where it accepts, the steps are run once more, on rows in which each later reference to
 // an outer declaration names the alias that the first one will get. What comes of that is held against the conditions on another
 // assembler's output before it is answered. That they never refuse it is proved.
+use areas::clear_links;
+use areas::clear_slots;
 use claim_check::Verdict;
-use claim_check::area::clear_index;
-use claim_check::area::clear_table;
 use claim_check::run::check;
+use fixed::HEADER;
 use form::ends::mark_ends;
-use form::header::HEADER;
 use mark::mark_rows;
 use names::Slot;
 use resolver::run::Answer;
@@ -20,7 +20,8 @@ ghost use Prim.Native.Nat.{_+_, _*_, _≤_};
 ghost use lib.ListN.{length, take};
 ghost use Rattle.kit.specs.Out.{_&_};
 ghost use Rattle.rules.specs.Versions.{base};
-ghost use Rattle.checking.specs.CheckAnswer.{checkAnswer, cleared, tableAfter, indexAfter};
+ghost use Rattle.clearing.specs.Cleared.{cleared};
+ghost use Rattle.checking.specs.CheckAnswer.{checkAnswer, tableAfter, indexAfter};
 ghost use Rattle.sharing.specs.Sharing.{shared, sharedOutput};
 ghost use Rattle.limits.specs.Held.{setting};
 ghost use Rattle.names.specs.Table.{emptySlot};
@@ -113,10 +114,10 @@ fn is_small(slots: usize, links: usize) -> bool
 
 // The areas are handed back empty.
 fn clear(table: &mut [Slot], index: &mut [u16])
-    ensures { λ _. ⌜ (now (table .exit) ≡ cleared 2046 emptySlot (now (table .entry))) × (now (index .exit) ≡ cleared 3070 0 (now (index .entry))) ⌝ }
+    ensures { λ _. ⌜ (now (table .exit) ≡ cleared emptySlot 2046 (now (table .entry))) × (now (index .exit) ≡ cleared 0 3070 (now (index .entry))) ⌝ }
 {
-    clear_table(table, SLOTS);
-    clear_index(index, LINKS);
+    clear_slots(table, SLOTS);
+    clear_links(index, LINKS);
 }
 
 // ---- the run

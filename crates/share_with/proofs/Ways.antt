@@ -6,7 +6,7 @@ use mathlib.Core.List.{List, [], _∷_, _++_}
 use native.Mathlib.Omega.{arith}
 use Prim.Native.Nat.{ℕ, zero, suc, _+_, _-_, _*_, _/_, _≤_, _<_}
 use lib.Dec.{ltb}
-use lib.ListN.{length, getD, take, drop, replicate, length-append, length-drop, length-replicate, drop-of-length-le}
+use lib.ListN.{length, getD, take, drop, replicate, length-append, length-drop, length-replicate, drop-of-length-le, take-append-drop}
 use lib.Seq.{take-at, drop-at, take-all, length-take-le}
 use borrow.Author.Tests.{ltb-false}
 use mir.Syntax.{w8}
@@ -20,7 +20,6 @@ use Rattle.rules.specs.Laws.InputLaws.{all-usual}
 use Rattle.read_form.specs.Laws.OutputLength.{output-length}
 use Rattle.checking.specs.CheckAnswer.{slotsOf, linksOf}
 use Rattle.sharing.specs.Sharing.{shared, sharedOutput}
-use Rattle.stores.specs.Zeros.{zeroFrom}
 use Rattle.limits.specs.declared.Limits.{Limits}
 use Rattle.limits.specs.Held.{limitsOf, setting}
 use Rattle.limits.proofs.Laws.{few-rows}
@@ -34,12 +33,13 @@ use Rattle.resolver.specs.Run.{walkIn, fillT, before}
 use Rattle.resolver.specs.declared.run.Answer.{Answer}
 use Rattle.resolver.proofs.Bytes.{all-bytes}
 use Rattle.resolver.proofs.Starts.{served-new}
-use Rattle.resolver.proofs.Laws.{zeros-all}
-use Rattle.resolver_with.specs.Areas.{slotsFor, linksFor, Lent, lentOf, roomy, cleared, Cleared}
+use Rattle.clearing.specs.Cleared.{cleared}
+use Rattle.clearing.specs.Laws.{cleared-kept}
+use Rattle.resolver_with.specs.Areas.{slotsFor, linksFor, Lent, lentOf, roomy, Cleared}
 use Rattle.resolver_with.specs.Exact.{Suits}
 use Rattle.resolver_with.specs.Asked.{asked}
 use Rattle.resolver_with.specs.With as resolved
-use Rattle.resolver_with.proofs.Zeros.{rows-are, rows-few, cleared-is}
+use Rattle.resolver_with.proofs.Zeros.{rows-are, rows-few}
 use Rattle.claim_check.specs.Run.{Kept}
 use Rattle.check_with.specs.With.{checkWith}
 use Rattle.check_with.specs.Large.{Large}
@@ -174,13 +174,12 @@ pub small-tests : (lent : Bool) (i bytes table index b s l : ℕ) → b ≡ byte
     → (not lent || (ltb bytes b || (ltb table s || ltb index l))) ≡ (not lent || (ltb bytes (bytesFor (setting i .version)) || (ltb table (slotsOf (setting i .version)) || ltb index (linksOf (setting i .version)))))
 small-tests lent i bytes table index b s l p q r = rw (p, q, r)
 
-pub marked-cleared : (i size a : ℕ) (l f : List ℕ) → size ≡ bytesFor (setting i .version) → a ≡ size - (size - length l) → f ≡ zeroFrom (take a l) 0 → f ++ drop a l ≡ cleared 0 (bytesFor (setting i .version)) l
-marked-cleared i size a l f e q z = cleared-is size a l q 0 f (zeros-all f (take a l) z) ∙ ap (λ (n : ℕ). cleared 0 n l) e
+pub marked-cleared : (i size : ℕ) (l m : List ℕ) → size ≡ bytesFor (setting i .version) → m ≡ cleared 0 size l → m ≡ cleared 0 (bytesFor (setting i .version)) l
+marked-cleared i size l m e q = q ∙ ap (λ (n : ℕ). cleared 0 n l) e
 
 -- an area that was emptied, or whose front alone was written to, is emptied
 kept-cleared : {A : Type 0} (size : ℕ) (z : A) (old mid new : List A) → Kept size old mid → new ≡ cleared z size mid → new ≡ cleared z size old
-unfolding cleared
-kept-cleared size z old mid new K e = e ∙ rw (K .long, K .rest)
+kept-cleared size z old mid new K e = e ∙ cleared-kept z size old mid (K .long) (K .rest)
 
 -- ---- settle
 
@@ -235,14 +234,15 @@ own-ran form old now lent o fits a l n = record { answers = rw fits at a; leaves
 cleared-long : {A : Type 0} (size : ℕ) (z : A) (l : List A) → length (cleared z size l) ≡ length l
 unfolding cleared
 cleared-long size z l =
-    omega (arith, length-append (replicate (size - (size - length l)) z) (drop size l), length-replicate (size - (size - length l)) z, length-drop size l)
+    let n = length (take size l) in
+    length-append (replicate n z) (drop size l) ∙ (ap (λ (k : ℕ). k + length (drop size l)) (length-replicate n z) ∙ (sym (length-append (take size l) (drop size l)) ∙ ap length (take-append-drop size l)))
 
 cleared-rest : {A : Type 0} (size : ℕ) (z : A) (l : List A) → drop size (cleared z size l) ≡ drop size l
 cleared-rest size z l = go (lt-or-le (length l) size)
   where
     go : (length l < size) ⊎ (size ≤ length l) → drop size (cleared z size l) ≡ drop size l
     go (inl h) = drop-of-length-le (cleared z size l) {i = size} (omega (arith, cleared-long size z l)) ∙ sym (drop-of-length-le l {i = size} (omega arith))
-    go (inr h) = unfold cleared in drop-at (replicate (size - (size - length l)) z) (drop size l) size (omega (arith, length-replicate (size - (size - length l)) z))
+    go (inr h) = unfold cleared in drop-at (replicate (length (take size l)) z) (drop size l) size (length-replicate (length (take size l)) z ∙ length-take-le size l h)
 
 kept-of : {A : Type 0} (size : ℕ) (z : A) (old new : List A) → new ≡ cleared z size old → Kept size old new
 kept-of size z old new e = record { long = ap length e ∙ cleared-long size z old; rest = ap (drop size) e ∙ cleared-rest size z old }

@@ -2,6 +2,7 @@
 //
 // As for version 1: the resolver's own run gives every refusal, the steps are run once more on the marked rows, and what comes of
 // that is held against the conditions on another assembler's output before it is answered. The marked rows are lent too.
+use areas::clear_bytes;
 use areas::zero_links;
 use check_with::check_with;
 use claim_check::run::clear;
@@ -17,7 +18,6 @@ use resolver::run::header_size;
 use resolver_with::run::asked_for;
 use resolver_with::run::fill_in;
 use resolver_with::run::resolve_with;
-use resolver_with::sizes::least;
 use resolver_with::sizes::links_for;
 use resolver_with::sizes::slots_for;
 use share::Own;
@@ -25,14 +25,14 @@ use share::front_of;
 use share::is_yes;
 use share::number_of;
 use share::rows_of;
-use stores::zero_from;
 ghost use mathlib.Core.Path.{_≡_};
 ghost use mathlib.Core.Bool.{true, _||_, not};
 ghost use Prim.Native.Nat.{_≤_};
 ghost use lib.Dec.{ltb};
 ghost use lib.ListN.{length};
 ghost use Rattle.kit.specs.Out.{_&_};
-ghost use Rattle.checking.specs.CheckAnswer.{slotsOf, linksOf, cleared as checked, tableAfter, indexAfter};
+ghost use Rattle.clearing.specs.Cleared.{cleared};
+ghost use Rattle.checking.specs.CheckAnswer.{slotsOf, linksOf, tableAfter, indexAfter};
 ghost use Rattle.sharing.specs.Sharing.{shared, sharedOutput};
 ghost use Rattle.limits.specs.Held.{setting};
 ghost use Rattle.form.specs.MarkEnds.{endsTo};
@@ -41,7 +41,7 @@ ghost use Rattle.mark.specs.MarkedRows.{markRowsT};
 ghost use Rattle.resolver.specs.Meaning.{meaning, ruled};
 ghost use Rattle.rules.specs.Versions.{all};
 ghost use Rattle.resolver_with.specs.Asked.{asked};
-ghost use Rattle.resolver_with.specs.Areas.{slotsFor, linksFor, lentOf, roomy, cleared, Cleared};
+ghost use Rattle.resolver_with.specs.Areas.{slotsFor, linksFor, lentOf, roomy, Cleared};
 ghost use Rattle.resolver_with.specs.Exact.{Suits};
 ghost use Rattle.claim_check.specs.Run.{Kept};
 ghost use Rattle.check_with.specs.With.{checkWith};
@@ -200,13 +200,12 @@ fn is_small(lent: bool, bytes: usize, table: usize, index: usize, i: usize) -> b
 fn clear_marked(marked: &mut [u8], i: usize)
     ensures { λ _. ⌜ now (marked .exit) ≡ cleared 0 (bytesFor (setting i .version)) (now (marked .entry)) ⌝ }
 {
-    let front = least(bytes_for(i), marked.len());
-    zero_from(&mut marked[..front], 0);
+    clear_bytes(marked, bytes_for(i));
 }
 
 // The same of the areas of the check.
 fn clear_check(marked: &mut [u8], table: &mut [Slot], index: &mut [u16], i: usize)
-    ensures { λ _. ⌜ (now (marked .exit) ≡ cleared 0 (bytesFor (setting i .version)) (now (marked .entry))) × (now (table .exit) ≡ checked (slotsOf (setting i .version)) emptySlot (now (table .entry))) × (now (index .exit) ≡ checked (linksOf (setting i .version)) 0 (now (index .entry))) ⌝ }
+    ensures { λ _. ⌜ (now (marked .exit) ≡ cleared 0 (bytesFor (setting i .version)) (now (marked .entry))) × (now (table .exit) ≡ cleared emptySlot (slotsOf (setting i .version)) (now (table .entry))) × (now (index .exit) ≡ cleared 0 (linksOf (setting i .version)) (now (index .entry))) ⌝ }
 {
     clear_marked(marked, i);
     clear(table, index, i);

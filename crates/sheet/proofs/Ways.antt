@@ -1,14 +1,13 @@
 -- The ways through what is below the run: bytes compared, rows counted, the working area zeroed.
 use mathlib.Core.Path.{_≡_, refl, _∙_}
 use mathlib.Core.Bool.{Bool, true, false}
-use mathlib.Core.List.{List, _++_, append-nil}
+use mathlib.Core.List.{List}
 use native.Mathlib.Omega.{arith}
 use native.Mathlib.Nat.{sub-zero}
 use Prim.Native.Nat.{ℕ, _+_, _-_, _≤_, _<_}
 use borrow.Author.Needs.{needs}
 use lib.Dec.{eqb}
 use lib.ListN.{length, getD, take, drop, replicate, drop-of-length-le}
-use lib.Seq.{take-all}
 use Rattle.kit.proofs.Laws.{tests, left-suc, drop-next, yes!, no! }
 use Rattle.rules.specs.Answer.{sameNumbers}
 use Rattle.stores.specs.Zeros.{zeroFrom}
@@ -17,7 +16,7 @@ use Rattle.refusal.specs.declared.Told.{Told}
 use Rattle.resolver.specs.Meaning.{meaning}
 use Rattle.resolver.specs.declared.run.Answer.{Answer}
 use Rattle.resolver.specs.declared.run.Answer.the-variants.{Accepted, Refused}
-use Rattle.sheet.specs.Run.{rowsWritten, cleared}
+use Rattle.sheet.specs.Run.{rowsWritten}
 
 -- ---- bytes compared, from the i-th on
 
@@ -65,13 +64,4 @@ pub all-zero : (l m o : List ℕ) → length l ≡ length o → m ≡ zeroFrom l
 unfolding zeroFrom
 all-zero l m o e h = h ∙ rw (sub-zero, e)
 
-module _ (old : List ℕ) (size : ℕ) where
-  pub clear-short : (new : List ℕ) → length old < size → new ≡ zeroFrom old 0 → new ≡ cleared size old
-  unfolding cleared zeroFrom
-  clear-short new h e = let f : length old ≤ size = omega arith in rw (e, sub-zero, take-all size old f, drop-of-length-le old f, append-nil)
-
-  pub clear-long : (new : List ℕ) → new ≡ zeroFrom (take size old) 0 → new ++ drop size old ≡ cleared size old
-  unfolding cleared zeroFrom
-  clear-long new e = rw (e, sub-zero)
-
-pub ruleset ways = (begins-start, begins-end, begins-short, begins-not, begins-on, rows-accepted, rows-placed, rows-refused, all-zero, clear-short, clear-long, needs)
+pub ruleset ways = (begins-start, begins-end, begins-short, begins-not, begins-on, rows-accepted, rows-placed, rows-refused, all-zero, needs)

@@ -36,14 +36,15 @@ use Rattle.slots.specs.Slots.{answerTo, noted, answered}
 use Rattle.slots.proofs.Ways.{answers-size}
 use Rattle.sheet_laws.specs.Agrees.{slots-agree}
 use Rattle.sheet.specs.Meaning.{meaning, ruled}
-use Rattle.sheet.specs.Run.{refusedT, isOutput, cleared}
+use Rattle.clearing.specs.Cleared.{cleared}
+use Rattle.sheet.specs.Run.{refusedT, isOutput}
 use Rattle.sheet.specs.declared.Answer.{Answer}
 use Rattle.sheet.specs.declared.Answer.the-variants.{Answered}
 use Rattle.sheet.proofs.Runs.{agrees}
 
 -- the size of the working area, for the settings in force
 module _ (settings : List Setting) (form : List ℕ) (size : ℕ) (sized : workSize settings form ≡ size) (old new : List ℕ) where
-  pub work-is : new ≡ cleared size old → new ≡ workAfter settings form old
+  pub work-is : new ≡ cleared 0 size old → new ≡ workAfter settings form old
   unfolding workAfter cleared
   work-is e = rw sized e
 

@@ -1,10 +1,9 @@
 -- The run as the code takes it.
 use mathlib.Core.Bool.{Bool, false}
 use mathlib.Core.Option.{Option, none, some}
-use mathlib.Core.List.{List, _++_}
+use mathlib.Core.List.{List}
 use Prim.Native.Nat.{ℕ}
 use lib.Dec.{eqb}
-use lib.ListN.{length, take, drop, replicate}
 use Rattle.kit.specs.Pick.{pick}
 use Rattle.rules.specs.Answer.{sameNumbers}
 use Rattle.binding.specs.Sheet.{Run}
@@ -24,7 +23,3 @@ rowsWritten n = pick (eqb (n .number) 0) (n .place) 0
 unfoldable pub isOutput : Option Run → List ℕ → Bool
 isOutput none resolved = false
 isOutput (some run) resolved = sameNumbers resolved (run .bytes)
-
--- the working area is zero, and what lies behind it is as it was
-unfoldable pub cleared : (size : ℕ) → List ℕ → List ℕ
-cleared size old = replicate (length (take size old)) 0 ++ drop size old

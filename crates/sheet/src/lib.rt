@@ -2,6 +2,8 @@
 //
 // Only the very bytes that document 01 writes for the input are its resolved form. So the input is resolved once more, in a working area
 // that is lent, and compared; the slots are then answered on the rows of the resolved form.
+use areas::clear_bytes;
+use fixed::bytes_of;
 use refusal::ROOM;
 use refusal::Refusal;
 use resolver::run::Answer as Resolved;
@@ -19,7 +21,7 @@ ghost use Rattle.rules.specs.Answer.{sameNumbers, output};
 ghost use Rattle.binding.specs.Sheet.{runOf, sheetAnswer, answersAfter, workAfter};
 ghost use Rattle.resolver.specs.Meaning as resolver_says;
 ghost use Rattle.sheet.specs.Meaning.{meaning, ruled};
-ghost use Rattle.sheet.specs.Run.{refusedT, rowsWritten, isOutput, cleared};
+ghost use Rattle.sheet.specs.Run.{refusedT, rowsWritten, isOutput};
 
 // The bytes of the working area: as many as the longest output of version 1 takes.
 pub const AREA: usize = 65480;
@@ -82,7 +84,7 @@ fn resolves_to(form: &[u8], resolved: &[u8], area: &mut [u8]) -> bool
     if rows == 0 {
         return false;
     }
-    if resolved.len() != 8 + 16 * (rows as usize) {
+    if resolved.len() != bytes_of(rows) {
         return false;
     }
     begins(area, resolved)
@@ -96,17 +98,6 @@ fn is_output(form: &[u8], resolved: &[u8], area: &mut [u8]) -> bool
     let same = resolves_to(form, resolved, area);
     zero_from(area, 0);
     same
-}
-
-// Zeroes a working area up to its size, or what there is of it.
-pub fn clear(work: &mut [u8], size: usize)
-    ensures { λ _. ⌜ now (work .exit) ≡ cleared size (now (work .entry)) ⌝ }
-{
-    if work.len() < size {
-        zero_from(work, 0);
-        return;
-    }
-    zero_from(&mut work[..size], 0);
 }
 
 // The bytes that the answers to a sheet take.
@@ -130,11 +121,11 @@ pub fn check(
     ensures { λ r. ⌜ now (work .exit) ≡ workAfter base (now (form .entry)) (now (work .entry)) ⌝ }
 {
     if !is_sound(sheet) {
-        clear(work, AREA);
+        clear_bytes(work, AREA);
         return refused(NOT_ITS_SHEET);
     }
     if work.len() < AREA {
-        clear(work, AREA);
+        clear_bytes(work, AREA);
         return refused(ROOM);
     }
     if !is_output(form, resolved, &mut work[..AREA]) {

@@ -24,7 +24,8 @@ use Rattle.resolver_with.specs.Areas.{Lent, roomy, Cleared}
 use Rattle.resolver_with.specs.Asked.{asked}
 use Rattle.lent_areas.proofs.InForce.{header-long}
 use Rattle.sheet.specs.Meaning.{meaning, ruled}
-use Rattle.sheet.specs.Run.{refusedT, isOutput, cleared}
+use Rattle.clearing.specs.Cleared.{cleared}
+use Rattle.sheet.specs.Run.{refusedT, isOutput}
 use Rattle.sheet.specs.declared.Answer.{Answer}
 use Rattle.sheet.specs.declared.Answer.the-variants.{Answered}
 use Rattle.sheet.proofs.Whole.{work-is, area-cleared, unsound-says, unsound-leaves, small-says, small-leaves, other-says, other-leaves, no-room-says, no-room-leaves, answered-says, answered-leaves}
@@ -134,7 +135,7 @@ module _ (form resolved sheet answers : List ℕ) (work : ℕ) (lent : Lent) (i 
 
   -- the working area
   module _ (old new : List ℕ) where
-    pub work-cleared : new ≡ cleared size old → new ≡ workAfter all form old
+    pub work-cleared : new ≡ cleared 0 size old → new ≡ workAfter all form old
     work-cleared e = work-is all form size area old new e
 
     pub work-zeroed : new ≡ replicate (length (take size old)) 0 → new ++ drop size old ≡ workAfter all form old

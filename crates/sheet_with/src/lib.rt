@@ -1,19 +1,19 @@
 // A binding sheet held against an input and its resolved form of any version that is in force: in working areas that are lent.
-use form::header::HEADER;
+use areas::clear_bytes;
+use fixed::HEADER;
 use lent_areas::are_roomy;
 use lent_areas::clear_areas;
 use limits::of_input;
 use names::Slot;
+use names::least;
 use refusal::ROOM;
 use resolver::run::header_size;
 use resolver_with::run::asked_for;
 use resolver_with::run::resolve_with;
-use resolver_with::sizes::least;
 use sheet::Answer;
 use sheet::NOT_ITS_SHEET;
 use sheet::answers_size;
 use sheet::begins;
-use sheet::clear;
 use sheet::refused;
 use sheet::rows_written;
 use slots::answer_slots;
@@ -139,7 +139,7 @@ pub fn check_with(
     );
     let early = refused_early(sheet, lent & (size <= work.len()));
     if early != 0 {
-        clear(work, size);
+        clear_bytes(work, size);
         clear_areas(i, entered, names, known, chains, ends);
         return refused(early);
     }

@@ -19,8 +19,8 @@ use Rattle.text.specs.declared.lines.Why.{Why}
 use Rattle.text.specs.declared.lines.Why.the-variants.{Many, Empty}
 use Rattle.text.specs.declared.lines.Line as line
 use Rattle.text.specs.declared.lines.Line.the-variants.{Nothing, Row}
-use Rattle.text.specs.declared.parse.Parsed.{Parsed}
-use Rattle.text.specs.declared.parse.Parsed.the-variants.{Rows, Wrong}
+use Rattle.text.specs.declared.Parsed.{Parsed}
+use Rattle.text.specs.declared.Parsed.the-variants.{Rows, Wrong}
 use Rattle.text.specs.Text.{startBytes, rowBytes, header, mostRows, ended, lineThen, linesThen, parsed}
 
 -- ---- how many rows there can be

@@ -12,8 +12,8 @@ use Rattle.text.specs.Lines.{linesOf, lineOf}
 use Rattle.text.specs.declared.lines.Why.the-variants.{Many, Empty}
 use Rattle.text.specs.declared.lines.Line as line
 use Rattle.text.specs.declared.lines.Line.the-variants.{Nothing, Row}
-use Rattle.text.specs.declared.parse.Parsed.{Parsed}
-use Rattle.text.specs.declared.parse.Parsed.the-variants.{Rows, Wrong}
+use Rattle.text.specs.declared.Parsed.{Parsed}
+use Rattle.text.specs.declared.Parsed.the-variants.{Rows, Wrong}
 
 -- the first four bytes of a row, with the parts before x
 unfoldable pub startBytes : (code b e : ℕ) → List ℕ

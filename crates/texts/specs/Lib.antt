@@ -1,4 +1,3 @@
-pub mod Loaded
 pub mod Made
 pub mod Printed
 pub mod Whole

@@ -2,8 +2,8 @@
 use mathlib.Core.List.{List}
 use Prim.Native.Nat.{ℕ}
 use Rattle.kit.specs.Out.{Out, _&_}
-use Rattle.text.specs.declared.parse.Parsed.{Parsed}
-use Rattle.text.specs.declared.parse.Parsed.the-variants.{Rows, Wrong}
+use Rattle.text.specs.declared.Parsed.{Parsed}
+use Rattle.text.specs.declared.Parsed.the-variants.{Rows, Wrong}
 use Rattle.texts.specs.declared.make.Made.{Made}
 use Rattle.texts.specs.declared.make.Made.the-variants.{Form, Nothing}
 

@@ -1,8 +1,8 @@
 // A form made of a text, or what is wrong with the text in words.
 use crate::wrong::say_why;
+use text::Parsed;
 use text::lines::Why;
-use text::parse::Parsed;
-use text::parse::parse;
+use text::parse;
 use words::say;
 ghost use mathlib.Core.Path.{_≡_};
 ghost use Rattle.kit.specs.Out.{_&_};

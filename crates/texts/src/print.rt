@@ -1,8 +1,9 @@
 // The rows of a form as a text: six numbers a line, and behind them what they say.
-use crate::whole::rows_in;
+use fixed::HEADER;
 use parts::Parts;
 use parts::parts_at;
 use row_parts::FIRST_FRESH;
+use row_parts::rows_in;
 use rows::row::DECL;
 use words::kinds::say_scope;
 use words::kinds::say_space;
@@ -119,7 +120,7 @@ pub fn print(fd: i32, form: &[u8]) {
         fd,
         b"# [code b e x y z], and what the row says: wnt form makes a form of this text\n",
     );
-    if 8 <= form.len() {
-        say_rows(fd, &form[8..], rows_in(form));
+    if HEADER <= form.len() {
+        say_rows(fd, &form[HEADER..], rows_in(form) as usize);
     }
 }

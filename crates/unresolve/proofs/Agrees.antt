@@ -6,7 +6,7 @@ use mathlib.Core.List.{List, [], _∷_, _++_, append-nil}
 use native.Mathlib.Omega.{arith}
 use Prim.Native.Nat.{ℕ, zero, suc, _+_, _-_, _*_, _/_, _≤_, _<_}
 use lib.Dec.{ltb}
-use lib.ListN.{length, getD, set, take, drop, replicate, length-append, length-take, length-drop, length-set, length-replicate}
+use lib.ListN.{length, getD, set, take, drop, replicate, length-append, length-drop, length-set, length-replicate}
 use lib.Seq.{sets, sets-eq, take-all, drop-at, length-take-le}
 use borrow.Author.Needs.{needs}
 use borrow.Author.Tests.{lt-ltb, le-ltb, ltb-false}
@@ -27,7 +27,8 @@ use Rattle.unresolving.specs.Back.{unresolve}
 use Rattle.unresolving.specs.BackAnswer
 use Rattle.unresolving.specs.BackAnswer.{outcome, isOutcome, back, inRoom, backAnswer, over, backOutput}
 use Rattle.unresolving.specs.Laws.Answered.{are-same, outcome-is, back-right, back-complete, back-is}
-use Rattle.checking.specs.CheckAnswer.{cleared}
+use Rattle.clearing.specs.Cleared.{cleared}
+use Rattle.clearing.specs.Laws.{cleared-kept}
 use Rattle.refusal.specs.declared.Refusal.{Refusal}
 use Rattle.limits.specs.Held.{setting}
 use Rattle.back_notes.specs.Note.{Note, noNote}
@@ -306,16 +307,13 @@ module _ (form out : List ℕ) (restored again : ℕ) (r s : Answer) (e : r ≡ 
   pub said-again : meaning s ≡ returned (backWith form (length out) restored again)
   said-again = rw e at said
 
-pub cleared-twice : (size : ℕ) (old mid new : List ℕ) → Kept size old mid → new ≡ cleared size 0 mid → new ≡ cleared size 0 old
-unfolding cleared
-cleared-twice size old mid new K e =
-    let n : length (take size mid) ≡ length (take size old) = length-take size mid ∙ rw (K .long) (sym (length-take size old)) in
-    e ∙ rw (n, K .rest)
+pub cleared-twice : (size : ℕ) (old mid new : List ℕ) → Kept size old mid → new ≡ cleared 0 size mid → new ≡ cleared 0 size old
+cleared-twice size old mid new K e = e ∙ cleared-kept 0 size old mid (K .long) (K .rest)
 
-pub restored-cleared : (old mid new : List ℕ) → Kept 16376 old mid → new ≡ cleared 16376 0 mid → new ≡ restoredAfter old
+pub restored-cleared : (old mid new : List ℕ) → Kept 16376 old mid → new ≡ cleared 0 16376 mid → new ≡ restoredAfter old
 unfolding restoredAfter
 restored-cleared old mid new K e = cleared-twice 16376 old mid new K e
 
-pub again-cleared : (old mid new : List ℕ) → Kept 65480 old mid → new ≡ cleared 65480 0 mid → new ≡ againAfter old
+pub again-cleared : (old mid new : List ℕ) → Kept 65480 old mid → new ≡ cleared 0 65480 mid → new ≡ againAfter old
 unfolding againAfter
 again-cleared old mid new K e = cleared-twice 65480 old mid new K e

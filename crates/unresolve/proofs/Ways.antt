@@ -15,14 +15,12 @@ use Rattle.kit.specs.Out.{_&_}
 use Rattle.kit.proofs.Laws.{left-suc, drop-next}
 use Rattle.rules.specs.Answer.{sameNumbers, headerBytes, output}
 use Rattle.rules.specs.Versions.{base}
-use Rattle.stores.specs.Zeros.{zeroFrom}
 use Rattle.limits.specs.declared.Limits.{Limits}
 use Rattle.limits.specs.Held.{settingIn, limitsOf, setting}
 use Rattle.limits.proofs.Laws.{few-rows, stand-for}
 use Rattle.names.specs.Table.{Slot, emptySlot}
 use Rattle.index.specs.Indexed.{Holds}
 use Rattle.index.proofs.Storey.{holds-none}
-use Rattle.checking.specs.CheckAnswer.{cleared}
 use Rattle.claim_rows.specs.Left.{rowsAt}
 use Rattle.back_notes.specs.Note.{Note}
 use Rattle.back_notes.specs.Number.{notesT}
@@ -147,18 +145,3 @@ module _ (i : ℕ) (input out : List ℕ) where
   give-all header o q h e = rw (e, q, le-ltb (length out) (length input) h)
 
 pub ruleset giving = (give-short, give-all, unmark-none, needs)
-
-zeros : (l : List ℕ) → zeroFrom l 0 ≡ replicate (length l) 0
-unfolding zeroFrom
-zeros l = rw sub-zero
-
-module _ (l o : List ℕ) (size : ℕ) where
-  pub cleared-all : length l < size → o ≡ zeroFrom l 0 → o ≡ cleared size 0 l
-  unfolding cleared
-  cleared-all h e = e ∙ zeros l ∙ rw (take-all size l (omega arith), drop-of-length-le l {i = size} (omega arith), append-nil)
-
-  pub cleared-front : o ≡ zeroFrom (take size l) 0 → o ++ drop size l ≡ cleared size 0 l
-  unfolding cleared
-  cleared-front e = rw (e, zeros (take size l))
-
-pub ruleset clearing = (cleared-all, cleared-front, needs)

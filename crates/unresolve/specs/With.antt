@@ -6,7 +6,7 @@ use lib.Dec.{ltb}
 use lib.ListN.{length}
 use Rattle.rules.specs.Tools.{if_then_else_}
 use Rattle.rules.specs.Versions.{Version, version1, base}
-use Rattle.checking.specs.CheckAnswer.{cleared}
+use Rattle.clearing.specs.Cleared.{cleared}
 use Rattle.unresolving.specs.BackAnswer.{Returned, refused, backAnswer, over}
 
 -- ---- their fixed sizes: an input of the most rows, and the share of the output that it has
@@ -35,8 +35,8 @@ outWith claim old restored again = over (backWith claim (length old) restored ag
 
 -- what the area of the restored form holds then
 unfoldable pub restoredAfter : List ℕ → List ℕ
-restoredAfter old = cleared (inputSize version1) 0 old
+restoredAfter old = cleared 0 (inputSize version1) old
 
 -- what the area in which it was resolved again holds then
 unfoldable pub againAfter : List ℕ → List ℕ
-againAfter old = cleared (outputSize version1) 0 old
+againAfter old = cleared 0 (outputSize version1) old

@@ -1,13 +1,13 @@
 // The whole way back: what is restored is given only if it resolves to the very bytes of the resolved form.
 use crate::restore::restore_first;
+use areas::clear_bytes;
 use copy::copy;
-use form::header::HEADER;
+use fixed::HEADER;
 use refusal::ROOM;
 use refusal::Refusal;
 use refusal::Told;
 use resolver::run::Answer;
 use resolver::run::resolve;
-use stores::zero_from;
 use whole_form::header::header_at;
 use whole_form::read::Form;
 use whole_form::read::read_claim;
@@ -18,7 +18,6 @@ ghost use Rattle.kit.specs.Out.{_&_};
 ghost use Rattle.rules.specs.Answer.{sameNumbers, output};
 ghost use Rattle.rules.specs.Versions.{base};
 ghost use Rattle.rules.specs.Laws.RowLaws.{Bytes};
-ghost use Rattle.checking.specs.CheckAnswer.{cleared};
 ghost use Rattle.unresolving.specs.BackAnswer.{backAnswer, backOutput};
 ghost use Rattle.limits.specs.Held.{setting};
 ghost use Rattle.resolver.specs.Meaning.{meaning};
@@ -144,30 +143,19 @@ fn decide(form: &[u8], out: &mut [u8], restored: &mut [u8], again: &mut [u8]) ->
     run_in(form, out, &mut restored[..RESTORED], &mut again[..AGAIN])
 }
 
-// The front of an area becomes zero, all of it where it is shorter.
-pub fn clear(area: &mut [u8], size: usize)
-    ensures { λ _. ⌜ now (area .exit) ≡ cleared size 0 (now (area .entry)) ⌝ }
-{
-    if area.len() < size {
-        zero_from(area, 0);
-        return;
-    }
-    zero_from(&mut area[..size], 0);
-}
-
 // Writes an input that resolves to the form to the front of `out`. `restored` and `again` are working areas.
 pub fn unresolve(form: &[u8], out: &mut [u8], restored: &mut [u8], again: &mut [u8]) -> Answer
     ensures { λ r. ⌜ (meaning r ≡ returned (backWith (now (form .entry)) (length (now (out .entry))) (length (now (restored .entry))) (length (now (again .entry))))) × (now (out .exit) ≡ outWith (now (form .entry)) (now (out .entry)) (length (now (restored .entry))) (length (now (again .entry)))) × (now (restored .exit) ≡ restoredAfter (now (restored .entry))) × (now (again .exit) ≡ againAfter (now (again .entry))) ⌝ }
 {
     match decide(form, out, restored, again) {
         Answer::Accepted(rows) => {
-            clear(restored, RESTORED);
-            clear(again, AGAIN);
+            clear_bytes(restored, RESTORED);
+            clear_bytes(again, AGAIN);
             Answer::Accepted(rows)
         }
         Answer::Refused(why, told) => {
-            clear(restored, RESTORED);
-            clear(again, AGAIN);
+            clear_bytes(restored, RESTORED);
+            clear_bytes(again, AGAIN);
             Answer::Refused(why, told)
         }
     }

@@ -1,11 +1,11 @@
 -- The ways through the code in areas of their sizes, and in the fronts of larger ones.
 use mathlib.Core.Path.{_≡_, refl, sym, ap, _∙_, subst}
 use mathlib.Core.Bool.{Bool, true, false, _&&_, _||_, not}
-use mathlib.Core.List.{List, [], _∷_, _++_, append-nil}
+use mathlib.Core.List.{List, [], _∷_}
 use native.Mathlib.Omega.{arith}
-use Prim.Native.Nat.{ℕ, zero, suc, _+_, _-_, _*_, _/_, _≤_, _<_}
+use Prim.Native.Nat.{ℕ, zero, suc, _+_, _-_, _*_, _/_, _≤_}
 use lib.Dec.{eqb, ltb}
-use lib.ListN.{length, getD, set, take, drop, replicate, length-drop, drop-of-length-le}
+use lib.ListN.{length, getD, set, take, drop, replicate, length-drop}
 use lib.Seq.{take-all, length-take-le}
 use borrow.Author.Needs.{needs}
 use borrow.Author.Tests.{eq-eqb}
@@ -15,7 +15,8 @@ use Rattle.rules.specs.Versions.{Setting, asClaimed}
 use Rattle.rules.specs.Answer.{sameNumbers, output}
 use Rattle.rules.specs.Laws.RowLaws.{Bytes}
 use Rattle.read_form.specs.ReadForm.{readForm}
-use Rattle.checking.specs.CheckAnswer.{cleared}
+use Rattle.clearing.specs.Cleared.{cleared}
+use Rattle.clearing.specs.Laws.{cleared-all, cleared-front}
 use Rattle.unresolving.specs.BackAnswer.{backAnswer, backOutput}
 use Rattle.refusal.specs.declared.Refusal.{Refusal}
 use Rattle.limits.specs.Held.{setting}
@@ -47,16 +48,7 @@ use Rattle.unresolve_with.specs.Exact.{Sized, Roomy}
 
 -- ---- clear_notes
 
-module _ (l o : List Note) (size : ℕ) where
-  pub notes-all : length l < size → o ≡ replicate (length l) noNote → o ≡ cleared size noNote l
-  unfolding cleared
-  notes-all h e = e ∙ rw (take-all size l (omega arith), drop-of-length-le l {i = size} (omega arith), append-nil)
-
-  pub notes-front : o ≡ replicate (length (take size l)) noNote → o ++ drop size l ≡ cleared size noNote l
-  unfolding cleared
-  notes-front e = rw e
-
-pub ruleset clearing = (notes-all, notes-front, needs)
+pub ruleset clearing = (cleared-all, cleared-front, needs)
 
 -- ---- restore_lent
 
@@ -171,12 +163,12 @@ module _ (i : ℕ) (r a : List ℕ) (n : List Note) (roomy : Roomy i r a n) (inp
 -- ---- clear_back, give_lent
 
 pub back-cleared : (i : ℕ) (r r′ a a′ : List ℕ) (n n′ : List Note) (input output notes : ℕ) → input ≡ inputSize (setting i .version) → output ≡ outputSize (setting i .version) → notes ≡ notesFor (setting i .version)
-    → r′ ≡ cleared input 0 r → a′ ≡ cleared output 0 a → n′ ≡ cleared notes noNote n → ClearedBack (setting i .version) r r′ a a′ n n′
+    → r′ ≡ cleared 0 input r → a′ ≡ cleared 0 output a → n′ ≡ cleared noNote notes n → ClearedBack (setting i .version) r r′ a a′ n n′
 back-cleared i r r′ a a′ n n′ input output notes p q s e f g =
     record {
-      restored = e ∙ ap (λ (k : ℕ). cleared k 0 r) p;
-      again = f ∙ ap (λ (k : ℕ). cleared k 0 a) q;
-      noted = g ∙ ap (λ (k : ℕ). cleared k noNote n) s;
+      restored = e ∙ ap (λ (k : ℕ). cleared 0 k r) p;
+      again = f ∙ ap (λ (k : ℕ). cleared 0 k a) q;
+      noted = g ∙ ap (λ (k : ℕ). cleared noNote k n) s;
     }
 
 pub back-left : (i : ℕ) (r r₁ r′ a a₁ a′ : List ℕ) (n n₁ n′ : List Note) → Kept (inputSize (setting i .version)) r r₁ × Kept (outputSize (setting i .version)) a a₁ × Kept (notesFor (setting i .version)) n n₁

@@ -8,7 +8,7 @@ use lib.Dec.{ltb}
 use lib.ListN.{length}
 use Rattle.rules.specs.Tools.{if_then_else_}
 use Rattle.rules.specs.Versions.{Version, all}
-use Rattle.checking.specs.CheckAnswer.{cleared}
+use Rattle.clearing.specs.Cleared.{cleared}
 use Rattle.unresolving.specs.BackAnswer.{Returned, refused, backAnswer, over}
 use Rattle.back_notes.specs.Note.{Note, noNote}
 use Rattle.resolver_with.specs.Areas.{Lent, roomy}
@@ -49,6 +49,6 @@ outLent claim old l = over (backLent claim (length old) l) old
 
 -- the areas of the way back are handed back empty
 pub record ClearedBack (v : Version) (r r′ a a′ : List ℕ) (n n′ : List Note) : Type 0 where
-  pub restored : r′ ≡ cleared (inputSize v) 0 r
-  pub again : a′ ≡ cleared (outputSize v) 0 a
-  pub noted : n′ ≡ cleared (notesFor v) noNote n
+  pub restored : r′ ≡ cleared 0 (inputSize v) r
+  pub again : a′ ≡ cleared 0 (outputSize v) a
+  pub noted : n′ ≡ cleared noNote (notesFor v) n

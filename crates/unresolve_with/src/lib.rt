@@ -1,4 +1,5 @@
 // Gives an input form back for a resolved form of any version that is in force: in working areas that are lent.
+use areas::clear_bytes;
 use areas::zero_links;
 use back_notes::note::Note;
 use lent_areas::are_roomy;
@@ -16,7 +17,6 @@ use unresolve::restore::restore;
 use unresolve::run::Back;
 use unresolve::run::NO_INPUT;
 use unresolve::run::begins_with;
-use unresolve::run::clear;
 use unresolve::run::give;
 use unresolve::run::refused;
 use unresolve::run::unmark;
@@ -30,7 +30,7 @@ ghost use lib.ListN.{length, take, drop, set, replicate};
 ghost use Rattle.kit.specs.Out.{_&_};
 ghost use Rattle.rules.specs.Answer.{sameNumbers, output};
 ghost use Rattle.rules.specs.Laws.RowLaws.{Bytes};
-ghost use Rattle.checking.specs.CheckAnswer.{cleared};
+ghost use Rattle.clearing.specs.Cleared.{cleared};
 ghost use Rattle.unresolving.specs.BackAnswer.{backAnswer, backOutput};
 ghost use Rattle.limits.specs.Held.{setting};
 ghost use Rattle.back_notes.specs.Note.{noNote};
@@ -62,7 +62,7 @@ fn zero_notes(noted: &mut [Note])
 
 // The first notes become empty, all of them where there are fewer.
 fn clear_notes(noted: &mut [Note], size: usize)
-    ensures { λ _. ⌜ now (noted .exit) ≡ cleared size noNote (now (noted .entry)) ⌝ }
+    ensures { λ _. ⌜ now (noted .exit) ≡ cleared noNote size (now (noted .entry)) ⌝ }
 {
     if noted.len() < size {
         zero_notes(noted);
@@ -285,8 +285,8 @@ fn give_in_fronts(
 fn clear_back(i: usize, restored: &mut [u8], again: &mut [u8], noted: &mut [Note])
     ensures { λ _. ⌜ ClearedBack (setting i .version) (now (restored .entry)) (now (restored .exit)) (now (again .entry)) (now (again .exit)) (now (noted .entry)) (now (noted .exit)) ⌝ }
 {
-    clear(restored, input_size(i));
-    clear(again, output_size(i));
+    clear_bytes(restored, input_size(i));
+    clear_bytes(again, output_size(i));
     clear_notes(noted, notes_size(i));
 }
 

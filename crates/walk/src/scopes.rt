@@ -6,8 +6,8 @@
 // written, with these numbers (step C); a scope that a field opens takes its own three steps when the field is reached, since
 // its names may mean what the scopes around it declare, by their final numbers.
 use codes::here_only;
+use fixed::FIRST_FRESH;
 use form::part::field_rows;
-use index::FRESH;
 use index::leave;
 use names::NAME;
 use names::Scope;
@@ -79,7 +79,7 @@ fn write_fresh(
     requires { ⌜ Covers (now names) (now chains) (pastOf here) ⌝ }
     ensures { λ r. ⌜ (r & now (out .exit)) ≡ writeFreshT (now (field .entry)) (now (names .entry)) here (now (out .entry)) s ⌝ }
 {
-    if slot_at(names, s.next)[NAME] < FRESH {
+    if slot_at(names, s.next)[NAME] < FIRST_FRESH {
         return Walked::Done(s);
     }
     write_inserted(field, names, chains, here, out, s)
@@ -171,7 +171,7 @@ pub fn starting(used: usize, depth: usize, early: bool) -> WriteState
         at: 0,
         to: 0,
         used,
-        fresh: FRESH,
+        fresh: FIRST_FRESH,
         depth,
         next: 0,
         alias: 0,

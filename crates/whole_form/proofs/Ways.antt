@@ -31,8 +31,8 @@ use Rattle.form.specs.Header.{headerIn, headerFor, headerTo}
 use Rattle.form.specs.declared.header.Header.{Header}
 use Rattle.form.specs.declared.header.Header.the-variants.{Rows, Wrong, Count}
 use Rattle.reader.specs.ReadTo.{answerOf, readTo}
-use Rattle.reader.specs.declared.read.RowsRead.{RowsRead}
-use Rattle.reader.specs.declared.read.RowsRead.the-variants as rowsRead
+use Rattle.reader.specs.declared.RowsRead.{RowsRead}
+use Rattle.reader.specs.declared.RowsRead.the-variants as rowsRead
 use Rattle.whole_form.specs.Asked.{orNext, heldAs, askedFrom, askedOf, claimedOf}
 use Rattle.whole_form.specs.Whole.{refusedT, formOf, readT, bodyT, headT, heldT}
 use Rattle.whole_form.specs.declared.asked.Asked.{Asked}

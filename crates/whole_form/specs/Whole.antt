@@ -9,8 +9,8 @@ use Rattle.form.specs.Header.{headerTo}
 use Rattle.form.specs.declared.header.Header.{Header}
 use Rattle.form.specs.declared.header.Header.the-variants.{Rows, Wrong, Count}
 use Rattle.reader.specs.ReadTo.{readTo}
-use Rattle.reader.specs.declared.read.RowsRead.{RowsRead}
-use Rattle.reader.specs.declared.read.RowsRead.the-variants as rowsRead
+use Rattle.reader.specs.declared.RowsRead.{RowsRead}
+use Rattle.reader.specs.declared.RowsRead.the-variants as rowsRead
 use Rattle.whole_form.specs.declared.read.Form.{Form}
 use Rattle.whole_form.specs.declared.read.Form.the-variants.{Whole, Refused}
 

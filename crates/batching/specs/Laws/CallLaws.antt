@@ -18,7 +18,8 @@ use Rattle.rules.specs.Laws.ToolLaws.{and-left, leb-le}
 use Rattle.rules.specs.Laws.InputLaws.{AllUsual}
 use Rattle.batching.specs.Batch.{Prelude, preludeIn, preludeOf, shareOf, memberAnswer, memberOutput}
 use Rattle.batching.specs.BatchBytes.{cut, packed, badMembers, fewBytes, Buffers}
-use Rattle.batching.specs.BatchCalls.{roomWith, cleared, memberCall, memberLeaves, batchLeaves}
+use Rattle.clearing.specs.Cleared.{cleared}
+use Rattle.batching.specs.BatchCalls.{roomWith, memberCall, memberLeaves, batchLeaves}
 use Rattle.batching.specs.Laws.BatchLaws.{shareAt}
 use Rattle.batching.specs.Laws.MemberLaws.{enough-work}
 use Rattle.batching.specs.Laws.BytesLaws.{eight, eightAfter, own-share, own-answer, isolated}

@@ -9,8 +9,7 @@ row-part-spec =
     tie.close
     (tie.spec
     (λ c κs. search needs)  -- part-of-requires
-    (λ c. search needs)  -- mul-a
-    (λ c. search needs)  -- add-a
+    (λ c κs. search needs)  -- bytes-of-requires
     (λ c. search needs)  -- add-e
     (λ c. search needs)  -- sub-result
     (λ c. search needs)  -- part-result-start

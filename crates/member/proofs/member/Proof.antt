@@ -15,7 +15,7 @@ member-spec =
     (λ c. search needs)  -- slice-relend-prefix-resolve-member
     (λ c. sym (length-take-le _ _ (omega arith)))  -- slice-aggregate-resolve-member
     (λ c κs. search needs)  -- resolve-member-requires
-    (λ c κs. search needs)  -- clear-requires
+    (λ c κs. search needs)  -- clear-bytes-requires
     (λ c. search needs)  -- same-length
     (λ c. search needs)  -- same-length-2
     (λ c. (search returns, (search returns, search returns))))  -- returns

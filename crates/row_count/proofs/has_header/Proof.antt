@@ -8,8 +8,7 @@ pub has-header-spec : {M : Type 1} → statement M
 has-header-spec =
     tie.close
     (tie.spec
-    (λ c κs. search needs)  -- begins-wnt-requires
+    (λ c κs. search needs)  -- begins-as-requires
     (λ c κs. search needs)  -- byte-at-requires
     (λ c κs. search needs)  -- byte-at-requires-2
-    (λ c κs. search needs)  -- byte-at-requires-3
     (λ c. search count-ways))  -- returns

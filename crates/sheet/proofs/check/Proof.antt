@@ -18,13 +18,13 @@ check-spec =
     tie.close
     (tie.spec
     (λ c κs. search needs)  -- is-sound-requires
-    (λ c κs. search needs)  -- clear-requires
+    (λ c κs. search needs)  -- clear-bytes-requires
     (λ c κs. search needs)  -- refused-requires
     (λ c. search needs)  -- same-length
     (λ c.
     let form = now (c .before .before .before .before .before .before .before .before .before .before .before .before .args .form) in
     search (unsound-says base form 65480 (area-is form), unsound-leaves base form 65480 (area-is form), work-is base form 65480 (area-is form), needs))  -- returns
-    (λ c κs. search needs)  -- clear-requires-2
+    (λ c κs. search needs)  -- clear-bytes-requires-2
     (λ c κs. search needs)  -- refused-requires-2
     (λ c. search needs)  -- same-length-2
     (λ c.

@@ -1,4 +1,5 @@
 -- `sheet::resolves_to` meets its contract.
+use mathlib.Core.Path.{sym, _∙_}
 use denote.Ref.{now}
 use borrow.Author.Needs.{needs}
 use Rattle.rules.specs.Versions.{base}
@@ -19,19 +20,19 @@ resolves-to-spec =
     let ran = c .before .before .before .before in
     let start = ran .before .before .before .before in
     (none-written base base-usual base-within _ 8 (one-header _) _ (now (start .before .args .area)) (start .shared-slice-known .given) (one-long _ (now (start .before .args .area)) (start .before .pre)) (ran .resolve .result) (ran .resolve .ensures .0) _ (c .before .rows-written .ensures) (c .if1 .taken), ran .resolve .ensures .1))  -- returns
-    (λ c. search needs)  -- cast-if2
-    (λ c. search needs)  -- mul-if2
-    (λ c. search needs)  -- add-if2
+    (λ c κs. search needs)  -- bytes-of-requires
     (λ c. search needs)  -- same-length-2
     (λ c.
-    let wrote = c .before .before in
+    let sized = c .before in
+    let wrote = sized .before .before in
     let ran = wrote .before .before .before in
     let start = ran .before .before .before .before in
-    (other-length base base-usual base-within _ 8 (one-header _) _ (now (start .before .args .area)) (start .shared-slice-known .given) (one-long _ (now (start .before .args .area)) (start .before .pre)) (ran .resolve .result) (ran .resolve .ensures .0) _ (wrote .rows-written .ensures) (c .if2 .taken), ran .resolve .ensures .1))  -- returns-2
+    (other-length base base-usual base-within _ 8 (one-header _) _ (now (start .before .args .area)) (start .shared-slice-known .given) (one-long _ (now (start .before .args .area)) (start .before .pre)) (ran .resolve .result) (ran .resolve .ensures .0) _ (wrote .rows-written .ensures) (λ h. c .if2 .taken (h ∙ sym (sized .bytes-of .ensures))), ran .resolve .ensures .1))  -- returns-2
     (λ c κs. search needs)  -- begins-requires
     (λ c. search needs)  -- same-length-3
     (λ c.
-    let wrote = c .before .before .before .before in
+    let sized = c .before .before .before in
+    let wrote = sized .before .before in
     let ran = wrote .before .before .before in
     let start = ran .before .before .before .before in
-    (bytes-compared base base-usual base-within _ 8 (one-header _) _ (now (start .before .args .area)) (start .shared-slice-known .given) (one-long _ (now (start .before .args .area)) (start .before .pre)) (ran .resolve .result) (ran .resolve .ensures .0) _ (wrote .rows-written .ensures) (c .before .before .before .if1 .left) (c .before .before .if2 .left) _ (ran .resolve .ensures .1) _ (c .begins .ensures), ran .resolve .ensures .1)))  -- returns-3
+    (bytes-compared base base-usual base-within _ 8 (one-header _) _ (now (start .before .args .area)) (start .shared-slice-known .given) (one-long _ (now (start .before .args .area)) (start .before .pre)) (ran .resolve .result) (ran .resolve .ensures .0) _ (wrote .rows-written .ensures) (sized .before .if1 .left) (c .before .before .if2 .left ∙ sized .bytes-of .ensures) _ (ran .resolve .ensures .1) _ (c .begins .ensures), ran .resolve .ensures .1)))  -- returns-3

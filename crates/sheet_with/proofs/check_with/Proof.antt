@@ -18,7 +18,7 @@ check-with-spec =
     (λ c κs. search needs)  -- area-for-requires
     (λ c κs. search needs)  -- are-roomy-requires
     (λ c κs. search needs)  -- refused-early-requires
-    (λ c κs. search needs)  -- clear-requires
+    (λ c κs. search needs)  -- clear-bytes-requires
     (λ c κs. search needs)  -- clear-areas-requires
     (λ c κs. search needs)  -- refused-requires
     (λ c. search needs)  -- same-length
@@ -35,7 +35,7 @@ check-with-spec =
     let fits = early .before .are-roomy .ensures in
     let is = early .refused-early .ensures in
     let said = early-returns (now (args .form)) (now (args .resolved)) (now (args .sheet)) (now (args .answers)) (length (now (args .work))) (lentOf (now (args .entered)) (now (args .names)) (now (args .known)) (now (args .chains)) (now (args .ends))) (early .before .before .before .asked-for .result) asks _ sized _ fits _ is (c .before .before .before .before .before .before .before .before .before .before .before .before .before .before .before .before .before .before .before .if1 .taken) _ (c .refused .ensures) in
-    (said .0, (said .1, (work-cleared (now (args .form)) (now (args .resolved)) (now (args .sheet)) (now (args .answers)) (length (now (args .work))) (lentOf (now (args .entered)) (now (args .names)) (now (args .known)) (now (args .chains)) (now (args .ends))) (early .before .before .before .asked-for .result) asks _ sized _ fits (now (args .work)) _ (c .before .before .before .before .before .before .before .before .before .before .before .before .before .before .before .before .before .clear .ensures), cleared-asked _ _ asks _ _ _ _ _ _ _ _ _ _ (c .before .before .before .before .before .before .before .before .before .clear-areas .ensures)))))  -- returns
+    (said .0, (said .1, (work-cleared (now (args .form)) (now (args .resolved)) (now (args .sheet)) (now (args .answers)) (length (now (args .work))) (lentOf (now (args .entered)) (now (args .names)) (now (args .known)) (now (args .chains)) (now (args .ends))) (early .before .before .before .asked-for .result) asks _ sized _ fits (now (args .work)) _ (c .before .before .before .before .before .before .before .before .before .before .before .before .before .before .before .before .before .clear-bytes .ensures), cleared-asked _ _ asks _ _ _ _ _ _ _ _ _ _ (c .before .before .before .before .before .before .before .before .before .clear-areas .ensures)))))  -- returns
     (λ c.
     let early = c .before in
     let args = early .before .before .before .before .before .before .before .before .before .before .before .before .args in

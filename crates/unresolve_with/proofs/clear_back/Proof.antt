@@ -9,9 +9,9 @@ clear-back-spec =
     tie.close
     (tie.spec
     (λ c κs. search needs)  -- input-size-requires
-    (λ c κs. search needs)  -- clear-requires
+    (λ c κs. search needs)  -- clear-bytes-requires
     (λ c κs. search needs)  -- output-size-requires
-    (λ c κs. search needs)  -- clear-requires-2
+    (λ c κs. search needs)  -- clear-bytes-requires-2
     (λ c κs. search needs)  -- notes-size-requires
     (λ c κs. search needs)  -- clear-notes-requires
     (λ c. search needs)  -- same-length

@@ -9,9 +9,9 @@ clear-spec =
     tie.close
     (tie.spec
     (λ c κs. search needs)  -- slots-requires
-    (λ c κs. search needs)  -- clear-table-requires
+    (λ c κs. search needs)  -- clear-slots-requires
     (λ c κs. search needs)  -- links-requires
-    (λ c κs. search needs)  -- clear-index-requires
+    (λ c κs. search needs)  -- clear-links-requires
     (λ c. search needs)  -- same-length
     (λ c. search needs)  -- same-length-2
     (λ c. (search (cleared-by, needs), search (cleared-by, needs))))  -- returns

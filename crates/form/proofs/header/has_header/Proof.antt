@@ -10,8 +10,6 @@ has-header-spec =
     (tie.spec
     (λ c κs. search needs)  -- wide-requires
     (λ c. search mark-ways)  -- returns
-    (λ c κs. search needs)  -- wide-requires-2
-    (λ c κs. search needs)  -- wide-requires-3
     (λ c κs. search needs)  -- is-marked-requires
     (λ c. search mark-ways)  -- returns-2
     (λ c κs. search needs)  -- behind-count-requires

@@ -10,20 +10,20 @@ unresolve-spec =
     (tie.spec
     (λ c κs. search needs)  -- decide-requires
     (λ c. search needs)  -- enum-known-rows
-    (λ c κs. search needs)  -- clear-requires
-    (λ c κs. search needs)  -- clear-requires-2
+    (λ c κs. search needs)  -- clear-bytes-requires
+    (λ c κs. search needs)  -- clear-bytes-requires-2
     (λ c. search needs)  -- enum-known-why
-    (λ c κs. search needs)  -- clear-requires-3
-    (λ c κs. search needs)  -- clear-requires-4
+    (λ c κs. search needs)  -- clear-bytes-requires-3
+    (λ c κs. search needs)  -- clear-bytes-requires-4
     (λ c. search needs)  -- same-length
     (λ c. search needs)  -- same-length-2
     (λ c. search needs)  -- same-length-3
     (λ c.
     let made = c .before .before .before .before .before .before .before .before .before .before .before .before .before .before .before .before .before .decide in
-    (search (said-again, made .ensures .0, c .before .before .before .before .before .before .before .before .known-told .given, c .before .before .before .before .before .before .before .before .before .rows .given, needs), made .ensures .1, restored-cleared _ _ _ (made .ensures .2) (c .before .before .before .before .before .before .clear .ensures), again-cleared _ _ _ (made .ensures .3) (c .before .before .clear2 .ensures)))  -- returns
+    (search (said-again, made .ensures .0, c .before .before .before .before .before .before .before .before .known-told .given, c .before .before .before .before .before .before .before .before .before .rows .given, needs), made .ensures .1, restored-cleared _ _ _ (made .ensures .2) (c .before .before .before .before .before .before .clear-bytes .ensures), again-cleared _ _ _ (made .ensures .3) (c .before .before .clear-bytes2 .ensures)))  -- returns
     (λ c. search needs)  -- same-length-4
     (λ c. search needs)  -- same-length-5
     (λ c. search needs)  -- same-length-6
     (λ c.
     let made = c .before .before .before .before .before .before .before .before .before .before .before .before .before .before .before .before .before .decide in
-    (search (said-again, made .ensures .0, c .before .before .before .before .before .before .before .before .known-told2 .given, c .before .before .before .before .before .before .before .before .before .why .given, needs), made .ensures .1, restored-cleared _ _ _ (made .ensures .2) (c .before .before .before .before .before .before .clear3 .ensures), again-cleared _ _ _ (made .ensures .3) (c .before .before .clear4 .ensures))))  -- returns-2
+    (search (said-again, made .ensures .0, c .before .before .before .before .before .before .before .before .known-told2 .given, c .before .before .before .before .before .before .before .before .before .why .given, needs), made .ensures .1, restored-cleared _ _ _ (made .ensures .2) (c .before .before .before .before .before .before .clear-bytes3 .ensures), again-cleared _ _ _ (made .ensures .3) (c .before .before .clear-bytes4 .ensures))))  -- returns-2

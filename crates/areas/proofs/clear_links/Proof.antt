@@ -1,0 +1,21 @@
+-- `areas::clear_links` meets its contract.
+use mathlib.Core.Path.{sym}
+use native.Mathlib.Omega.{arith}
+use lib.Seq.{length-take-le}
+use borrow.Author.Needs.{needs}
+use Rattle.areas.proofs.Zeros.{fronts}
+use Rattle.areas.proofs.clear_links.Statement.{statement}
+use Rattle.areas.proofs.clear_links.Tie as tie
+
+pub clear-links-spec : {M : Type 1} → statement M
+clear-links-spec =
+    tie.close
+    (tie.spec
+    (λ c κs. search needs)  -- zero-links-requires
+    (λ c. search needs)  -- same-length
+    (λ c. search fronts)  -- returns
+    (λ c. search needs)  -- slice-relend-prefix-zero-links
+    (λ c. sym (length-take-le _ _ (omega arith)))  -- slice-aggregate-zero-links
+    (λ c κs. search needs)  -- zero-links-requires-2
+    (λ c. search needs)  -- same-length-2
+    (λ c. search fronts))  -- returns-2

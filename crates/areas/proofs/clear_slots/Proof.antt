@@ -1,0 +1,21 @@
+-- `areas::clear_slots` meets its contract.
+use mathlib.Core.Path.{sym}
+use native.Mathlib.Omega.{arith}
+use lib.Seq.{length-take-le}
+use borrow.Author.Needs.{needs}
+use Rattle.areas.proofs.Zeros.{fronts}
+use Rattle.areas.proofs.clear_slots.Statement.{statement}
+use Rattle.areas.proofs.clear_slots.Tie as tie
+
+pub clear-slots-spec : {M : Type 1} → statement M
+clear-slots-spec =
+    tie.close
+    (tie.spec
+    (λ c κs. search needs)  -- zero-slots-requires
+    (λ c. search needs)  -- same-length
+    (λ c. search fronts)  -- returns
+    (λ c. search needs)  -- slice-relend-prefix-zero-slots
+    (λ c. sym (length-take-le _ _ (omega arith)))  -- slice-aggregate-zero-slots
+    (λ c κs. search needs)  -- zero-slots-requires-2
+    (λ c. search needs)  -- same-length-2
+    (λ c. search fronts))  -- returns-2

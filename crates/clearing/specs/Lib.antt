@@ -1,0 +1,3 @@
+-- The definition, and laws on it.
+pub mod Cleared
+pub mod Laws

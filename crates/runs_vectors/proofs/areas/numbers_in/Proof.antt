@@ -1,0 +1,14 @@
+-- `runs_vectors::areas::numbers_in` answers a number that counts elements at the area's start: both ways are no more than its length.
+use borrow.Author.Needs.{needs}
+use Rattle.runs_vectors.proofs.Counted.{counted}
+use Rattle.runs_vectors.proofs.areas.numbers_in.Statement.{statement}
+use Rattle.runs_vectors.proofs.areas.numbers_in.Tie as tie
+
+returns : tie.Need-returns
+returns c = (search needs, counted _ _ (search needs))
+
+returns-2 : tie.Need-returns-2
+returns-2 c = search (counted, needs)
+
+pub numbers-in-spec : {M : Type 1} → statement M
+numbers-in-spec = tie.close (tie.spec returns returns-2)
