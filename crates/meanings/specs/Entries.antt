@@ -33,7 +33,7 @@ meantBy form row =
     pick (eqb (codeAt form row) 2) (At row (numberOf form row) 0 (xAt form row))
     (pick (isReference form row) (meaningOf form row) Nowhere)
 
--- so many rows from `row` on
+-- the entries of the rows from `row` on, of which `left` are left
 unfoldable pub noteFrom : (form : List ℕ) → List Entry → (row left : ℕ) → List Entry
 noteFrom form entries row zero = entries
 noteFrom form entries row (suc left) = noteFrom form (set entries row (told (meantBy form row))) (row + 1) left

@@ -69,7 +69,7 @@ pub fn is_outward(form: &[u8], row: u16) -> bool
     }
 }
 
-// What was found so many scopes out.
+// What was found, `out` scopes out.
 fn meant(form: &[u8], found: Found, out: u32) -> Meaning
     ensures { λ r. ⌜ r ≡ meant (now (form .entry)) found out ⌝ }
 {

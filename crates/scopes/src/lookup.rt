@@ -157,7 +157,7 @@ fn declares_name(
     }
 }
 
-// Whether a scope, so many scopes out, is the one that is wanted.
+// Whether a scope that is `out` scopes out is the one that is wanted.
 fn is_wanted(
     form: &[u8],
     known: &[u16],
