@@ -166,11 +166,11 @@ static inline const char *wnt_text(uint32_t number)
 }
 
 /* This much stack is enough for any call. Measured on x86-64 (compare/stack.c) at the driver of the examples and at 32 open
- * scopes: wnt_resolve 67,248 and 97,324 bytes, wnt_resolve_told 67,280 and 97,356, wnt_moved 67,328 and 97,404, wnt_sheet
- * 67,360 and 97,436, wnt_check 67,376 and 97,452, wnt_share 116,608 and 146,684, wnt_unresolve 128,552 and 158,700,
- * wnt_mend 5,783, wnt_compare 5,832, wnt_convert 5,688, wnt_meant 576; at the driver in itself and at 31 open scopes
- * wnt_member 155,280 and 184,348, wnt_batch 96,520 and 124,860. The functions whose tables are lent take 7,320 to 14,008
- * bytes at the driver, and at the 64 scopes of version 2 at most 71,948. How many rows a form has makes no difference. */
+ * scopes: wnt_resolve 67,216 and 96,804 bytes, wnt_resolve_told 67,248 and 96,836, wnt_moved 67,296 and 96,884, wnt_sheet
+ * 67,328 and 96,916, wnt_check 67,344 and 96,932, wnt_share 116,576 and 146,164, wnt_unresolve 128,520 and 158,180,
+ * wnt_mend 5,783, wnt_compare 5,832, wnt_convert 5,688, wnt_meant 896; at the driver in itself and at 31 open scopes
+ * wnt_member 155,248 and 183,844, wnt_batch 96,520 and 124,356. The functions whose tables are lent take 7,288 to 13,944
+ * bytes at the driver, and at the 64 scopes of version 2 at most 70,916. How many rows a form has makes no difference. */
 #define WNT_STACK_SIZE 196608
 
 /* The answer's upper half: one of the numbers above. */
