@@ -1,6 +1,9 @@
 // The root's fields of two forms: where a field ends, how far they are the same from the front, and how far from the back.
 use crate::row::same_row;
 use parts::parts_at;
+use rows::row::CLOSE;
+use rows::row::FIELD;
+use rows::row::OPEN;
 ghost use mathlib.Core.Path.{_≡_};
 ghost use Prim.Native.Nat.{_+_, _-_, _/_, _≤_, _<_};
 ghost use lib.ListN.{length};
@@ -18,7 +21,7 @@ pub struct Rest {
 fn is_behind(depth: usize, code: u8) -> bool
     ensures { λ r. ⌜ r ≡ isBehind depth code ⌝ }
 {
-    (depth == 0) & ((code == 1) | (code == 8))
+    (depth == 0) & ((code == FIELD) | (code == CLOSE))
 }
 
 // How many inner scopes are open behind a row of this code.
@@ -26,10 +29,10 @@ fn depth_behind(depth: usize, code: u8) -> usize
     requires { ⌜ depth + 1 < 18446744073709551616 ⌝ }
     ensures { λ r. ⌜ (r ≡ depthBehind depth code) × (r ≤ depth + 1) ⌝ }
 {
-    if code == 7 {
+    if code == OPEN {
         return depth + 1;
     }
-    if code != 8 {
+    if code != CLOSE {
         return depth;
     }
     if depth == 0 { 0 } else { depth - 1 }

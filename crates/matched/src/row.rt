@@ -3,6 +3,11 @@ use fixed::FIRST_FRESH;
 use fixed::LAST_NAME;
 use parts::Parts;
 use parts::parts_at;
+use rows::row::CASE;
+use rows::row::DECL;
+use rows::row::OPEN;
+use rows::row::OUTER;
+use rows::row::REF;
 ghost use mathlib.Core.Path.{_≡_};
 ghost use Rattle.comparing.specs.Compare.{blurPlace, blurName};
 ghost use Rattle.comparing.specs.Laws.Parts.{isNameX, isNameY};
@@ -32,14 +37,15 @@ fn name_counted(n: u32, choice: u32) -> u32
 fn is_name_x(code: u8, e: u32) -> bool
     ensures { λ r. ⌜ r ≡ isNameX code e ⌝ }
 {
-    (code == 2) | ((code == 6) | ((code == 7) | (((code == 3) | (code == 5)) & (e % 2 == 1))))
+    (code == DECL)
+        | ((code == CASE) | ((code == OPEN) | (((code == REF) | (code == OUTER)) & (e % 2 == 1))))
 }
 
 // Whether y of a row is a name.
 fn is_name_y(code: u8, e: u32) -> bool
     ensures { λ r. ⌜ r ≡ isNameY code e ⌝ }
 {
-    (code == 5) & (e / 2 == 1)
+    (code == OUTER) & (e / 2 == 1)
 }
 
 // The number of an operand as it counts.

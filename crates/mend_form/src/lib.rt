@@ -1,6 +1,12 @@
 // The rows of the mended form of a spoilt one: which stay, what becomes of their parts, and the CLOSE rows that were missing.
+use rows::row::CASE;
 use rows::row::CLOSE;
+use rows::row::DECL;
+use rows::row::EXPORT;
+use rows::row::FIELD;
 use rows::row::OPEN;
+use rows::row::OUTER;
+use rows::row::PATH;
 ghost use mathlib.Core.Path.{_≡_};
 ghost use Prim.Native.Nat.{_+_, _*_, _/_, _≤_, _<_};
 ghost use lib.ListN.{length};
@@ -81,13 +87,13 @@ fn stays(code: u8, b: u8, part: usize) -> bool
     ensures { λ r. ⌜ r ≡ staysT code b part ⌝ }
 {
     match code {
-        1 => { (part == 1) | ((part == 5) | ((part == 2) & ((b == 19) | (b == 22)))) }
-        2 => (part == 1) | ((part == 3) | (part == 5)),
-        4 => part == 3,
-        6 => (part == 3) | (part == 5),
-        7 => (part == 1) | (part == 3),
-        8 => false,
-        9 => part == 3,
+        FIELD => { (part == 1) | ((part == 5) | ((part == 2) & ((b == 19) | (b == 22)))) }
+        DECL => (part == 1) | ((part == 3) | (part == 5)),
+        PATH => part == 3,
+        CASE => (part == 3) | (part == 5),
+        OPEN => (part == 1) | (part == 3),
+        CLOSE => false,
+        EXPORT => part == 3,
         _ => true,
     }
 }
@@ -100,7 +106,7 @@ fn mended_byte(code: u8, b: u8, j: usize, byte: u8) -> u8
     if part == 0 {
         return byte;
     }
-    if code == 5 {
+    if code == OUTER {
         if j == 2 {
             return byte % 4;
         }

@@ -5,6 +5,7 @@ use parts::parts_at;
 use row_parts::FIRST_FRESH;
 use row_parts::rows_in;
 use rows::row::DECL;
+use rows::row::FIELD;
 use words::kinds::say_scope;
 use words::kinds::say_space;
 use words::names::say_export;
@@ -96,7 +97,7 @@ fn is_inserted(row: Parts) -> bool
 // What a row says; `next` is the row behind it.
 fn say_row(fd: i32, row: Parts, next: Parts) {
     say_parts(fd, row);
-    if row.code == 1 {
+    if row.code == FIELD {
         say(fd, b"  ");
         say_field_row(fd, row.b, row.e, is_inserted(next));
     } else {
