@@ -15,6 +15,7 @@ use Rattle.readings.specs.declared.Meaning.the-variants.{At, Nowhere}
 abbrev pub Entry : Type 0
 Entry = List ℕ
 
+-- its four numbers: one more than the row, the number, how many scopes out, the name
 abbrev pub entry : (row number out name : ℕ) → Entry
 entry row number out name = row ∷ number ∷ out ∷ name ∷ []
 
@@ -60,6 +61,7 @@ meaningAt form entries row = pick (isNoted form entries row) (read (getD entries
 unfoldable pub numberAt : (form : List ℕ) → List Entry → (row : ℕ) → ℕ
 numberAt form entries row = pick (isNoted form entries row) (getD (getD entries row noEntry) 1 0) (numberOf form row)
 
+-- behind an inserted outer alias, what its OUTER means
 unfoldable pub behindAt : (form : List ℕ) → List Entry → Meaning → Meaning
 behindAt form entries (At row number out name) = pick (isInsertedOuter form row) (meaningAt form entries (nextOf row)) (At row number out name)
 behindAt form entries Nowhere = Nowhere

@@ -33,6 +33,7 @@ isOutward Counting = false
 
 -- ---- meanings
 
+-- what was found, `out` scopes out, with its name
 unfoldable pub meant : (form : List ℕ) → Found → (out : ℕ) → Meaning
 meant form (FoundAt row number) out = At row number out (xAt form row)
 meant form Nothing out = Nowhere
@@ -41,6 +42,7 @@ meant form Nothing out = Nowhere
 unfoldable pub inScope : (form : List ℕ) (scope out space : ℕ) → Key → Meaning
 inScope form scope out space key = meant form (findIn form scope space key) out
 
+-- what the scope that was found declares
 unfoldable pub inOuter : (form : List ℕ) → Outer → (space : ℕ) → Key → Meaning
 inOuter form (OuterAt scope out) space key = inScope form scope out space key
 inOuter form NoScope space key = Nowhere

@@ -40,6 +40,7 @@ findIn form scope space key = findFrom form space key scope (rowsIn form - scope
 
 -- ---- outward
 
+-- was a declaration found?
 abbrev pub isFound : Found → Bool
 isFound (At row number) = true
 isFound Nothing = false

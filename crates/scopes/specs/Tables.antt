@@ -39,6 +39,7 @@ chainOf scope space value = (value % 4096 + scope * 1031 + space * 331) % 4096
 unfoldable pub valueOf : (form : List ℕ) (kind row : ℕ) → ℕ
 valueOf form kind row = pick (eqb kind 1) (xAt form row) (pick (eqb kind 2) (countOf form row) 0)
 
+-- the chain of a kind on which a row is
 unfoldable pub chainAt : (form : List ℕ) (kind row : ℕ) → ℕ
 chainAt form kind row = chainOf (scopeOf form row) (bAt form row) (valueOf form kind row)
 
@@ -63,16 +64,19 @@ linked form chains chain row =
 unfoldable pub isScope : (form : List ℕ) (row : ℕ) → Bool
 isScope form row = ltb 0 row && ltb row (rowsIn form) && eqb (scopeOf form row) row
 
+-- the kind of chain on which a key is sought; the first inserted declaration is on none
 abbrev pub kindOf : Key → ℕ
 kindOf (Name wanted) = 1
 kindOf (Number wanted) = 2
 kindOf Inserted = 0
 
+-- the name or the number that a key wants
 abbrev pub soughtBy : Key → ℕ
 soughtBy (Name wanted) = wanted
 soughtBy (Number wanted) = wanted
 soughtBy Inserted = 0
 
+-- is the row a declaration of the space in the scope that has the key?
 unfoldable pub isSought : (form : List ℕ) (scope space : ℕ) → Key → (row : ℕ) → Bool
 isSought form scope space key row = stands form scope space row && isMeant key (xAt form row) (countOf form row)
 
@@ -92,6 +96,7 @@ foundAt form (suc row) = At row (countOf form row)
 unfoldable pub Scopes : (form known : List ℕ) (to : ℕ) → Type 0
 Scopes form known to = (i : ℕ) → i < to → getD known i 0 ≡ scopeOf form i
 
+-- behind the scopes stand the numbers
 unfoldable pub Counts : (form known : List ℕ) (to : ℕ) → Type 0
 Counts form known to = (i : ℕ) → i < to → getD known (4096 + i) 0 ≡ countOf form i
 
@@ -99,13 +104,16 @@ Counts form known to = (i : ℕ) → i < to → getD known (4096 + i) 0 ≡ coun
 unfoldable pub Heads : (form : List ℕ) (kind : ℕ) (chains : List ℕ) (to : ℕ) → Type 0
 Heads form kind chains to = (i : ℕ) → i < 4096 → getD chains i 0 ≡ lastAbove form kind i to
 
+-- the link of a row is one more than the row before it on its chain
 unfoldable pub Links : (form : List ℕ) (kind : ℕ) (chains : List ℕ) (to : ℕ) → Type 0
 Links form kind chains to = (i : ℕ) → i < to → getD chains (4096 + i) 0 ≡ lastAbove form kind (chainAt form kind i) i
 
+-- a table of a kind of chain, for the rows above a row
 pub record Chains (form : List ℕ) (kind : ℕ) (chains : List ℕ) (to : ℕ) : Type 0 where
   pub heads : Heads form kind chains to
   pub links : Links form kind chains to
 
+-- all tables of a form of at most 4,096 rows
 pub record Tabled (form known names numbers : List ℕ) : Type 0 where
   pub few : rowsIn form ≤ 4096
   pub scopes : Scopes form known 4096
