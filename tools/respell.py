@@ -19,6 +19,9 @@ DECLARED = re.compile(r'(?m)^ *(?:(?:pub|abbrev|unfoldable|data|record|ruleset|a
 FIELDS = re.compile(r'(?m)^( *)(?:pub +)?record [^\n]*\bwhere\n((?:\1 +[^\n]*\n|\s*\n| *--[^\n]*\n)*)')
 FIELD = re.compile(r'(?m)^ *(?:pub +)?([^\s(){}.;,@"«»]+) :(?= )')
 HUMP = re.compile(r'[a-z0-9₀-₉][A-Z]')
+USE = re.compile(r"\buse ([^\s;{]+)\.\{([^}]*)\}")
+# A dot behind a name that begins with a small letter: what follows is a name that Rattle makes.
+MADE_HEAD = re.compile(r"(?:^|[\s(){},;\"])(?:[\w'·-]+\.)*[a-z_][\w'-]*\.\Z")
 MADE = re.compile(r"(invariant|decreases|ghost)-")
 # A name that is spelled otherwise, since the plain spelling is taken.
 FAR = {"no-scope": "no_such_scope"}
@@ -77,8 +80,21 @@ def functions(top):
     return found
 
 
+def borrowed(top):
+    """The names that are imported from what is not the repository's own."""
+    own = set(os.listdir(os.path.join(top, "crates")))
+    found = set()
+    for path in texts(os.path.join(top, "crates"), (".antt", ".rt")):
+        for use in USE.finditer(read(path)):
+            steps = use[1].split(".")
+            if steps[0] != "Rattle" or len(steps) < 2 or steps[1] not in own:
+                found |= {item.strip().split(" as ")[0] for item in use[2].split(",")}
+    return found
+
+
 def table(top):
     names, fields = declared(top)
+    names -= borrowed(top)
     words = set()
     for path in texts(os.path.join(top, "crates"), (".antt", ".rt")):
         words |= set(WORD.findall(read(path)))
@@ -114,8 +130,7 @@ def turn_words(text, turned, fields, kind):
         new = turned.get(word)
         if new is None or kind != "antt" and "-" not in word and not HUMP.search(word):
             return word
-        before = text[max(0, m.start() - 2) : m.start()]
-        if kind != "md" and not HUMP.search(word) and before.endswith(".") and before != ".." and word not in fields:
+        if kind != "md" and not HUMP.search(word) and word not in fields and MADE_HEAD.search(text, max(0, m.start() - 80), m.start()):
             return word
         return new
 

@@ -1,6 +1,6 @@
 -- What a right table says of each kind of row.
 use mathlib.Core.Path.{◌≡◌, refl, sym, ap, ◌∙◌, fun_ext}
-use mathlib.Core.Bool.{Bool, true, false, ◌&&◌, ◌||◌, and_false, or_true}
+use mathlib.Core.Bool.{Bool, true, false, ◌&&◌, ◌||◌, and-false, or-true}
 use mathlib.Core.Option.{Option, none}
 use mathlib.Core.Logic.{◌⊎◌, inl, inr, ⊎_elim}
 use mathlib.Core.List.{List, [], ◌∷◌}
@@ -9,7 +9,7 @@ use native.Mathlib.Nat.{add-zero}
 use Prim.Native.Nat.{ℕ, zero, suc, ◌+◌, ◌-◌, ◌*◌, ◌/◌, ◌%◌, ◌<◌, ◌≤◌}
 use lib.Dec.{eqb, leb, ltb}
 use lib.ListN.{get_or}
-use borrow.Author.Tests.{ne_eqb, leb_true}
+use borrow.Author.Tests.{ne_eqb, leb-true}
 use Rattle.kit.specs.Pick.{pick}
 use Rattle.kit.proofs.Laws.{lt_or_le, yes!, no!, tests}
 use Rattle.rules.specs.Tools.{if◌then◌else◌, only, ◌then◌, is_in}
@@ -87,7 +87,7 @@ module _ (fits : Want → Bool) (miss : (w : Want) → low_want w ≡ true → f
 pub low_not_in : (space : ℕ) → 12 < space → (l : List ℕ) → lows l ≡ true → is_in space l ≡ false
 low_not_in space h [] g = refl
 low_not_in space h (n ∷ ns) g =
-    let le = leb_true n 12 (and_left (leb n 12) (lows ns) g) in
+    let le = leb-true n 12 (and_left (leb n 12) (lows ns) g) in
     rw (ne_eqb space n (omega arith)) (low_not_in space h ns (and_right (leb n 12) (lows ns) g))
 
 far_ref : (space paths : ℕ) → 12 < space → (w : Want) → low_want w ≡ true → fits_ref w space paths ≡ false
@@ -101,21 +101,21 @@ far_outer : (space : ℕ) → 12 < space → (w : Want) → low_want w ≡ true 
 unfolding fits_outer
 far_outer space h (r l) g = refl
 far_outer space h (p l) g = refl
-far_outer space h (out s) g = let le = leb_true s 12 g in ne_eqb s space (omega arith)
+far_outer space h (out s) g = let le = leb-true s 12 g in ne_eqb s space (omega arith)
 far_outer space h cas g = refl
 
 -- a REF with more PATHs than its space may have
 long_ref : (space paths : ℕ) → (paths ≡ 0 → ⊥) → (leb 7 space || leb paths 1) ≡ false → (w : Want) → fits_ref w space paths ≡ false
 unfolding fits_ref paths_ok
-long_ref space paths h g (r l) = rw g (and_false (is_in space l))
-long_ref space paths h g (p l) = rw (ne_eqb paths 0 h) (and_false (is_in space l))
+long_ref space paths h g (r l) = rw g (and-false (is_in space l))
+long_ref space paths h g (p l) = rw (ne_eqb paths 0 h) (and-false (is_in space l))
 long_ref space paths h g (out s) = refl
 long_ref space paths h g cas = refl
 
 -- one PATH stands for more
 path_ref : (space paths : ℕ) → (paths ≡ 0 → ⊥) → (leb 7 space || leb paths 1) ≡ true → (w : Want) → fits_ref w space 1 ≡ fits_ref w space paths
 unfolding fits_ref paths_ok
-path_ref space paths h g (r l) = rw (g, or_true (leb 7 space))
+path_ref space paths h g (r l) = rw (g, or-true (leb 7 space))
 path_ref space paths h g (p l) = rw (ne_eqb paths 0 h)
 path_ref space paths h g (out s) = refl
 path_ref space paths h g cas = refl

@@ -1,6 +1,6 @@
 -- The rows of allowed fields are the rules'.
 use mathlib.Core.Path.{◌≡◌, refl, sym, ◌∙◌}
-use mathlib.Core.Bool.{Bool, false, and_false}
+use mathlib.Core.Bool.{Bool, false, and-false}
 use mathlib.Core.Logic.{⊎_elim}
 use mathlib.Core.List.{List, [], ◌∷◌}
 use native.Mathlib.Omega.{arith}
@@ -22,7 +22,7 @@ no_such_field : (kind code : ℕ) → 26 ≤ code → false ≡ allowed kind cod
 unfolding allowed
 no_such_field kind code h =
     rw (lt-leb code 22 (omega arith), lt-leb code 17 (omega arith), lt-leb code 11 (omega arith), ne_eqb code 25 (omega arith), ne_eqb code 4 (omega arith), ne_eqb code 5 (omega arith), ne_eqb code 21 (omega arith), ne_eqb code 23 (omega arith), ne_eqb code 24 (omega arith))
-    (simp and_false (each kind))
+    (simp and-false (each kind))
   where
     each : (kind : ℕ) → false ≡ get_or (false ∷ false ∷ false ∷ false ∷ []) kind false
     each zero = refl

@@ -7,9 +7,9 @@ use native.Mathlib.Omega.{arith}
 use Prim.Native.Nat.{ℕ, zero, suc, ◌+◌, ◌*◌, ◌/◌, ◌%◌, ◌≤◌, ◌<◌}
 use lib.Dec.{eqb, leb, ltb}
 use lib.ListN.{length, take, drop, length-append, length-drop, length-map}
-use lib.Seq.{length-take-le, take-length, take_at, drop_drop, drop-length, sets, length-sets, sets-eq}
+use lib.Seq.{length-take-le, take-length, take_at, drop-drop, drop-length, sets, length-sets, sets-eq}
 use borrow.Author.Rules.{rules}
-use borrow.Author.Tests.{eqb_true, leb_true, ltb-false}
+use borrow.Author.Tests.{eqb-true, leb-true, ltb-false}
 use Rattle.kit.specs.Out.{◌&◌}
 use Rattle.kit.specs.Pick.{pick}
 use Rattle.kit.proofs.Laws.{yes!, tests}
@@ -97,7 +97,7 @@ module _ (key rows : List ℕ) where
       let d : decode_row top_name (drop (16 * i) rows) ≡ some r = cc in
       let rest : rows_of top_name (length rs) (drop 16 (drop (16 * i) rows)) ≡ map some rs = cc in
       let next : 16 * i + 16 ≡ 16 * (i + 1) = omega arith in
-      let on : drop 16 (drop (16 * i) rows) ≡ drop (16 * (i + 1)) rows = drop_drop 16 (16 * i) rows ∙ ap (λ (k : ℕ). drop k rows) next in
+      let on : drop 16 (drop (16 * i) rows) ≡ drop (16 * (i + 1)) rows = drop-drop 16 (16 * i) rows ∙ ap (λ (k : ℕ). drop k rows) next in
       let new = encode_row (renamed_row g r) in
       let size : length new ≡ 16 = row_size (renamed_row g r) in
       let w : row_written key rows i out ≡ sets out (16 * i) new = one_written i out r d (omega arith) (omega arith) in
@@ -154,7 +154,7 @@ sizes : (l : List ℕ) → miscounted l ≡ false → (row_count version1 l ≤ 
 sizes l e =
     let m = row_count version1 l in
     let t = neither_not (between 1 1023 m) (eqb (length l) (8 + 16 * m)) e in
-    (leb_true m 1023 (both_true (leb 1 m) (leb m 1023) t.0).1, eqb_true (length l) (8 + 16 * m) t.1)
+    (leb-true m 1023 (both_true (leb 1 m) (leb m 1023) t.0).1, eqb-true (length l) (8 + 16 * m) t.1)
 
 -- ---- what the run leaves
 

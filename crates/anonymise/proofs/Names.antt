@@ -11,13 +11,13 @@ use lib.Seq.{length-take-le}
 use types.Run.{OneOf, miss}
 use denote.Enum.Declared.{tag_of}
 use borrow.Author.Rules.{rules}
-use borrow.Author.Tests.{eqb_true}
+use borrow.Author.Tests.{eqb-true}
 use Rattle.kit.specs.Out.{◌&◌}
 use Rattle.kit.specs.Pick.{pick}
 use Rattle.kit.proofs.Laws.{tests, take_next_set}
 use Rattle.rules.specs.Tools.{if◌then◌else◌, is_in, between}
 use Rattle.rules.specs.Versions.{top_name}
-use Rattle.rules.specs.Laws.ToolLaws.{false_not, eqb_same, eqb_false}
+use Rattle.rules.specs.Laws.ToolLaws.{false_not, eqb_same, eqb-false}
 use Rattle.renaming.specs.Renaming.{renamed, name_in, firsts, place_of}
 use Rattle.names.specs.Table.{Slot, name_of, pushed, find_in}
 use Rattle.names.specs.Table as names
@@ -38,8 +38,8 @@ use Rattle.anonymise.specs.Renamed.{input_row, index_names_t, row_names_t, renam
 -- ---- a search finds the place
 
 eqb_turn : (a b : ℕ) (t : Bool) → eqb a b ≡ t → eqb b a ≡ t
-eqb_turn a b true e = rw (eqb_true a b e) (eqb_same b)
-eqb_turn a b false e = eqb_false b a (λ q. let back : eqb a b ≡ true = rw q (eqb_same a) in false_not (sym e ∙ back))
+eqb_turn a b true e = rw (eqb-true a b e) (eqb_same b)
+eqb_turn a b false e = eqb-false b a (λ q. let back : eqb a b ≡ true = rw q (eqb_same a) in false_not (sym e ∙ back))
 
 find_known : (k : ℕ) (ns : List ℕ) (n : ℕ) → is_in n ns ≡ true → find_in (slots_from (suc k) ns) 0 n ≡ At (k + place_of ns n)
 unfolding find_in slots_from place_of pick if◌then◌else◌
@@ -148,7 +148,7 @@ module _ (table : List Slot) (index : List ℕ) (used : ℕ) (k : Knows table in
   module _ (name : ℕ) (named : name ≡ 0 → ⊥) (f : Found) (w : f ≡ find_in (names.between 0 used table) 0 name) where
     one_name : name_in name ≡ name ∷ []
     unfolding name_in if◌then◌else◌
-    one_name = rw (eqb_false name 0 named)
+    one_name = rw (eqb-false name 0 named)
 
     pub enter_known : (m : ℕ) → f ≡ At m → Enters table used (name_in name) table index used
     enter_known m e = rw one_name (stays (name ∷ []) (unfold firsts if◌then◌else◌ in rw (was_there name f w m e).0))

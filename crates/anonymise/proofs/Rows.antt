@@ -10,7 +10,7 @@ use native.Mathlib.Omega.{arith}
 use Prim.Native.Nat.{ℕ, zero, suc, ◌+◌, ◌-◌, ◌*◌, ◌/◌, ◌≤◌, ◌<◌}
 use lib.Dec.{eqb, ltb}
 use lib.ListN.{length, get_or, take, drop, set, replicate, length-append, length-take, length-drop, length-replicate, length-map}
-use lib.Seq.{length-take-le, take_all, take-take, take-suc, drop-cons, set_at, append_snoc, get_or-take, drop_drop, take_at, drop_at, drop-length}
+use lib.Seq.{length-take-le, take_all, take-take, take-suc, drop-cons, set_at, append_snoc, get_or-take, drop-drop, take_at, drop_at, drop-length}
 use borrow.Author.Rules.{rules}
 use Rattle.kit.specs.Out.{Out, ◌&◌}
 use Rattle.kit.specs.Pick.{pick}
@@ -91,7 +91,7 @@ unfolding rows_of
 names_next rows i left h =
     let next : 16 * i + 16 ≡ 16 * (i + 1) = omega arith in
     names_cons (decode_row top_name (drop (16 * i) rows)) (rows_of top_name left (drop 16 (drop (16 * i) rows)))
-    ∙ ap₂ (λ (r : Row) (l : List ℕ). row_names_t r ++ names_of (rows_of top_name left l)) (sym (row_is rows i h)) (drop_drop 16 (16 * i) rows ∙ ap (λ (k : ℕ). drop k rows) next)
+    ∙ ap₂ (λ (r : Row) (l : List ℕ). row_names_t r ++ names_of (rows_of top_name left l)) (sym (row_is rows i h)) (drop-drop 16 (16 * i) rows ∙ ap (λ (k : ℕ). drop k rows) next)
 
 module _ (rows : List ℕ) where
   pub names_start : (table : List Slot) → firsts (seen_in table 0) (names_from rows 0 (length rows / 16 - 0)) ≡ key_of rows

@@ -4,11 +4,11 @@ use Rattle.std.proofs.Math.Path.{refl}
 use Rattle.std.proofs.Common.{sym, ap, ◌∙◌, arith}
 use Rattle.std.proofs.Math.Bool.{false, not}
 use mathlib.Core.List.{List, [], ◌∷◌, ◌++◌, map, reverse_aux, reverse, reverse-cons, reverse-append}
-use borrow.Author.Tests.{lt-ltb, eq-eqb, ne_eqb, eqb_true}
+use borrow.Author.Tests.{lt-ltb, eq-eqb, ne_eqb, eqb-true}
 use Rattle.kit.specs.Pick.{pick}
 use Rattle.kit.specs.Out.{Out, ◌&◌}
 use Rattle.rules.specs.Rows.{Row, encode_row}
-use Rattle.rules.specs.Laws.ToolLaws.{and_false, All, done, ◌&◌ as ◌also◌}
+use Rattle.rules.specs.Laws.ToolLaws.{and-false, All, done, ◌&◌ as ◌also◌}
 use Rattle.claim_laws.specs.RowParts.{as_parts, code_in}
 use Rattle.back_notes.specs.Note.{Note, Noted}
 use Rattle.back_rows.specs.Below.{nth}
@@ -92,7 +92,7 @@ copy_ends r n rest k own c a left to out =
 pub field_after : (r : Row) (n : Note) (rest : List Noted) (k : Wrote → Wrote) → code_in r ≡ 1 → Ends rest k → After (with r n ∷ rest) (λ w. k (put_one r w))
 field_after r n rest k c a inside left to out =
     let own = own_row r n rest (omega arith) (omega arith) in
-    let over : inside && not (eqb (code_in r) 1) ≡ false = rw (eq-eqb _ _ c) (and_false inside) in
+    let over : inside && not (eqb (code_in r) 1) ≡ false = rw (eq-eqb _ _ c) (and-false inside) in
     copied (with r n) rest own (omega arith) inside left to out ∙ rw over (then_ends rest k left (put_bytes (encode_row r) to out) a ∙ ap k (put_copied r to out))
 
 -- rows of DECLs, which stand behind others
@@ -131,7 +131,7 @@ made_none size value l f = go (eqb (nth l (size - 2)).parts.code 2) refl
   where
     go : (t : Bool) → eqb (nth l (size - 2)).parts.code 2 ≡ t
         → (pick t (pick (ltb (nth l (size - 2)).parts.x 2147483648) (no_alias_t (length l)) (record { size = size; start = length l - size; field = (nth l (size - 1)).parts; decl = (nth l (size - 2)).parts; number = note_of (nth l (size - 2)); operand = (nth l (size - 3)).parts; value = value })) (no_alias_t (length l))).size ≡ 0
-    go true e = rw (lt-ltb _ _ (f (eqb_true _ _ e))) (unfold pick in refl)
+    go true e = rw (lt-ltb _ _ (f (eqb-true _ _ e))) (unfold pick in refl)
     go false e = unfold pick in refl
 
 pub own_outer : (r : Row) (n : Note) (rest : List Noted) → code_in r ≡ 5 → NotFresh rest → Own (with r n ∷ rest)

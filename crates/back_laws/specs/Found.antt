@@ -1,12 +1,12 @@
 -- In the table of all declarations each scope's are found by their numbers.
 use Rattle.std.specs.Prelude.{◌≡◌, Bool, true, false, ◌⊎◌, ℕ, zero, suc, ◌+◌, ◌*◌, ◌%◌, ◌<◌, ◌≤◌, eqb, ltb}
 use Rattle.std.proofs.Math.Path.{refl}
-use Rattle.std.proofs.Common.{sym, ap, ◌∙◌, subst, inl, inr, ⊎_elim, eq-eqb, ne_eqb, eqb_true, ltb-false}
+use Rattle.std.proofs.Common.{sym, ap, ◌∙◌, subst, inl, inr, ⊎_elim, eq-eqb, ne_eqb, eqb-true, ltb-false}
 use Rattle.std.proofs.Math.Option.{Option, none, some}
 use mathlib.Core.List.{List, [], ◌∷◌, ◌++◌, append_assoc, append-nil}
 use native.Mathlib.Omega.{arith}
 use Rattle.std.proofs.Math.ListN.{length, get_elem?, length-append}
-use Rattle.std.proofs.lemmas.Bool.{eqb_false}
+use Rattle.std.proofs.lemmas.Bool.{eqb-false}
 use Rattle.kit.specs.Pick.{pick}
 use Rattle.rules.specs.Tools.{if◌then◌else◌, ◌then◌}
 use Rattle.rules.specs.Versions.{RuleSet}
@@ -40,9 +40,9 @@ same_key_lem : (k space space' : ℕ) → k < 65536 → eqb (entry_key_t k space
 same_key_lem k space space' l = go (eqb space space') refl
   where
     go : (t : Bool) → eqb space space' ≡ t → eqb (entry_key_t k space) (entry_key_t k space') ≡ t
-    go true e = rw (eqb_true space space' e) (eq-eqb (entry_key_t k space') (entry_key_t k space') refl)
+    go true e = rw (eqb-true space space' e) (eq-eqb (entry_key_t k space') (entry_key_t k space') refl)
     go false e =
-        let n = eqb_false space space' e in
+        let n = eqb-false space space' e in
         let a = key_is k space l in
         let b = key_is k space' l in
         ne_eqb (entry_key_t k space) (entry_key_t k space') (λ q. n (omega arith))
@@ -61,18 +61,18 @@ decl_found k past (d ∷ ds) space j x l b e =
     go : (t : Bool) → eqb d.space space ≡ t → (j : ℕ) → x ≡ length (names_in past space) + j + 1 → ((j' : ℕ) → x ≡ length (names_in (past ++ (d ∷ [])) space) + j' + 1 → later ≡ found_of (get_elem? (names_in ds space) j'))
         → pick (eqb (entry_key_t k d.space) (entry_key_t k space)) (pick (eqb (length (names_in past d.space) % 65536 + 1) x) (At d.name) later) later ≡ found_of (get_elem? (if t then d.name ∷ names_in ds space else names_in ds space) j)
     go true t zero e below =
-        let q = eqb_true d.space space t in
+        let q = eqb-true d.space space t in
         let few = fewer_names past space in
         let is : length (names_in past d.space) % 65536 + 1 ≡ x = rw q (omega arith) in
         rw (same_key_lem k d.space space l, t, eq-eqb _ _ is)
     go true t (suc j) e below =
-        let q = eqb_true d.space space t in
+        let q = eqb-true d.space space t in
         let few = fewer_names past space in
         let more = (more_names past d space).0 q in
         let n : length (names_in past d.space) % 65536 + 1 ≡ x → ⊥ = rw q (λ z. omega arith) in
         rw (same_key_lem k d.space space l, t, ne_eqb _ _ n) (below j (omega arith))
     go false t j e below =
-        let n = eqb_false d.space space t in
+        let n = eqb-false d.space space t in
         rw (same_key_lem k d.space space l, t) (below j (rw ((more_names past d space).1 n) e))
 
 -- ---- which scopes slots are of

@@ -1,14 +1,14 @@
 -- The first pass: of the rows of a tree it notes the number of each declaration, and of each OUTER where its scope begins.
 use Rattle.std.specs.Prelude.{◌≡◌, Bool, true, false, eqb, leb, ltb, get_or, set, replicate}
 use Rattle.std.proofs.Math.Path.{refl, ap}
-use Rattle.std.proofs.Common.{sym, ap₂, ◌∙◌, arith, add-one, length-set, get_or-set_same, get_or-set_other, lt-ltb, eq-eqb, ne_eqb, eqb_true}
+use Rattle.std.proofs.Common.{sym, ap₂, ◌∙◌, arith, add-one, length-set, get_or-set_same, get_or-set_other, lt-ltb, eq-eqb, ne_eqb, eqb-true}
 use Rattle.std.proofs.Math.Option.{Option, none, some}
 use mathlib.Core.List.{List, [], ◌∷◌, ◌++◌, map, append_assoc, append-nil}
 use Prim.Native.Nat.{ℕ, zero, suc, max, ◌+◌, ◌%◌, ◌<◌, ◌≤◌}
 use Rattle.std.proofs.Math.Nat.{le-max_left, le-max_right}
 use Rattle.std.proofs.Math.ListN.{length, length-append}
 use Rattle.std.proofs.lemmas.List.{length-replicate}
-use Rattle.std.proofs.lemmas.Bool.{lt-leb, eqb_false}
+use Rattle.std.proofs.lemmas.Bool.{lt-leb, eqb-false}
 use Rattle.kit.specs.Pick.{pick}
 use Rattle.kit.proofs.Laws.{copies_at}
 use Rattle.rules.specs.Tools.{if◌then◌else◌}
@@ -130,7 +130,7 @@ more_counted c past d C h l =
   where
     go : (space : ℕ) → space < 13 → (t : Bool) → eqb d.space space ≡ t → get_or (set c d.space (get_or c d.space 0 % 65536 + 1)) space 0 ≡ length (names_in (past ++ (d ∷ [])) space)
     go space g true t =
-        let q = eqb_true d.space space t in
+        let q = eqb-true d.space space t in
         let long = C.long in
         let few = fewer_names past space in
         let is = C.are space g in
@@ -140,7 +140,7 @@ more_counted c past d C h l =
         let counts : get_or c space 0 % 65536 + 1 ≡ length (names_in (past ++ (d ∷ [])) space) = omega arith in
         ap (λ (x : ℕ). get_or (set c x (get_or c x 0 % 65536 + 1)) space 0) q ∙ found ∙ counts
     go space g false t =
-        let q : d.space ≡ space → ⊥ = eqb_false d.space space t in
+        let q : d.space ≡ space → ⊥ = eqb-false d.space space t in
         rw (get_or-set_other c d.space space (get_or c d.space 0 % 65536 + 1) 0 (λ e. q (sym e)), (more_names past d space).1 q) (C.are space g)
 
 -- ---- one row

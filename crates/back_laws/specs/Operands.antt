@@ -65,9 +65,9 @@ pub ops_not_fresh : {os : List Operand} {xs : List Noted} (rest : List Noted) �
 ops_not_fresh rest no_ops f = f
 ops_not_fresh rest (one_op b n p) f = λ e. absurd ((op_code b).1 e)
 
-and_true : (b : Bool) → b && true ≡ b
-and_true true = refl
-and_true false = refl
+and-true : (b : Bool) → b && true ≡ b
+and-true true = refl
+and-true false = refl
 
 one_put : (r : Row) (to : ℕ) (out : List ℕ) → put_bytes (encode_row r) to out ≡ put_rows (r ∷ []) (to & out)
 unfolding put_rows put_one
@@ -138,7 +138,7 @@ module _ (here : List Declaration) (outside : List (List Declaration)) where
             → write_back_t (with (op_row b) n ∷ (xs ++ D)) (going 0 inside left to) out ≡ k (put_rows (operand_rows (reverse (first_fit here outside (o ∷ os) (waiting hs)))) (to & out))
         go inside left e to out =
             let F = first_fit here outside os (waiting hs) in
-            let stays : inside && not (eqb (code_in (op_row b)) 1) ≡ inside = rw (ne_eqb (code_in (op_row b)) 1 (op_code b).0) (and_true inside) in
+            let stays : inside && not (eqb (code_in (op_row b)) 1) ≡ inside = rw (ne_eqb (code_in (op_row b)) 1 (op_code b).0) (and-true inside) in
             copied (with (op_row b) n) (xs ++ D) own c inside left to out
             ∙ rw (stays, fit_stays o os (waiting hs) f, rows_last o F (to & out), op_row_lem b)
             (then_same (put_bytes (encode_row (op_row b)) to out) _ (λ to' out'. k (put_rows (operand_rows (reverse F)) (to' & out'))) (λ to' out'. below.does inside left e to' out')

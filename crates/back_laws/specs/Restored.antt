@@ -8,13 +8,13 @@ use mathlib.Core.List.{List, [], ◌∷◌, ◌++◌, reverse}
 use Prim.Native.Nat.{ℕ, zero, suc, ◌+◌, ◌-◌, ◌%◌, ◌<◌, ◌≤◌}
 use native.Mathlib.Omega.{arith}
 use Rattle.std.proofs.Math.Dec.{eqb}
-use borrow.Author.Tests.{eqb_true, ne_eqb}
+use borrow.Author.Tests.{eqb-true, ne_eqb}
 use Rattle.kit.specs.Pick.{pick}
 use Rattle.kit.specs.Out.{Out, ◌&◌}
 use Rattle.rules.specs.Rows.{Index, Num, Id, Row, Field, Decl, Ref, Path, Outer, encode, encode_row, flag, number}
 use Rattle.rules.specs.Tree.{Declaration, Operand, ref, outer, case, Head, path_rows, operand_row}
 use Rattle.rules.specs.Rules.{find}
-use Rattle.rules.specs.Laws.ToolLaws.{and_left, and_false}
+use Rattle.rules.specs.Laws.ToolLaws.{and_left, and-false}
 use Rattle.unresolving.specs.Back.{or_zero, first_decl, first_operand, digits, index_of, is_number, name_out, Group, served, lengthened, stands_on, links, alone, groups, is_for}
 use Rattle.parts.specs.declared.Parts.{Parts}
 use Rattle.rows.specs.declared.row.Index as code
@@ -117,7 +117,7 @@ module _ (here : List Declaration) (outside : List (List Declaration)) where
           by false v eu ev = refl
           by true false eu ev = refl
           by true true eu ev =
-              let f : from ≡ A.decl.space = t (eqb_true b.code 9 eu) ∙ sym (eqb_true A.decl.space 10 ev) in
+              let f : from ≡ A.decl.space = t (eqb-true b.code 9 eu) ∙ sym (eqb-true A.decl.space 10 ev) in
               let same : is_number (find here from A.decl.name) n ≡ eqb A.number n = ap (λ (x : ℕ). is_number (find here x A.decl.name) n) f ∙ A.numbered n in
               rw same
 
@@ -128,7 +128,7 @@ module _ (here : List Declaration) (outside : List (List Declaration)) where
       go : (t : Bool) → eqb s.decl.space space ≡ t → t && (eqb s.decl.z z && eqb s.number n) ≡ t && (eqb s.decl.z z && is_number (find here space s.decl.name) n)
       go false t = refl
       go true t =
-          let same : is_number (find here space s.decl.name) n ≡ eqb s.number n = ap (λ (x : ℕ). is_number (find here x s.decl.name) n) (sym (eqb_true s.decl.space space t)) ∙ s.numbered n in
+          let same : is_number (find here space s.decl.name) n ≡ eqb s.number n = ap (λ (x : ℕ). is_number (find here x s.decl.name) n) (sym (eqb-true s.decl.space space t)) ∙ s.numbered n in
           rw same
 
   -- ---- inserted fields that stand one behind the other, the last first, behind rows that are not inserted fields
@@ -224,7 +224,7 @@ module _ (here : List Declaration) (outside : List (List Declaration)) where
 
   linked_nine : (a b : Head) → links here outside a b ≡ true → a.code ≡ 9
   unfolding links
-  linked_nine a b e = eqb_true a.code 9 (and_left (eqb a.code 9) _ e)
+  linked_nine a b e = eqb-true a.code 9 (and_left (eqb a.code 9) _ e)
 
   module _ (before : List Noted) (nothing : (alias_before_t before).size ≡ 0) (some_before : 0 < length before) where
     pub behind : {hs : List Head} {l : List Noted} → Waits before hs l → 0 < length l
@@ -255,7 +255,7 @@ module _ (here : List Declaration) (outside : List (List Declaration)) where
 
     no_link : (a b : Head) → b.code ≡ 11 → links here outside a b ≡ false
     unfolding links
-    no_link a b c = rw (c, and_false (eqb a.code 9))
+    no_link a b c = rw (c, and-false (eqb a.code 9))
 
     apart : {hs : List Head} {l : List Noted} (b : Head) → Waits before hs l → b.code ≡ 11 → groups here outside (reverse hs ++ (b ∷ [])) ≡ groups here outside (reverse hs) ++ (alone here outside b ∷ [])
     apart b all c = lone here outside b ∙ rw (no_groups here outside)

@@ -1,6 +1,6 @@
 -- Rows that stand in bytes, with what was noted of them.
 use Rattle.std.specs.Prelude.{◌≡◌, refl, ℕ, zero, suc, ◌+◌, ◌-◌, ◌*◌, ◌/◌, ◌<◌, ◌≤◌, length, get_or, take, drop}
-use Rattle.std.proofs.Common.{sym, ap, ap₂, ◌∙◌, arith, add-one, drop_drop, get_or-drop, take_at, drop_at}
+use Rattle.std.proofs.Common.{sym, ap, ap₂, ◌∙◌, arith, add-one, drop-drop, get_or-drop, take_at, drop_at}
 use mathlib.Core.List.{List, [], ◌∷◌, ◌++◌, append_assoc, append-nil, reverse_aux}
 use Rattle.rules.specs.Rows.{Raw, raw, Row, encode, encode_row}
 use Rattle.rules.specs.Answer.{rows_bytes}
@@ -66,7 +66,7 @@ first_bytes l i r rs more e =
     let k : 16 * i + 16 ≡ 16 * (i + 1) = omega arith in
     let split : drop (16 * i) l ≡ encode_row r ++ (rows_bytes rs ++ more) = e ∙ append_assoc (encode_row r) (rows_bytes rs) more in (
       rw split (take_at (encode_row r) (rows_bytes rs ++ more) 16 (row_size r)),
-      ap (λ (a : ℕ). drop a l) (sym k) ∙ sym (drop_drop 16 (16 * i) l) ∙ rw split (drop_at (encode_row r) (rows_bytes rs ++ more) 16 (row_size r)),
+      ap (λ (a : ℕ). drop a l) (sym k) ∙ sym (drop-drop 16 (16 * i) l) ∙ rw split (drop_at (encode_row r) (rows_bytes rs ++ more) 16 (row_size r)),
     )
 
 first_note : (noted : List Note) (i : ℕ) (n : Note) (ns rest : List Note) → drop i noted ≡ (n ∷ ns) ++ rest → (get_or noted i no_note ≡ n) × (drop (i + 1) noted ≡ ns ++ rest)
@@ -74,7 +74,7 @@ first_note noted i n ns rest e =
     let z : i + 0 ≡ i = omega arith in
     let there : get_or (drop i noted) 0 no_note ≡ n = rw e in
     let behind : drop 1 (drop i noted) ≡ ns ++ rest = rw e in
-    (sym (get_or-drop i noted 0 no_note ∙ rw z) ∙ there, sym (drop_drop 1 i noted) ∙ behind)
+    (sym (get_or-drop i noted 0 no_note ∙ rw z) ∙ there, sym (drop-drop 1 i noted) ∙ behind)
 
 pub noted_are : (l : List ℕ) (noted : List Note) (i : ℕ) (rs : List Row) (ns : List Note) → Stands l noted i rs ns → length rs ≡ length ns → noted_from l noted i (length rs) ≡ with_notes rs ns
 unfolding noted_from with_notes row_at

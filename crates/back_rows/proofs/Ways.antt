@@ -1,7 +1,7 @@
 -- Each way through the code finds what its twin finds.
 use Rattle.std.proofs.Common.{◌≡◌, ℕ, zero, suc, ◌+◌, ◌-◌, ◌*◌, ◌/◌, ◌%◌, ◌<◌, ◌≤◌, Bool, true, false, not, ◌&&◌, eqb, ltb, List, [], ◌∷◌, length, get_or, take, drop, sym, refl, ap, ◌∙◌, add-zero, arith, rules, ltb-false, le-ltb, lt-ltb, eq-eqb, ne_eqb}
 use lib.Seq.{sets}
-use borrow.Author.Tests.{not_true, not_false}
+use borrow.Author.Tests.{not-true, not-false}
 use Rattle.kit.specs.Pick.{pick}
 use Rattle.kit.specs.Out.{Out, ◌&◌}
 use Rattle.kit.proofs.Laws.{down}
@@ -226,13 +226,13 @@ module _ (rows : List ℕ) (noted : List Note) (last first : Alias) (count at : 
     pub path_stops : not b ≡ true → (r & out') ≡ begin_t last first count at out → (rest r (below rows noted first.start) & out') ≡ T
     unfolding path_t leaves pick
     path_stops g e =
-        let f : is_linked_t (alias_before_t (below rows noted first.start)) first ≡ false = rw (← q) (sym l ∙ not_true b g) in
+        let f : is_linked_t (alias_before_t (below rows noted first.start)) first ≡ false = rw (← q) (sym l ∙ not-true b g) in
         rw (down turns h, f, ← e) at inv
 
     pub path_goes : not b ≡ false → (r & out') ≡ put_back_t (Path a.value) at out → (count' : ℕ) → count' ≡ (count + 1) % 4294967296 → path_t (turns - 1) last a (below rows noted a.start) count' r out' ≡ T
     unfolding path_t wrote_then pick
     path_goes g e count' k =
-        let f : is_linked_t (alias_before_t (below rows noted first.start)) first ≡ true = rw (← q) (sym l ∙ not_false b g) in
+        let f : is_linked_t (alias_before_t (below rows noted first.start)) first ≡ true = rw (← q) (sym l ∙ not-false b g) in
         rw (rest_below rows noted first.start a q, k) (rw (down turns h, f, ← q, ← e) at inv)
 
 pub ruleset pathing = (path_ends, path_stops, path_goes, rules)

@@ -69,7 +69,7 @@ next_few : (i : Item) (fs : Fields) (ds : List Declaration) (here : Env) (outsid
 next_few i fs ds here outside b k r R p q =
     let C : HeadCounts ds outside b (head_of i) R.e = holds_of _ _ R.e (head_counts ds outside b (head_of i)) R.expands in
     let counted = C.decls in
-    let news : heads_decls R.new ≡ heads_decls R.e.inserted = holds_of _ _ R.new (Runs.inserted-decls here outside R.e.inserted) R.adds in
+    let news : heads_decls R.new ≡ heads_decls R.e.inserted = holds_of _ _ R.new (Runs.inserted_decls here outside R.e.inserted) R.adds in
     let split = before_decls R.new (R.q.0 ▸ R.rs.0) in
     let first : decls_fields (R.q.0 ▸ R.rs.0) ≡ length (head_of i).decls + (decls_item R.q.0 + decls_fields R.rs.0) = unfold decls_scope in rw (ran_decls R) in
     let few : decls_fields (◌before◌ R.new (R.q.0 ▸ R.rs.0)) ≤ length (fields_rows (i ▸ fs)) = rw (split, first, news) (omega (arith, fields_size i fs, item_size i)) in

@@ -12,7 +12,7 @@ use Rattle.rules.specs.Shapes.{FOUR, here_only}
 use Rattle.rules.specs.Good.{GoodScope, GoodFields, GoodItem}
 use Rattle.rules.specs.Rules
 use Rattle.rules.specs.Rules.{ok, ◌>>=◌, Env, Outside, at_root, onward, inward, fresh, declarations, Expanded, outer_alias, expand_operands, expand_head, prepare, resolve_operands, resolve_head, resolve_inserted, ◌before◌, resolve_scope, resolve_fields, resolve_item, resolve}
-use Rattle.rules.specs.Laws.ToolLaws.{or_cases, or_false, eqb_true}
+use Rattle.rules.specs.Laws.ToolLaws.{or_cases, or-false, eqb-true}
 use Rattle.rules.specs.Laws.Results.{bind_inv, ok_same}
 use Rattle.rules.specs.Laws.Meaning.Names.{LowDecls, LowHead, LowScope, LowFields, LowItem}
 use Rattle.rules.specs.Laws.Meaning.Runs.{Ran, ran, ran_end, ran_decls}
@@ -57,10 +57,10 @@ before_made b (h ∷ hs) fs s m = inserted s.0 (before_made (suc b) hs fs s.1 (s
 
 four_below : (space : ℕ) → is_in space FOUR ≡ true → space < 13
 four_below space e =
-    or_cases (eqb space 4) _ e (λ t. let q = eqb_true space 4 t in omega arith)
-    (λ e₁. or_cases (eqb space 7) _ e₁ (λ t. let q = eqb_true space 7 t in omega arith)
-    (λ e₂. or_cases (eqb space 9) _ e₂ (λ t. let q = eqb_true space 9 t in omega arith)
-    (λ e₃. let q = eqb_true space 11 (or_false (eqb space 11) e₃) in omega arith)))
+    or_cases (eqb space 4) _ e (λ t. let q = eqb-true space 4 t in omega arith)
+    (λ e₁. or_cases (eqb space 7) _ e₁ (λ t. let q = eqb-true space 7 t in omega arith)
+    (λ e₂. or_cases (eqb space 9) _ e₂ (λ t. let q = eqb-true space 9 t in omega arith)
+    (λ e₃. let q = eqb-true space 11 (or-false (eqb space 11) e₃) in omega arith)))
 
 module _ (Q : ℕ → Type 0) (ds : List Declaration) (here : Env) (outside : Outside) where
   shape : (k : ℕ) (a : Head) → Alias Q ds outside k a → Shape k a
@@ -74,11 +74,11 @@ module _ (Q : ℕ → Type 0) (ds : List Declaration) (here : Env) (outside : Ou
   -- what was inserted before it
   head_order : (b : ℕ) (h : Head) (e : Expanded Head) (hs : List Head) (h' : Head) → AllMay Q h.operands → expand_head ds outside b h ≡ ok e → resolve_inserted here outside e.inserted ≡ ok hs
       → resolve_head here outside e.now ≡ ok h' → InOrder b hs × (e.k ≡ b + length hs)
-  unfolding expand_head resolve_head resolve_inserted with_operands Rules.as-it-is if◌then◌else◌
+  unfolding expand_head resolve_head resolve_inserted with_operands Rules.as_it_is if◌then◌else◌
   head_order b h e hs h' may x a r = go (here_only h.code) x
     where
       go : (t : Bool)
-          → (if t then ok (Rules.as-it-is h b) else (expand_operands ds outside b h.operands >>= λ e. ok (record { inserted = e.inserted; rows = e.rows; now = with_operands h e.now; k = e.k }))) ≡ ok e
+          → (if t then ok (Rules.as_it_is h b) else (expand_operands ds outside b h.operands >>= λ e. ok (record { inserted = e.inserted; rows = e.rows; now = with_operands h e.now; k = e.k }))) ≡ ok e
           → InOrder b hs × (e.k ≡ b + length hs)
       go true x =
           let same = ok_same _ e x in

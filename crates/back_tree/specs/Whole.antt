@@ -13,7 +13,7 @@ use Rattle.rules.specs.Shapes
 use Rattle.rules.specs.Good.{GoodHead, GoodScope, GoodFields, GoodItem}
 use Rattle.rules.specs.Rules.{declarations, outer_alias, export_alias, fresh}
 use Rattle.rules.specs.Readings.{is_fresh, any_fresh, is_inserted}
-use Rattle.rules.specs.Laws.ToolLaws.{leb_true, or_true, or_cases}
+use Rattle.rules.specs.Laws.ToolLaws.{leb-true, or-true, or_cases}
 use Rattle.rules.specs.Laws.Meaning.Names.{LowDecls}
 use Rattle.rules.specs.Laws.Meaning.Lookups.{low_original}
 use Rattle.rules.specs.Laws.Output.Numbers.{AllNumbered, NumberedScope, NumberedFields, NumberedItem}
@@ -49,7 +49,7 @@ exporting rules kind h g = go h.export refl g.exporting
     one n e (of_outer space up at z o x c) = exports_nothing x
 
     coded : Shapes.exports h.code ≡ true → is_in h.code (9 ∷ 10 ∷ 11 ∷ []) ≡ true
-    coded t = or_cases (eqb h.code 9) (eqb h.code 10) t (λ q. rw q) (λ q. rw q (or_true (eqb h.code 9)))
+    coded t = or_cases (eqb h.code 9) (eqb h.code 10) t (λ q. rw q) (λ q. rw q (or-true (eqb h.code 9)))
 
     go : (x : Option ℕ) → h.export ≡ x → Shapes.exports h.code ≡ is_just h.export → Exporting h
     go none e t = exports_nothing e
@@ -57,8 +57,8 @@ exporting rules kind h g = go h.export refl g.exporting
 
 is_inserted_lem : (b : ℕ) (h : Head) → Shape b h → is_inserted h ≡ true
 unfolding is_inserted any_fresh is_fresh fresh outer_alias path_alias export_alias
-is_inserted_lem b h (leads space d n z small i) = rw (i, leb_true {m = 2147483648} {n = 2147483648 + b} (omega arith))
-is_inserted_lem b h (exports space n x z i) = rw (i, leb_true {m = 2147483648} {n = 2147483648 + b} (omega arith))
+is_inserted_lem b h (leads space d n z small i) = rw (i, leb-true {m = 2147483648} {n = 2147483648 + b} (omega arith))
+is_inserted_lem b h (exports space n x z i) = rw (i, leb-true {m = 2147483648} {n = 2147483648 + b} (omega arith))
 
 shape_before : (b : ℕ) (h : Head) → Shape b h → Before (suc b) h.decls
 unfolding fresh outer_alias path_alias export_alias

@@ -9,11 +9,11 @@ use borrow.Author.Rules.{rules}
 use borrow.Author.Tests.{ltb-true, ltb-false}
 use lib.Dec.{eqb, leb, ltb}
 use lib.ListN.{length, get_or, take, drop, length-drop, drop_of_length-le}
-use lib.Seq.{sets, drop_drop, take_all}
+use lib.Seq.{sets, drop-drop, take_all}
 use Rattle.kit.specs.Pick.{pick}
 use Rattle.kit.proofs.Laws.{yes!, no!, tests, drop_next, left_suc, sets_append}
 use Rattle.rules.specs.Rows.{bytes}
-use Rattle.rules.specs.Laws.ToolLaws.{eqb_true, eqb_false, eqb_same, false_not}
+use Rattle.rules.specs.Laws.ToolLaws.{eqb-true, eqb-false, eqb_same, false_not}
 use Rattle.stores.proofs.Laws.{sets_past, length_word}
 use Rattle.batching.specs.BatchBytes.{sum, cut, bad_members, few_bytes}
 
@@ -31,8 +31,8 @@ eqb_less : (n s left : ℕ) → n ≤ left → eqb (n + s) left ≡ eqb s (left 
 eqb_less n s left h = go (eqb s (left - n)) refl
   where
     go : (b : Bool) → eqb s (left - n) ≡ b → eqb (n + s) left ≡ b
-    go true e = let q = eqb_true s (left - n) e in omega (tests, q)
-    go false e = eqb_false (n + s) left (λ q. false_not (sym e ∙ (ap (λ (k : ℕ). eqb s (k - n)) (sym q) ∙ (ap (eqb s) (omega arith) ∙ eqb_same s))))
+    go true e = let q = eqb-true s (left - n) e in omega (tests, q)
+    go false e = eqb-false (n + s) left (λ q. false_not (sym e ∙ (ap (λ (k : ℕ). eqb s (k - n)) (sym q) ∙ (ap (eqb s) (omega arith) ∙ eqb_same s))))
 
 module _ (lengths : List ℕ) (i left n : ℕ) (T : Bool) (inv : Left lengths i left ≡ T) where
   pub add_turn : i < length lengths → n ≡ get_or lengths i 0 → n ≤ left → Left lengths (i + 1) (left - n) ≡ T
@@ -41,7 +41,7 @@ module _ (lengths : List ℕ) (i left n : ℕ) (T : Bool) (inv : Left lengths i 
   pub add_over : i < length lengths → n ≡ get_or lengths i 0 → left < n → false ≡ T
   add_over h e q =
       let s = sum_next lengths i h in
-      sym (eqb_false (sum (drop i lengths)) left (λ r. omega (arith, s, r))) ∙ inv
+      sym (eqb-false (sum (drop i lengths)) left (λ r. omega (arith, s, r))) ∙ inv
 
   pub add_end : length lengths ≤ i → eqb left 0 ≡ T
   unfolding sum
@@ -51,8 +51,8 @@ module _ (lengths : List ℕ) (i left n : ℕ) (T : Bool) (inv : Left lengths i 
       turned s = go (eqb s left) refl
         where
           go : (b : Bool) → eqb s left ≡ b → eqb left s ≡ b
-          go true e = let q = eqb_true s left e in omega (tests, q)
-          go false e = eqb_false left s (λ q. false_not (sym e ∙ (ap (eqb s) q ∙ eqb_same s)))
+          go true e = let q = eqb-true s left e in omega (tests, q)
+          go false e = eqb-false left s (λ q. false_not (sym e ∙ (ap (eqb s) q ∙ eqb_same s)))
 
 pub ruleset add_ways = (add_turn, add_over, add_end, rules)
 
@@ -135,7 +135,7 @@ module _ (lengths members : List ℕ) (k at i c : ℕ) (T : List ℕ) (inv : Fro
   member_turn h q =
       let next = drop_next lengths k 0 (omega arith) in
       let left = left_suc k i h in
-      let gone : drop (get_or lengths k 0) (drop at members) ≡ drop (at + c) members = sym (drop_clipped (drop at members) (get_or lengths k 0) c rest_is) ∙ (drop_drop c at members) in
+      let gone : drop (get_or lengths k 0) (drop at members) ≡ drop (at + c) members = sym (drop_clipped (drop at members) (get_or lengths k 0) c rest_is) ∙ (drop-drop c at members) in
       ap (λ (l : List ℕ). get_or (cut (drop (k + 1) lengths) l) (i - (k + 1)) []) (sym gone) ∙ (rw (next, left) at inv)
 
   member_here : k ≡ i → i < length lengths → take (at + c - at) (drop at members) ≡ T

@@ -9,7 +9,7 @@ use lib.Dec.{leb, eqb}
 use lib.ListN.{length, get_or, take, drop, length-drop}
 use lib.Seq.{take_all, length-take-le}
 use borrow.Author.Rules.{rules}
-use borrow.Author.Tests.{eqb_true, leb_true}
+use borrow.Author.Tests.{eqb-true, leb-true}
 use mir.Syntax.{w8}
 use mir.Val.{Fits}
 use Rattle.kit.specs.Out.{◌&◌}
@@ -95,8 +95,8 @@ module _ (v : Setting) (able : Able v) (ends : List ℕ) (entered names : List S
   rows_are =
       let R = (read_exactly v form s).0 reads in
       let n = row_count v.version form in
-      let long = eqb_true (length form) (v.version.header + 16 * n) R.long in
-      let few = leb_true n v.version.rows (and_right (leb 1 n) (leb n v.version.rows) R.counted) in
+      let long = eqb-true (length form) (v.version.header + 16 * n) R.long in
+      let few = leb-true n v.version.rows (and_right (leb 1 n) (leb n v.version.rows) R.counted) in
       let d = length-drop v.version.header form in
       (omega arith, omega arith)
 

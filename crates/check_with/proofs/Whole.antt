@@ -8,7 +8,7 @@ use Prim.Native.Nat.{ℕ, zero, suc, ◌+◌, ◌*◌, ◌≤◌, ◌<◌}
 use lib.Dec.{leb, ltb}
 use lib.ListN.{length, get_or}
 use borrow.Author.Rules.{rules}
-use borrow.Author.Tests.{eqb_true, leb_true, lt-ltb, ltb-false}
+use borrow.Author.Tests.{eqb-true, leb-true, lt-ltb, ltb-false}
 use mir.Syntax.{w8}
 use mir.Val.{Fits}
 use Rattle.rules.specs.Tools.{if◌then◌else◌, only, ◌or_else◌}
@@ -53,11 +53,11 @@ unfolding roomy
 large_in i e n k c m q =
     let p = all_true _ _ _ _ _ q in
     record {
-      entered = leb_true _ _ p.0;
-      names = leb_true _ _ p.1;
-      known = leb_true _ _ p.2;
-      chains = leb_true _ _ p.3;
-      ends = leb_true _ _ p.4;
+      entered = leb-true _ _ p.0;
+      names = leb-true _ _ p.1;
+      known = leb-true _ _ p.2;
+      chains = leb-true _ _ p.3;
+      ends = leb-true _ _ p.4;
     }
 
 slots_some : (i : ℕ) → 0 < slots_of (version_of i)
@@ -78,7 +78,7 @@ accepted_long i form t e w = go (read_form (setting i) form) refl (sym w ∙ e)
   where
     go : (x : AnswerOf Scope) → read_form (setting i) form ≡ x → steps.Pass ≡ input_of (setting i).rules x → (version_of i).header ≤ length form
     go (refused n p q) r z = let no_way : ◌≡◌ {A = ℕ} 0 1 = ap refuses z in absurd (omega (arith, no_way))
-    go (accepted s) r z = let h = eqb_true (length form) _ ((read_exactly (setting i) form s).0 r).long in omega (arith, h)
+    go (accepted s) r z = let h = eqb-true (length form) _ ((read_exactly (setting i) form s).0 r).long in omega (arith, h)
 
 -- none is too small
 module _ (i slots links : ℕ) (lent : Lent) (fits : Bool) (f : fits ≡ roomy (setting i).version lent) (small : Bool) (is : small ≡ (not fits || (ltb slots (slots_of (version_of i)) || ltb links (links_of (version_of i))))) (e : small ≡ false) where

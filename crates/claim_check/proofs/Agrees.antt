@@ -10,7 +10,7 @@ use lib.ListN.{length, get_or, drop, replicate, length-drop}
 use lib.Seq.{length-take-le}
 use mir.Syntax.{w8}
 use mir.Val.{Fits}
-use borrow.Author.Tests.{eqb_true, leb_true}
+use borrow.Author.Tests.{eqb-true, leb-true}
 use Rattle.kit.specs.Pick.{pick}
 use Rattle.kit.specs.Out.{◌&◌}
 use Rattle.rules.specs.Tools.{if◌then◌else◌, between, only, ◌or_else◌}
@@ -177,8 +177,8 @@ module _ (form claim : List ℕ) (bytes : Bytes form) where
   rows_few s e =
       let R = (read_exactly one form s).0 e in
       let n = row_count version1 form in
-      let long = eqb_true (length form) (8 + 16 * n) R.long in
-      let few = leb_true n 1023 (and_right (leb 1 n) (leb n 1023) R.counted) in
+      let long = eqb-true (length form) (8 + 16 * n) R.long in
+      let few = leb-true n 1023 (and_right (leb 1 n) (leb n 1023) R.counted) in
       let d = length-drop 8 form in
       (omega arith, omega arith)
 

@@ -6,7 +6,7 @@ use native.Mathlib.Omega.{arith}
 use lib.ListN.{length, take, drop, replicate, length-append, length-drop}
 use lib.Seq.{take_all, drop_at, length-take-le}
 use borrow.Author.Rules.{rules}
-use borrow.Author.Tests.{lt-ltb, le-ltb, eqb_true}
+use borrow.Author.Tests.{lt-ltb, le-ltb, eqb-true}
 use Rattle.kit.specs.Pick.{pick}
 use Rattle.names.specs.Table.{Slot}
 use Rattle.rules.specs.Versions.{Setting, as_claimed}
@@ -63,7 +63,7 @@ behind l a h = take_all (length l - a) (drop a l) (simp length-drop (omega arith
 has_header_lem : (s : Setting) (l : List ℕ) (rows : ℕ) → read.Whole rows ≡ form_of (read_form s l) → s.version.header ≤ length l
 has_header_lem s l rows e =
     let w = whole_read s l rows e in
-    let h = eqb_true (length l) _ ((read_exactly s l w.0).0 w.1).long in
+    let h = eqb-true (length l) _ ((read_exactly s l w.0).0 w.1).long in
     omega arith
 
 module _ (i : ℕ) (l : List ℕ) (r : Form) (rows : ℕ) (w : r ≡ read.Whole rows) where

@@ -9,7 +9,7 @@ use Rattle.rules.specs.Tree.{Declaration, Operand, ref, outer, case, Head, Item,
 use Rattle.rules.specs.Shapes
 use Rattle.rules.specs.Shapes.{Part, one, Want, p, out, complete, FIVE, SIX, FOUR}
 use Rattle.rules.specs.Good.{MayDeclare, after_operand, after_operands, GoodHead, GoodItem}
-use Rattle.rules.specs.Laws.ToolLaws.{or_cases, or_false, eqb_true, and_left, and_right, false_not}
+use Rattle.rules.specs.Laws.ToolLaws.{or_cases, or-false, eqb-true, and_left, and_right, false_not}
 use Rattle.rules.specs.Laws.Results.{no_option, some_same}
 
 pub good_head : (rules : RuleSet) (i : Item) (kind : ℕ) → GoodItem rules i kind → GoodHead rules kind (head_of i)
@@ -38,9 +38,9 @@ alias_size h d a (of_outer space up at z o x c) = rw (a, o) (omega arith)
 
 one_decl : (spaces : List ℕ) (ds : List Declaration) → MayDeclare (Shapes.single spaces) 0 ds → Shapes.enough (Shapes.single spaces) (length ds) ≡ true → (d : Declaration) × (ds ≡ d ∷ []) × (is_in d.space spaces ≡ true)
 unfolding Shapes.may_declare Shapes.enough
-one_decl spaces [] m e = let q = eqb_true 0 1 e in absurd (omega arith)
+one_decl spaces [] m e = let q = eqb-true 0 1 e in absurd (omega arith)
 one_decl spaces (d ∷ []) m e = (d, refl, m.0)
-one_decl spaces (d ∷ d' ∷ ds) m e = let q = eqb_true (suc (suc (length ds))) 1 e in absurd (omega arith)
+one_decl spaces (d ∷ d' ∷ ds) m e = let q = eqb-true (suc (suc (length ds))) 1 e in absurd (omega arith)
 
 abbrev AllBelow : List ℕ → Type 0
 AllBelow [] = Unit {0}
@@ -48,7 +48,7 @@ AllBelow (n ∷ ns) = (n < 13) × AllBelow ns
 
 below_13 : (spaces : List ℕ) → AllBelow spaces → (n : ℕ) → is_in n spaces ≡ true → n < 13
 below_13 [] b n e = false_not e
-below_13 (m ∷ ms) b n e = or_cases (eqb n m) (is_in n ms) e (λ t. let q = eqb_true n m t in let l = b.0 in omega arith) (λ t. below_13 ms b.1 n t)
+below_13 (m ∷ ms) b n e = or_cases (eqb n m) (is_in n ms) e (λ t. let q = eqb-true n m t in let l = b.0 in omega arith) (λ t. below_13 ms b.1 n t)
 
 six_below : AllBelow SIX
 six_below = (omega arith, (omega arith, (omega arith, (omega arith, (omega arith, (omega arith, tt))))))
@@ -70,7 +70,7 @@ nothing_more (case name z ∷ os) left e = no_option left e
 
 no_paths : (ps : List ℕ) → eqb (length ps) 0 ≡ true → ps ≡ []
 no_paths [] e = refl
-no_paths (q ∷ ps) e = let w = eqb_true (suc (length ps)) 0 e in absurd (omega arith)
+no_paths (q ∷ ps) e = let w = eqb-true (suc (length ps)) 0 e in absurd (omega arith)
 
 only_some : {A B : Type 0} (t : Bool) (x : A) (f : A → Option B) (y : B) → (only t x then f) ≡ some y → (t ≡ true) × (f x ≡ some y)
 unfolding only ◌then◌
@@ -92,7 +92,7 @@ one_outer s [] left e c = let q = some_same _ left e in false_not (unfold comple
 one_outer s (ref space at paths z ∷ os) left e c = false_not (only_some false [] (λ (ps : List Part). after_operands ps os) left e).0
 one_outer s (outer space up at z ∷ os) left e c =
     let q = only_some (eqb s space) [] (λ ps. after_operands ps os) left e in
-    (up, at, z, rw (eqb_true s space q.0, nothing_more os left q.1))
+    (up, at, z, rw (eqb-true s space q.0, nothing_more os left q.1))
 one_outer s (case name z ∷ os) left e c = false_not (only_some false [] (λ (ps : List Part). after_operands ps os) left e).0
 
 -- ---- the field
@@ -106,9 +106,9 @@ module _ (rules : RuleSet) (kind : ℕ) (h : Head) (g : GoodHead rules kind h) (
   pub one_declared : OneDecl h
   unfolding Shapes.declares
   one_declared =
-      or_cases (eqb h.code 9) _ c (λ t. decl_of_lem SIX six_below (rw (eqb_true h.code 9 t)))
-      (λ c₁. or_cases (eqb h.code 10) _ c₁ (λ t. decl_of_lem FIVE five_below (rw (eqb_true h.code 10 t)))
-      (λ c₂. decl_of_lem FOUR four_below (rw (eqb_true h.code 11 (or_false (eqb h.code 11) c₂)))))
+      or_cases (eqb h.code 9) _ c (λ t. decl_of_lem SIX six_below (rw (eqb-true h.code 9 t)))
+      (λ c₁. or_cases (eqb h.code 10) _ c₁ (λ t. decl_of_lem FIVE five_below (rw (eqb-true h.code 10 t)))
+      (λ c₂. decl_of_lem FOUR four_below (rw (eqb-true h.code 11 (or-false (eqb h.code 11) c₂)))))
 
   exported : Shapes.exports h.code ≡ true → (name : ℕ) × (h.export ≡ some name)
   exported e = go h.export refl (sym g.exporting ∙ e)
@@ -138,6 +138,6 @@ module _ (rules : RuleSet) (kind : ℕ) (h : Head) (g : GoodHead rules kind h) (
   pub alias_of_lem : AliasOf h
   unfolding Shapes.parts Shapes.exports
   alias_of_lem =
-      or_cases (eqb h.code 9) _ c (λ t. let e = eqb_true h.code 9 t in export_of_lem 10 (rw e) (rw e) (omega arith))
-      (λ c₁. or_cases (eqb h.code 10) _ c₁ (λ t. let e = eqb_true h.code 10 t in export_of_lem 6 (rw e) (rw e) (omega arith))
-      (λ c₂. let e = eqb_true h.code 11 (or_false (eqb h.code 11) c₂) in outer_of_lem (Shapes.declared h.decls) (rw e) (rw e) e))
+      or_cases (eqb h.code 9) _ c (λ t. let e = eqb-true h.code 9 t in export_of_lem 10 (rw e) (rw e) (omega arith))
+      (λ c₁. or_cases (eqb h.code 10) _ c₁ (λ t. let e = eqb-true h.code 10 t in export_of_lem 6 (rw e) (rw e) (omega arith))
+      (λ c₂. let e = eqb-true h.code 11 (or-false (eqb h.code 11) c₂) in outer_of_lem (Shapes.declared h.decls) (rw e) (rw e) e))

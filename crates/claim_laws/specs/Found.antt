@@ -10,7 +10,7 @@ use Prim.Native.Nat.{ℕ, zero, suc, ◌+◌, ◌*◌, ◌%◌, ◌<◌, ◌≤�
 use native.Mathlib.Omega.{arith}
 use Rattle.std.proofs.Math.Dec.{eqb}
 use Rattle.std.proofs.Math.ListN.{get_or, get_elem?}
-use borrow.Author.Tests.{eq-eqb, ne_eqb, eqb_true}
+use borrow.Author.Tests.{eq-eqb, ne_eqb, eqb-true}
 use Rattle.kit.specs.Pick.{pick}
 use Rattle.names.specs.Table.{Slot, space_of, name_of, number_of, find_in}
 use Rattle.names.specs.declared.Found.{Found}
@@ -56,7 +56,7 @@ more_counts c m s C l h = record { long = unfold more_count_t in (length-set c s
     few t = go (eqb s t) refl
       where
         go : (b : Bool) → eqb s t ≡ b → get_or (more_count_t c s) t 0 ≤ suc m
-        go true e = let q : s ≡ t = eqb_true s t e in let f = C.few s in rw (← q, more_same c m s C l h) (omega arith)
+        go true e = let q : s ≡ t = eqb-true s t e in let f = C.few s in rw (← q, more_same c m s C l h) (omega arith)
         go false e = let f = C.few t in rw (more_other c s t (λ q. false_not (sym e ∙ eq-eqb s t q))) (omega arith)
 
 -- ---- the declarations of a claim
@@ -116,7 +116,7 @@ module _ (k : ℕ) (low : suc k < 65536) (space : ℕ) (narrow : space < 256) wh
   -- one declaration further
   skip : (c : List ℕ) (m s : ℕ) (o : Option ℕ) (b : Bool) → Counts c m → m < 65536 → s < 13 → eqb s space ≡ b → number_from (get_or (more_count_t c s) space 0) o ≡ number_from (get_or c space 0) (if b then Option.map suc o else o)
   unfolding if◌then◌else◌
-  skip c m s o true C l h e = let q : s ≡ space = eqb_true s space e in rw (← q, more_same c m s C l h) (from_next (get_or c s 0) o)
+  skip c m s o true C l h e = let q : s ≡ space = eqb-true s space e in rw (← q, more_same c m s C l h) (from_next (get_or c s 0) o)
   skip c m s o false C l h e = rw (more_other c s space (λ q. false_not (sym e ∙ eq-eqb s space q)))
 
   -- a declaration of another name
@@ -160,11 +160,11 @@ module _ (k : ℕ) (low : suc k < 65536) (space : ℕ) (narrow : space < 256) wh
   names_next c m name x xs false false t p q u n C l A f =
       names_past c m name x xs C l A f (pass_slot (slot_of k c x) _ _ _ (rw (own_slot c x p) (own_key x.decl.space _ _ (λ e. false_not (sym q ∙ eq-eqb x.decl.space space e))))) (find_else x.decl (decls_of xs) name q)
   names_next c m name x xs false true false p q u n C l A f =
-      let e : x.decl.space ≡ space = eqb_true x.decl.space space q in
+      let e : x.decl.space ≡ space = eqb-true x.decl.space space q in
       names_past c m name x xs C l A f (meet_own c x _ name false p e u) (find_next x.decl (decls_of xs) name (λ g. false_not (sym u ∙ eq-eqb x.decl.name name g)))
   names_next c m name x xs false true true p q u n C l A f =
-      let e : x.decl.space ≡ space = eqb_true x.decl.space space q in
-      let g : x.decl.name ≡ name = eqb_true x.decl.name name u in
+      let e : x.decl.space ≡ space = eqb-true x.decl.space space q in
+      let g : x.decl.name ≡ name = eqb-true x.decl.name name u in
       let z : get_or c space 0 + 0 ≡ get_or c space 0 = omega arith in
       rw (find_this x.decl (decls_of xs) name e g) (meet_own c x _ name true p e u ∙ rw z)
 
@@ -239,7 +239,7 @@ module _ (k : ℕ) (low : suc k < 65536) (space : ℕ) (narrow : space < 256) wh
 
   onward : (c : List ℕ) (m : ℕ) (x : Declared) → Counts c m → m < 65536 → Apt x → eqb x.decl.space space ≡ true → Onward c x
   onward c m x C l A q =
-      let e : x.decl.space ≡ space = eqb_true x.decl.space space q in
+      let e : x.decl.space ≡ space = eqb-true x.decl.space space q in
       let t = more_same c m x.decl.space C l A.space in
       record { same = e; more = rw e (rw e at t) }
 
@@ -317,7 +317,7 @@ module _ (k : ℕ) (low : suc k < 65536) (space : ℕ) (narrow : space < 256) wh
   unfolding pick
   zero_next c m x xs a false p q C l A = past_slot c x xs 0 (other_passed c x A q)
   zero_next c m x xs false true p q C l A = past_slot c x xs 0 (own_passed c x A p)
-  zero_next c m x xs true true p q C l A = meet_alias c m x xs 0 false C l p (eqb_true x.decl.space space q) (ne_eqb (suc (get_or c space 0)) 0 (omega arith))
+  zero_next c m x xs true true p q C l A = meet_alias c m x xs 0 false C l p (eqb-true x.decl.space space q) (ne_eqb (suc (get_or c space 0)) 0 (omega arith))
 
   pub zero_nothing : (xs : List Declared) (c : List ℕ) (m : ℕ) → Counts c m → m + length xs ≤ 65536 → All Apt xs → find_in (slots_of k c xs) key 0 ≡ Nothing
   unfolding slots_of find_in

@@ -3,7 +3,7 @@ use Rattle.std.specs.Prelude.{◌≡◌, refl, Bool, true, List, [], ◌∷◌, 
 use Rattle.std.proofs.Common.{sym, ap, ap₂, ◌∙◌, ⊎_elim, append_assoc, append-nil, arith, lt-ltb, le-ltb}
 use Rattle.std.proofs.Math.Bool.{false}
 use Rattle.std.proofs.Math.Option.{Option, none, some}
-use Rattle.std.proofs.lemmas.List.{map_append}
+use Rattle.std.proofs.lemmas.List.{map-append}
 use Rattle.std.proofs.Math.ListN.{length, get_elem?, length-append}
 use Rattle.kit.specs.Pick.{pick}
 use Rattle.kit.proofs.Laws.{copies_at, lt_or_le}
@@ -46,7 +46,7 @@ decls_declared : (n : ℕ) (fs : Fields) → decls_of (declared_in n fs) ≡ dec
 unfolding declared_in declarations
 decls_declared n end = refl
 decls_declared n (i ▸ fs) =
-    map_append (λ (x : Declared). x.decl) (head_declared n (head_of i)) (declared_in (n + length (item_rows i)) fs)
+    map-append (λ (x : Declared). x.decl) (head_declared n (head_of i)) (declared_in (n + length (item_rows i)) fs)
     ∙ ap₂ (λ (a b : List Declaration). a ++ b) (from_decls (head_of i) (suc n) (head_of i).decls) (decls_declared (n + length (item_rows i)) fs)
 
 -- ---- the added field that a number reaches

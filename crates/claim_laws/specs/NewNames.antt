@@ -1,7 +1,7 @@
 -- Condition 3: on the rows of a claim the code finds the row that the rules name.
 use Rattle.std.specs.Prelude.{◌≡◌, Bool, ◌&&◌, ◌||◌, eqb, leb, ltb}
 use Rattle.std.proofs.Math.Path.{refl, sym, ap}
-use Rattle.std.proofs.Common.{ap₂, ◌∙◌, lt-ltb, le-ltb, eq-eqb, ne_eqb, eqb_true}
+use Rattle.std.proofs.Common.{ap₂, ◌∙◌, lt-ltb, le-ltb, eq-eqb, ne_eqb, eqb-true}
 use Rattle.std.proofs.Math.Bool.{true, false, not}
 use Rattle.std.proofs.Math.Option.{Option, none, some}
 use mathlib.Core.List.{List, [], ◌∷◌, ◌++◌, map, append_assoc, append-nil}
@@ -25,7 +25,7 @@ use Rattle.rules.specs.Good.{GoodHead, GoodScope, GoodFields, GoodItem, height, 
 use Rattle.rules.specs.Rules.{find}
 use Rattle.rules.specs.Readings
 use Rattle.rules.specs.Readings.{is_fresh, is_inserted}
-use Rattle.rules.specs.Laws.ToolLaws.{All, done, ◌&◌ as ◌also◌, all_append, leb_le, leb_lt, and_false, false_not, or_cases, or_false}
+use Rattle.rules.specs.Laws.ToolLaws.{All, done, ◌&◌ as ◌also◌, all_append, leb_le, leb_lt, and-false, false_not, or_cases, or-false}
 use Rattle.rules.specs.Laws.Results.{no_option}
 use Rattle.rules.specs.Laws.Meaning.Lookups.{has}
 use Rattle.rules.specs.Laws.Meaning.Unknown.{find_has, has_append}
@@ -113,7 +113,7 @@ own_has (d ∷ ds) space name e f =
     let o = or_split (leb 2147483648 d.name) (Readings.any_fresh ds) e in
     let low = leb_lt 2147483648 d.name o.0 in
     let high = leb_le 2147483648 name f in
-    rw (ne_eqb d.name name (omega arith), and_false (eqb d.space space)) (own_has ds space name o.1 f)
+    rw (ne_eqb d.name name (omega arith), and-false (eqb d.space space)) (own_has ds space name o.1 f)
 
 known_own : (k : ℕ) (past ds : List Declaration) (ss : List Slot) → Readings.any_fresh ds ≡ false → Known k past ss → Known k (past ++ ds) ss
 known_own k past ds ss e g =
@@ -124,8 +124,8 @@ same_eqb a b c d f g = go (eqb a b) (eqb c d) refl refl
   where
     go : (t u : Bool) → eqb a b ≡ t → eqb c d ≡ u → t ≡ u
     go true true p q = refl
-    go true false p q = sym (eq-eqb c d (f (eqb_true a b p))) ∙ q
-    go false true p q = sym p ∙ eq-eqb a b (g (eqb_true c d q))
+    go true false p q = sym (eq-eqb c d (f (eqb-true a b p))) ∙ q
+    go false true p q = sym p ∙ eq-eqb a b (g (eqb-true c d q))
     go false false p q = refl
 
 found_one : (t u : Bool) (v : ℕ) → is_found (pick t (pick u (found.At v) found.Nothing) found.Nothing) ≡ t && u
@@ -327,7 +327,7 @@ module _ (room : ℕ) where
 
   any_one : (d : Declaration) (ds : List Declaration) → ds ≡ d ∷ [] → Readings.any_fresh ds ≡ true → is_fresh d.name ≡ true
   unfolding Readings.any_fresh
-  any_one d ds a e = or_false (is_fresh d.name) (rw a at e)
+  any_one d ds a e = or-false (is_fresh d.name) (rw a at e)
 
   alias_head : (rules : RuleSet) (kind n : ℕ) (b : Bool) (st : List (List ℕ)) (past : List Declaration) (ss : List Slot) (h : Head) (ys : List Row) → GoodHead rules kind h → is_inserted h ≡ true → is_in h.code (9 ∷ 10 ∷ 11 ∷ []) ≡ true → NoDecl ys → Known (here_t st) past ss → length ss < room
       → run n b st ss (head_rows h ++ ys) ≡ or_tried (no_alias n past h) (run (n + length (head_rows h)) true st (ss ++ head_names (here_t st) h) ys)
@@ -356,7 +356,7 @@ module _ (room : ℕ) where
 
   names_other : (k : ℕ) (h : Head) → is_in h.code (9 ∷ 10 ∷ 11 ∷ []) ≡ false → head_names k h ≡ []
   unfolding head_names if◌then◌else◌
-  names_other k h c = rw (c, and_false (is_inserted h))
+  names_other k h c = rw (c, and-false (is_inserted h))
 
   slot_within : (k : ℕ) (d : Declaration) → k < 65536 → d.space < 256 → Of k (k + 1) (decl_slot k d)
   unfolding decl_slot slot_t

@@ -1,6 +1,6 @@
 -- The rows of a form that is read, by its bytes behind the header.
 use Rattle.std.specs.Prelude.{◌≡◌, refl, Bool, true, false, ℕ, suc, ◌+◌, ◌-◌, ◌*◌, ◌/◌, ◌<◌, ◌≤◌, leb, eqb, get_or, drop}
-use Rattle.std.proofs.Common.{sym, ap, ◌∙◌, arith, add-one, length-drop, eqb_true, leb_true}
+use Rattle.std.proofs.Common.{sym, ap, ◌∙◌, arith, add-one, length-drop, eqb-true, leb-true}
 use Rattle.std.proofs.Math.Option.{Option, none, some}
 use mathlib.Core.List.{List, [], ◌∷◌, ◌++◌}
 use Rattle.std.proofs.Math.ListN.{length}
@@ -51,7 +51,7 @@ module _ (v : Setting) (l : List ℕ) (t : Scope) (e : read_form v l ≡ accepte
   count = row_count v.version l
 
   sized : length l ≡ v.version.header + 16 * count
-  sized = eqb_true (length l) (v.version.header + 16 * count) as_read.long
+  sized = eqb-true (length l) (v.version.header + 16 * count) as_read.long
 
   body_long : length body / 16 ≡ count
   body_long = omega (arith, sized, length-drop v.version.header l)
@@ -64,7 +64,7 @@ module _ (v : Setting) (l : List ℕ) (t : Scope) (e : read_form v l ≡ accepte
 
   pub rows_few : length (flatten t) ≤ v.version.rows
   rows_few =
-      let f = leb_true count v.version.rows (and_right (leb 1 count) (leb count v.version.rows) as_read.counted) in
+      let f = leb-true count v.version.rows (and_right (leb 1 count) (leb count v.version.rows) as_read.counted) in
       let a = all_rows_lem in
       omega arith
 

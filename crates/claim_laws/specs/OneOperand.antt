@@ -1,6 +1,6 @@
 -- Condition 4 for one operand: what the code finds of its row is what the rules say of it.
 use Rattle.std.proofs.Math.Path.{◌≡◌, refl, sym, ap}
-use Rattle.std.proofs.Common.{◌∙◌, lt-ltb, le-ltb, le-leb, eq-eqb, ne_eqb, eqb_true}
+use Rattle.std.proofs.Common.{◌∙◌, lt-ltb, le-ltb, le-leb, eq-eqb, ne_eqb, eqb-true}
 use Rattle.std.specs.Prelude.{Bool, ◌&&◌, ℕ, suc, ◌+◌, ◌*◌, ◌%◌, ◌<◌, ◌≤◌, eqb, leb, ltb, length, get_or}
 use Rattle.std.proofs.Math.Bool.{true, false}
 use Rattle.std.proofs.Math.Option.{Option, none, some}
@@ -156,8 +156,8 @@ module _ (claim : List ℕ) (ss : List Slot) (used kind name k : ℕ) (cs : Fiel
   unfolding up_t as_parts encode number flag up_number found pick
   up_is space (Num d) (Num n) z = unfold named_as in ap named.Out (omega arith)
   up_is space (Num d) (Id nm) z = unfold named_as in ap named.Out (omega arith)
-  up_is space (Id up) (Num n) z = known_named claim ss used st₀ envs 0 up opened_here ∙ ap (named_as claim ss used 0) (sym (found_refused (Rules.named envs up) Rules.no-scope 0))
-  up_is space (Id up) (Id nm) z = known_named claim ss used st₀ envs 0 up opened_here ∙ ap (named_as claim ss used 0) (sym (found_refused (Rules.named envs up) Rules.no-scope 0))
+  up_is space (Id up) (Num n) z = known_named claim ss used st₀ envs 0 up opened_here ∙ ap (named_as claim ss used 0) (sym (found_refused (Rules.named envs up) Rules.no_such_scope 0))
+  up_is space (Id up) (Id nm) z = known_named claim ss used st₀ envs 0 up opened_here ∙ ap (named_as claim ss used 0) (sym (found_refused (Rules.named envs up) Rules.no_such_scope 0))
 
   -- the index in it
   index_is : (s : List ℕ) (e : Env) (at : Index) (space z n : ℕ) (q : Parts) → OpenedAs claim ss used s e → space < 256 → LegalIndex top_name at → q.b ≡ space → q.y ≡ number at → ltb q.e 2 ≡ eqb (flag at) 0

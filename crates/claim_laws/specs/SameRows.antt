@@ -1,10 +1,10 @@
 -- Condition 2: on the rows of an input and of a claim the code finds the row that the rules name.
 use Rattle.std.specs.Prelude.{◌≡◌, Bool, true, false, ◌&&◌, ◌||◌, not, ℕ, zero, suc, ◌+◌, ◌-◌, ◌≤◌, eqb, ltb, length}
 use Rattle.std.proofs.Math.Path.{refl}
-use Rattle.std.proofs.Common.{sym, ap, ap₂, ◌∙◌, arith, add-one, lt-ltb, le-ltb, eqb_true, ne_eqb}
+use Rattle.std.proofs.Common.{sym, ap, ap₂, ◌∙◌, arith, add-one, lt-ltb, le-ltb, eqb-true, ne_eqb}
 use Rattle.std.proofs.Math.Bool.{and_assoc}
 use Rattle.std.proofs.Math.Option.{Option, none, some}
-use mathlib.Core.List.{List, [], ◌∷◌, ◌++◌, map, append_assoc, append-nil, map_append}
+use mathlib.Core.List.{List, [], ◌∷◌, ◌++◌, map, append_assoc, append-nil, map-append}
 use Rattle.rules.specs.Laws.ToolLaws.{eqb_same, All, done, ◌&◌}
 use Rattle.kit.specs.Pick.{pick}
 use Rattle.parts.specs.declared.Parts.{Parts}
@@ -78,7 +78,7 @@ same_raw (raw c b e x y z) (raw c' b' e' x' y' z') = go (eqb c c') refl
   where
     go : (t : Bool) → eqb c c' ≡ t
         → (t && (eqb b b' && ((eqb c 3 || (eqb c 5 || (eqb e e' && (eqb x x' && eqb y y')))) && eqb z z'))) ≡ same_parts (if is_in c (3 ∷ 5 ∷ []) then raw c b 0 0 0 z else raw c b e x y z) (if is_in c' (3 ∷ 5 ∷ []) then raw c' b' 0 0 0 z' else raw c' b' e' x' y' z')
-    go true h = rw (← eqb_true c c' h) (ap (λ (k : Bool). eqb b b' && k) (same_rest (eqb c 3) (eqb c 5) (eqb e e') (eqb x x') (eqb y y') (eqb z z')) ∙ sym (same_code (is_in c (3 ∷ 5 ∷ [])) c b e x y z b' e' x' y' z'))
+    go true h = rw (← eqb-true c c' h) (ap (λ (k : Bool). eqb b b' && k) (same_rest (eqb c 3) (eqb c 5) (eqb e e') (eqb x x') (eqb y y') (eqb z z')) ∙ sym (same_code (is_in c (3 ∷ 5 ∷ [])) c b e x y z b' e' x' y' z'))
     go false h = sym (other_code (is_in c (3 ∷ 5 ∷ [])) (is_in c' (3 ∷ 5 ∷ [])) c c' b e x y z b' e' x' y' z' h)
 
 same_row : (r r' : Row) → is_same_t (as_parts r) (as_parts r') ≡ same_parts (kept (encode r)) (kept (encode r'))
@@ -225,7 +225,7 @@ unfolding mark
 inside_row d e f r xs h p = goes_row d (suc e) f r xs (map added xs) h p
 
 inside_both : (d e f : ℕ) (xs ys : List Row) → Inside d xs e → Inside e ys f → Inside d (xs ++ ys) f
-inside_both d e f xs ys p q zs = goes_both d e f xs ys (map added xs) (map added ys) p q zs ∙ rw (map_append added xs ys)
+inside_both d e f xs ys p q zs = goes_both d e f xs ys (map added xs) (map added ys) p q zs ∙ rw (map-append added xs ys)
 
 inside_behind : (d : ℕ) (h : Head) → Inside (suc d) (behind_field h) (suc d)
 unfolding mark
@@ -287,7 +287,7 @@ item_added_lem : (d : ℕ) (i : Item) (ys : List Row) → is_inserted (head_of i
 unfolding flatten head_of mark
 item_added_lem d (plain h) ys e l n = head_goes d h ys true e l n
 item_added_lem d (holds h s) ys e l n =
-    rw (append_assoc (head_rows h) (flatten s) ys) (head_goes d h (flatten s ++ ys) true e l (scope_no_decl s ys) ∙ rw (inside_scope s 0 ys, map_append added (head_rows h) (flatten s), append_assoc))
+    rw (append_assoc (head_rows h) (flatten s) ys) (head_goes d h (flatten s ++ ys) true e l (scope_no_decl s ys) ∙ rw (inside_scope s 0 ys, map-append added (head_rows h) (flatten s), append_assoc))
 
 item_plain : (d : ℕ) (h : Head) (ys : List Row) → is_inserted h ≡ false → d ≤ 1 → NoDecl ys → marks d (item_rows (plain h) ++ ys) ≡ item_claimed (plain h) ++ marks 0 ys
 unfolding flatten scope_claimed mark

@@ -8,7 +8,7 @@ use lib.Dec.{eqb, leb, ltb}
 use lib.ListN.{length, get_or, set, take, replicate, length-replicate, length-set}
 use lib.Seq.{get_or-set_same, get_or-set_other, length-take-le}
 use borrow.Author.Rules.{rules}
-use borrow.Author.Tests.{lt-ltb, le-ltb, le-leb, lt-leb, eq-eqb, ne_eqb, eqb_true, ltb-true}
+use borrow.Author.Tests.{lt-ltb, le-ltb, le-leb, lt-leb, eq-eqb, ne_eqb, eqb-true, ltb-true}
 use Rattle.kit.specs.Pick.{pick}
 use Rattle.kit.specs.Out.{Out, ◌&◌}
 use Rattle.parts.specs.PartsAt.{parts_at}
@@ -168,11 +168,11 @@ module _ (scopes counts : List (List ℕ)) (d : ℕ) (p : Parts) (i : ℕ) (l : 
   by_code_lem : (t u v : Bool) → eqb p.code 7 ≡ t → eqb p.code 8 ≡ u → eqb p.code 2 ≡ v → (number r : ℕ) (scopes' counts' : List (List ℕ)) → (number & counts') ≡ count_before_t counts d p → (r & scopes') ≡ open_behind_t scopes d p i → Counted counts counts' d r number p
   unfolding count_before_t open_behind_t number_before_t counts_t pick
   by_code_lem true u v t w x number r scopes' counts' f e =
-      let n : eqb p.code 2 ≡ false = let c = eqb_true p.code 7 t in ne_eqb p.code 2 (omega arith) in
+      let n : eqb p.code 2 ≡ false = let c = eqb-true p.code 7 t in ne_eqb p.code 2 (omega arith) in
       let o = opened (ltb d (length scopes)) refl (r & scopes') (number & counts') (rw t at e) (rw t at f) in
       record { number_is = rw n o.0; are = rw t o.1; long = o.2 }
   by_code_lem false true v t w x number r scopes' counts' f e =
-      let n : eqb p.code 2 ≡ false = let c = eqb_true p.code 8 w in ne_eqb p.code 2 (omega arith) in
+      let n : eqb p.code 2 ≡ false = let c = eqb-true p.code 8 w in ne_eqb p.code 2 (omega arith) in
       let q : (r & scopes') ≡ (d - 1 & scopes) = rw (t, w) at e in
       let m : (number & counts') ≡ (0 & counts) = rw (t, n) at f in
       let r-is : r ≡ d - 1 = ap out_of q in

@@ -6,8 +6,8 @@ use Prim.Native.Nat.{ℕ, zero, suc, ◌+◌, ◌-◌, ◌<◌, ◌≤◌}
 use native.Mathlib.Omega.{arith}
 use lib.Dec.{eqb, ltb}
 use lib.ListN.{length, get_or, set, take, drop, length-set, length-append, take-append-drop}
-use lib.Seq.{get_or-set_same, get_or-set_other, length-take-le, drop-set-lt, drop_drop}
-use borrow.Author.Tests.{lt-ltb, le-ltb, eqb_true, ltb-true, ltb-false}
+use lib.Seq.{get_or-set_same, get_or-set_other, length-take-le, drop-set-lt, drop-drop}
+use borrow.Author.Tests.{lt-ltb, le-ltb, eqb-true, ltb-true, ltb-false}
 use Rattle.kit.specs.Pick.{pick}
 use Rattle.kit.specs.Out.{Out, ◌&◌}
 use Rattle.kit.proofs.Laws.{take_next_set}
@@ -101,7 +101,7 @@ module _ (before table : List Slot) (used : ℕ) (s : Slot) (h : Laid before tab
       record {
         are = rw (r-is, t-is, take_next_set table used s l, n, ← h.long, t);
         laid = record {
-          kept = rw (r-is, t-is, drop-set-lt (used + 1) table used s (omega arith)) (sym (drop_drop 1 used table) ∙ ap (drop 1) h.kept ∙ drop_drop 1 used before);
+          kept = rw (r-is, t-is, drop-set-lt (used + 1) table used s (omega arith)) (sym (drop-drop 1 used table) ∙ ap (drop 1) h.kept ∙ drop-drop 1 used before);
           long = rw (t-is, length-set table used s) h.long;
           room = rw (r-is, t-is, length-set table used s) (omega arith);
         };

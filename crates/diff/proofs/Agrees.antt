@@ -11,7 +11,7 @@ use lib.Seq.{sets, sets-eq, drop_at}
 use mir.Syntax.{w8}
 use mir.Val.{Fits}
 use borrow.Author.Rules.{rules}
-use borrow.Author.Tests.{ltb-false, eqb_true, leb_true}
+use borrow.Author.Tests.{ltb-false, eqb-true, leb-true}
 use Rattle.kit.specs.Pick.{pick}
 use Rattle.kit.specs.Out.{Out, ◌&◌}
 use Rattle.rules.specs.Tools.{if◌then◌else◌, between}
@@ -64,13 +64,13 @@ module _ (i : ℕ) where
     counted = as_read.counted
 
     some_rows : 1 ≤ count
-    some_rows = leb_true 1 _ (and_left (leb 1 count) (leb count (4 * (setting i).version.rows)) counted)
+    some_rows = leb-true 1 _ (and_left (leb 1 count) (leb count (4 * (setting i).version.rows)) counted)
 
     few : count ≤ 65532
-    few = let h = leb_true _ (4 * (setting i).version.rows) (and_right (leb 1 count) (leb count (4 * (setting i).version.rows)) counted) in omega (arith, few_rows i)
+    few = let h = leb-true _ (4 * (setting i).version.rows) (and_right (leb 1 count) (leb count (4 * (setting i).version.rows)) counted) in omega (arith, few_rows i)
 
     sized : length l ≡ header + 16 * count
-    sized = eqb_true (length l) (header + 16 * count) as_read.long
+    sized = eqb-true (length l) (header + 16 * count) as_read.long
 
     body_long : length (drop header l) / 16 ≡ count
     body_long = omega (arith, sized, length-drop header l)

@@ -8,7 +8,7 @@ use native.Mathlib.Omega.{arith}
 use native.Mathlib.Nat.{add-zero}
 use lib.Dec.{eqb, leb, ltb}
 use lib.ListN.{length, get_or, take, drop, length-append}
-use lib.Seq.{get_or-drop, drop_drop, take_at, drop_at}
+use lib.Seq.{get_or-drop, drop-drop, take_at, drop_at}
 use borrow.Author.Tests.{lt-ltb, le-ltb, lt-leb, le-leb, eq-eqb, ne_eqb}
 use Rattle.kit.specs.Pick.{pick}
 use Rattle.rules.specs.Tools.{if◌then◌else◌}
@@ -58,7 +58,7 @@ raw_there : (l : List ℕ) (i : ℕ) → i < length l / 16 → raw_of (parts_at 
 unfolding parts_at parts_in pick raw_at
 raw_there l i h =
     let a = 16 * i in
-    rw (lt-leb _ _ h) (sym (rw (drop_drop 1 a l, drop_drop 2 a l, drop_drop 4 a l, drop_drop 8 a l, drop_drop 12 a l, value_one l a, value_one l (a + 1), value_two l (a + 2), value_four l (a + 4), value_four l (a + 8), value_four l (a + 12))))
+    rw (lt-leb _ _ h) (sym (rw (drop-drop 1 a l, drop-drop 2 a l, drop-drop 4 a l, drop-drop 8 a l, drop-drop 12 a l, value_one l a, value_one l (a + 1), value_two l (a + 2), value_four l (a + 4), value_four l (a + 8), value_four l (a + 12))))
 
 pub at_rows : (top count : ℕ) (l : List ℕ) (i : ℕ) (rs : List Row) → map some rs ≡ rows_of top count (drop (16 * i) l) → length l / 16 ≡ i + count → At l i rs
 unfolding rows_of decode_row
@@ -67,7 +67,7 @@ at_rows top zero l i (r ∷ rs) e h = absurd (cons≢nil e)
 at_rows top (suc count) l i [] e h = tt
 at_rows top (suc count) l i (r ∷ rs) e h =
     let n : 16 * i + 16 ≡ 16 * (i + 1) = omega arith in
-    let next : drop 16 (drop (16 * i) l) ≡ drop (16 * (i + 1)) l = drop_drop 16 (16 * i) l ∙ ap (λ (k : ℕ). drop k l) n in
+    let next : drop 16 (drop (16 * i) l) ≡ drop (16 * (i + 1)) l = drop-drop 16 (16 * i) l ∙ ap (λ (k : ℕ). drop k l) n in
     let first : encode r ≡ raw_at (drop (16 * i) l) = ok_at _ _ r (decode_parts top (raw_at (drop (16 * i) l))) (sym (head-eq_of_cons-eq e)) in (
       raw_there l i (omega arith) ∙ sym first,
       at_rows top count l (i + 1) rs (tail-eq_of_cons-eq e ∙ ap (rows_of top count) next) (omega arith),
@@ -95,7 +95,7 @@ held_second r i xs ys h =
     let k = rows_length xs in
     record {
       more = h.more;
-      holds = ap (λ (a : ℕ). drop a r) (sym n) ∙ sym (drop_drop (16 * length xs) (16 * i) r) ∙ ap (drop (16 * length xs)) (h.holds ∙ ap (λ (l : List ℕ). l ++ h.more) (bytes_append xs ys) ∙ append_assoc (rows_bytes xs) (rows_bytes ys) h.more)
+      holds = ap (λ (a : ℕ). drop a r) (sym n) ∙ sym (drop-drop (16 * length xs) (16 * i) r) ∙ ap (drop (16 * length xs)) (h.holds ∙ ap (λ (l : List ℕ). l ++ h.more) (bytes_append xs ys) ∙ append_assoc (rows_bytes xs) (rows_bytes ys) h.more)
           ∙ drop_at (rows_bytes xs) (rows_bytes ys ++ h.more) (16 * length xs) k;
     }
 

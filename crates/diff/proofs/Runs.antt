@@ -7,7 +7,7 @@ use native.Mathlib.Omega.{arith}
 use lib.Dec.{eqb, leb}
 use lib.ListN.{length, take, drop, length-append, length-drop}
 use lib.Seq.{sets, length-sets, take_all}
-use borrow.Author.Tests.{lt-ltb, le-ltb, lt-leb, leb_false, eqb_true}
+use borrow.Author.Tests.{lt-ltb, le-ltb, lt-leb, leb-false, eqb-true}
 use Rattle.kit.specs.Pick.{pick}
 use Rattle.kit.specs.Out.{◌&◌}
 use Rattle.kit.proofs.Laws.{sets_append}
@@ -49,7 +49,7 @@ lone_is l from to = go (leb to from) refl
   where
     go : (b : Bool) → leb to from ≡ b → pick b false (eqb (field_end l from) to) ≡ true → (from < to) × (field_end l from ≡ to)
     go true e h = false_not h
-    go false e h = (leb_false to from e, eqb_true (field_end l from) to h)
+    go false e h = (leb-false to from e, eqb-true (field_end l from) to h)
 
 module _ (l r : List ℕ) (from end other : ℕ) (p : pair_t l r from end other ≡ true) where
   parts_are : (lone_t l from end ≡ true) × (lone_t r from other ≡ true)

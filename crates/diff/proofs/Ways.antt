@@ -8,7 +8,7 @@ use native.Mathlib.Omega.{arith}
 use lib.Dec.{eqb, leb, ltb}
 use lib.ListN.{length, take, drop, length-append, length-drop}
 use lib.Seq.{sets, length-sets, length-take-le}
-use borrow.Author.Tests.{lt-ltb, le-ltb, le-leb, lt-leb, leb_false}
+use borrow.Author.Tests.{lt-ltb, le-ltb, le-leb, lt-leb, leb-false}
 use Rattle.kit.specs.Pick.{pick}
 use Rattle.kit.proofs.Laws.{sets_append, pick_has, lt_or_le}
 use Rattle.rules.specs.Rows.{bytes}
@@ -241,7 +241,7 @@ fields_long_lem F l carried to f (suc most) i = go (ltb i to) (leb (field_end l 
     go false t h rec = refl
     go true true h rec = refl
     go true false h rec =
-        let k : i < field_end l i = leb_false (field_end l i) i h in
+        let k : i < field_end l i = leb-false (field_end l i) i h in
         omega (arith, length-append (F i (field_end l i)) (fields_t F l to (field_end l i) most), f i (field_end l i) k (end_within l i k))
 
 -- ---- a lone field

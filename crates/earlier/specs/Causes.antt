@@ -15,7 +15,7 @@ use Rattle.rules.specs.Shapes.{here_only}
 use Rattle.rules.specs.Rules as steps
 use Rattle.rules.specs.Rules.{Refusal, not_earlier, Before, Entry, decls_in, table_of, opened, refused, ok, ◌>>=◌, Env, Outside, onward, inward, find, fresh, expand_operand, expand_operands, expand_head, expand_fields, path_aliases, export_alias, outer_alias, declarations, prepare, resolve_operands, resolve_head, resolve_inserted, resolve_scope, resolve_fields, resolve_item}
 use Rattle.rules.specs.Readings.{originals}
-use Rattle.rules.specs.Laws.ToolLaws.{false_not, and_left, and_right, leb_false}
+use Rattle.rules.specs.Laws.ToolLaws.{false_not, and_left, and_right, leb-false}
 use Rattle.rules.specs.Laws.Results.{OkR, holds_of, bind_ok, bind_any, if_both, RefR, Is, bind_ref, if_ref_lem, ref_weaker, self_ref, not_refused, some_same}
 use Rattle.rules.specs.Laws.Entries.{number_is}
 use Rattle.rules.specs.Laws.Meaning.Names.{LowScope, LowFields, LowItem}
@@ -155,7 +155,7 @@ module _ (here : Env) (outside : Outside) where
   fresh_instance : {X : Type 0} (from k z : ℕ) → steps.late_instance here outside (ref from (Id (fresh k)) [] z ∷ []) ≡ true → X
   unfolding steps.late_instance fresh
   fresh_instance from k z e =
-      false_not (sym (leb_false (2147483648 + k) top_name (omega arith)) ∙ and_left (leb (2147483648 + k) top_name) _ (and_right outside.early _ e))
+      false_not (sym (leb-false (2147483648 + k) top_name (omega arith)) ∙ and_left (leb (2147483648 + k) top_name) _ (and_right outside.early _ e))
 
   paths_c : (Q : ℕ → Type 0) (space : ℕ) (at : Index) (p : ℕ) (ps : List ℕ) (z k : ℕ) → (steps.late_instance here outside (ref (instance_space space ps) at [] z ∷ []) ≡ true → Q z) → Heads Q (path_aliases space at p ps z k)
   unfolding path_aliases instance_space

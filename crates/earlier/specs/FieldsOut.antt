@@ -10,7 +10,7 @@ use Rattle.rules.specs.Tree.{Declaration, Head, Fields, end, ◌▸◌, Item, pl
 use Rattle.rules.specs.Rules.{Before, ok, Env, Outside, onward, Expanded, expand_head, heads_decls, ◌before◌, resolve_head, resolve_inserted, resolve_item, resolve_fields}
 use Rattle.rules.specs.Readings.{is_inserted, originals}
 use Rattle.rules.specs.Explainer.{items, renumbered}
-use Rattle.rules.specs.Laws.ToolLaws.{or_true}
+use Rattle.rules.specs.Laws.ToolLaws.{or-true}
 use Rattle.rules.specs.Laws.Results.{some_same, no_option}
 use Rattle.rules.specs.Laws.Meaning.Names.{LowHead, LowFields, LowItem}
 use Rattle.rules.specs.Laws.Meaning.Lookups as lookups
@@ -70,7 +70,7 @@ has_left xs ys space name e = has_append xs ys space name ∙ ap (λ (b : Bool).
 
 -- what is in the second of two lists is in both together
 pub has_right : (xs ys : List Declaration) (space name : ℕ) → has ys space name ≡ true → has (xs ++ ys) space name ≡ true
-has_right xs ys space name e = has_append xs ys space name ∙ (ap (λ (b : Bool). has xs space name || b) e ∙ or_true (has xs space name))
+has_right xs ys space name e = has_append xs ys space name ∙ (ap (λ (b : Bool). has xs space name || b) e ∙ or-true (has xs space name))
 
 -- with others between
 has_between : (xs ys zs : List Declaration) (space name : ℕ) → has (xs ++ zs) space name ≡ true → has (xs ++ (ys ++ zs)) space name ≡ true

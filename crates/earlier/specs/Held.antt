@@ -15,7 +15,7 @@ use Rattle.rules.specs.Rules as steps
 use Rattle.rules.specs.Rules.{not_earlier, table_of, opened, refused, ok, Env, Outside, at_root, find, declarations, resolve_inside}
 use Rattle.rules.specs.Readings as readings
 use Rattle.rules.specs.Readings.{originals, Place, Level, level, Use, declared, outward, place_from}
-use Rattle.rules.specs.Laws.ToolLaws.{false_not, and_left, and_right, leb_true, then_some}
+use Rattle.rules.specs.Laws.ToolLaws.{false_not, and_left, and_right, leb-true, then_some}
 use Rattle.rules.specs.Laws.Results.{holds_of, bind_inv, no_result, ok_same, ref_of_lem, some_same, no_option}
 use Rattle.rules.specs.Laws.Meaning.Names.{LowHead, LowScope, LowFields}
 use Rattle.rules.specs.Laws.Meaning.Lookups as lookups
@@ -198,7 +198,7 @@ walked_is h space name z e = rw e
 timely_instance : (here : Env) (o : Outside) (from name z : ℕ) → o.early ≡ true → name ≤ top_name → steps.late_instance here o (ref from (Id name) [] z ∷ []) ≡ false
     → steps.comes_later (table_of here) o.before.decls from name ≡ false
 unfolding steps.late_instance
-timely_instance here o from name z early low e = rw (early, leb_true low) at e
+timely_instance here o from name z early low e = rw (early, leb-true low) at e
 
 timely_index : (early : Bool) (e : Env) (space name : ℕ) → early ≡ true → steps.late_index early e space (Id name) ≡ false → steps.comes_later (table_of e) e.before space name ≡ false
 unfolding steps.late_index

@@ -19,7 +19,7 @@ use Rattle.rules.specs.Readings as readings
 use Rattle.rules.specs.Readings.{is_inserted, Place, Level, level, place_from, first_named}
 use Rattle.rules.specs.Explainer as explainer
 use Rattle.rules.specs.Explainer.{items, enclosing, Standing, standing_in, standing_inside, Definition, explained, renumbered, reached, among_inside}
-use Rattle.rules.specs.Laws.ToolLaws.{false_not, then_some, or_cases, eqb_true}
+use Rattle.rules.specs.Laws.ToolLaws.{false_not, then_some, or_cases, eqb-true}
 use Rattle.rules.specs.Laws.Results.{holds_of, some_same, no_option}
 use Rattle.rules.specs.Laws.Meaning.Names.{LowScope}
 use Rattle.rules.specs.Laws.Meaning.Lookups as lookups
@@ -74,10 +74,10 @@ found_number (some n) e = (n, refl)
 four_aliasable : (space : ℕ) → is_in space FOUR ≡ true → explainer.aliasable space ≡ true
 unfolding explainer.aliasable
 four_aliasable space e =
-    or_cases (eqb space 4) _ e (λ t. rw (eqb_true space 4 t))
-    (λ e₁. or_cases (eqb space 7) _ e₁ (λ t. rw (eqb_true space 7 t))
-    (λ e₂. or_cases (eqb space 9) _ e₂ (λ t. rw (eqb_true space 9 t))
-    (λ e₃. or_cases (eqb space 11) _ e₃ (λ t. rw (eqb_true space 11 t)) (λ e₄. false_not e₄))))
+    or_cases (eqb space 4) _ e (λ t. rw (eqb-true space 4 t))
+    (λ e₁. or_cases (eqb space 7) _ e₁ (λ t. rw (eqb-true space 7 t))
+    (λ e₂. or_cases (eqb space 9) _ e₂ (λ t. rw (eqb-true space 9 t))
+    (λ e₃. or_cases (eqb space 11) _ e₃ (λ t. rw (eqb-true space 11 t)) (λ e₄. false_not e₄))))
 
 -- what it denotes, by the explainer's reading
 explained_is : (ls : List Level) (space new count index z : ℕ) (l : Level) → is_in space FOUR ≡ true → get_elem? ls count ≡ some l

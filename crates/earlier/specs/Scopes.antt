@@ -12,7 +12,7 @@ use Rattle.rules.specs.Rules as steps
 use Rattle.rules.specs.Rules.{table_of, Before, opened, ok, Env, Outside, find, prepare}
 use Rattle.rules.specs.Readings as readings
 use Rattle.rules.specs.Readings.{Place, Level, level, outward}
-use Rattle.rules.specs.Laws.ToolLaws.{false_not, not_true}
+use Rattle.rules.specs.Laws.ToolLaws.{false_not, not-true}
 use Rattle.rules.specs.Laws.Results.{bind_inv, ok_same, no_option, some_same, no_result}
 use Rattle.rules.specs.Laws.Meaning.Names.{LowScope}
 use Rattle.rules.specs.Laws.Meaning.Lookups.{has}
@@ -128,14 +128,14 @@ pub late_declaration : (base way : List ℕ) (f o : ℕ) (d : Option Place) → 
     → (x : Place) × (d ≡ some x) × (readings.is_earlier x (record { way = base ++ way; field = f; at = o }) ≡ false)
 unfolding late_by readings.is_earlier
 late_declaration base way f o none e = false_not e
-late_declaration base way f o (some x) e = (x, refl, not_true _ e)
+late_declaration base way f o (some x) e = (x, refl, not-true _ e)
 
-not_false : (b : Bool) → not b ≡ false → b ≡ true
-not_false true e = refl
-not_false false e = sym e
+not-false : (b : Bool) → not b ≡ false → b ≡ true
+not-false true e = refl
+not-false false e = sym e
 
 -- not late: the declaration stands earlier
 pub early_declaration : (base way : List ℕ) (f o : ℕ) (d : Place) → late_by ((base ++ way) ++ (f ∷ [])) (some d) ≡ false
     → readings.is_earlier d (record { way = base ++ way; field = f; at = o }) ≡ true
 unfolding late_by readings.is_earlier
-early_declaration base way f o d e = not_false _ e
+early_declaration base way f o d e = not-false _ e

@@ -1,6 +1,6 @@
 -- The header as the code tests it is the rules' header.
 use mathlib.Core.Path.{◌≡◌, refl, sym, ap, ◌∙◌}
-use mathlib.Core.Bool.{Bool, true, false, ◌&&◌, not, and_true, and_false, and_assoc}
+use mathlib.Core.Bool.{Bool, true, false, ◌&&◌, not, and-true, and-false, and_assoc}
 use mathlib.Core.Option.{Option, none, some}
 use mathlib.Core.List.{List, [], ◌∷◌}
 use native.Mathlib.Omega.{arith}
@@ -9,7 +9,7 @@ use lib.Dec.{eqb, leb, ltb}
 use lib.ListN.{length, get_or, take, drop, drop_of_length-le}
 use lib.Seq.{drop-cons, get_or-take, length-take-le}
 use borrow.Author.Rules.{rules}
-use borrow.Author.Tests.{not_true, not_false}
+use borrow.Author.Tests.{not-true, not-false}
 use Rattle.kit.specs.Pick.{pick}
 use Rattle.kit.proofs.Laws.{tests, yes!, no! }
 use Rattle.rules.specs.Tools.{if◌then◌else◌, only, zeros, ◌or_else◌}
@@ -63,15 +63,15 @@ high_byte n h = omega arith
 marked_right : (s : Setting) → s.version.number < 256 → s.rules.number < 256 → (l : List ℕ) → same_numbers (take 6 l) (mark s) ≡ is_marked_t s.version.number s.rules.number l
 unfolding is_marked_t mark same_numbers bytes pick
 marked_right s v r [] = refl
-marked_right s v r (a ∷ []) = simp (and_false, and_assoc)
-marked_right s v r (a ∷ b ∷ []) = simp (and_false, and_assoc)
-marked_right s v r (a ∷ b ∷ c ∷ []) = simp (and_false, and_assoc)
-marked_right s v r (a ∷ b ∷ c ∷ d ∷ []) = simp (and_false, and_assoc)
-marked_right s v r (a ∷ b ∷ c ∷ d ∷ e ∷ []) = simp (and_false, and_assoc)
+marked_right s v r (a ∷ []) = simp (and-false, and_assoc)
+marked_right s v r (a ∷ b ∷ []) = simp (and-false, and_assoc)
+marked_right s v r (a ∷ b ∷ c ∷ []) = simp (and-false, and_assoc)
+marked_right s v r (a ∷ b ∷ c ∷ d ∷ []) = simp (and-false, and_assoc)
+marked_right s v r (a ∷ b ∷ c ∷ d ∷ e ∷ []) = simp (and-false, and_assoc)
 marked_right s v r (a ∷ b ∷ c ∷ d ∷ e ∷ f ∷ l) =
     let n = suc (suc (suc (suc (suc (suc (length l)))))) in
     let t : ltb n 6 ≡ false = omega tests in
-    rw (t, low_byte s.version.number v, high_byte s.version.number v, low_byte s.rules.number r) (simp (and_true, and_assoc))
+    rw (t, low_byte s.version.number v, high_byte s.version.number v, low_byte s.rules.number r) (simp (and-true, and_assoc))
 
 -- what `is_marked` finds
 module _ (v r : ℕ) (l : List ℕ) where
@@ -143,14 +143,14 @@ module _ (lim : Limits) (l : List ℕ) (h : ℕ) (is : h ≡ lim.header) where
     unfolding has_header
     header_other n =
         let t : leb (setting_in lim).version.header (length l) ≡ true = unfold setting_in in omega tests in
-        rw (t, marked, not_true m n) refl
+        rw (t, marked, not-true m n) refl
 
     pub header_rest : not m ≡ false → (from : ℕ) → from ≡ 6 + pick lim.wide 4 2 → (z : Bool) → z ≡ zeros (drop from (take h l)) → z ≡ has_header (setting_in lim) l
     unfolding has_header
     header_rest n from f z zs =
         let t : leb (setting_in lim).version.header (length l) ≡ true = unfold setting_in in omega tests in
         let k : zeros (drop (6 + (setting_in lim).version.counting) (take (setting_in lim).version.header l)) ≡ z = unfold setting_in in sym (rw (← is, ← f) zs) in
-        rw (t, marked, not_false m n, k) refl
+        rw (t, marked, not-false m n, k) refl
 
 -- the ways through `has_header`
 pub ruleset mark_ways = (header_short, header_other, header_rest, rules)
@@ -158,12 +158,12 @@ pub ruleset mark_ways = (header_short, header_other, header_rest, rules)
 module _ (lim : Limits) (l : List ℕ) (m : Bool) (is : m ≡ has_header (setting_in lim) l) where
   pub not_headed : not m ≡ true → Wrong ≡ header_to lim l
   unfolding header_to header_for only
-  not_headed e = rw (← is, not_true m e) refl
+  not_headed e = rw (← is, not-true m e) refl
 
   module _ (e : not m ≡ false) where
     headed : header_in (setting_in lim).version l ≡ header_to lim l
     unfolding header_to header_for only
-    headed = rw (← is, not_false m e) refl
+    headed = rw (← is, not-false m e) refl
 
     module _ (n : ℕ) (got : n ≡ row_count_t lim.wide l) where
       counted : row_count (setting_in lim).version l ≡ n

@@ -1,7 +1,7 @@
 -- The references of a scope are marked as the rules mark them, while the scopes inside it stay as they are.
 use Rattle.std.specs.Prelude.{◌≡◌, Bool, ◌&&◌, not, eqb, ltb, drop}
 use Rattle.std.proofs.Math.Path.{refl}
-use Rattle.std.proofs.Common.{sym, ap, ap₂, ◌∙◌, length-set, drop_at, lt-ltb, eqb_true}
+use Rattle.std.proofs.Common.{sym, ap, ap₂, ◌∙◌, length-set, drop_at, lt-ltb, eqb-true}
 use Rattle.std.proofs.Math.Bool.{true, false}
 use Rattle.std.proofs.Math.Option.{Option, none, some}
 use mathlib.Core.List.{List, [], ◌∷◌, ◌++◌, append_assoc, append-nil}
@@ -273,7 +273,7 @@ module _ (here : List Declaration) (own room : ℕ) where
       absent e f = same sp n ∙ (rw (← e, ← f, none_yet))
 
       go : (t u : Bool) → eqb space sp ≡ t → eqb name n ≡ u → pick (is_found F) F (pick (t && u) (FoundAt (fresh k)) Nothing) ≡ alias_of (if t && u then some k else served_by seen sp n)
-      go true true e f = unfold pick in (rw (absent (eqb_true space sp e) (eqb_true name n f)))
+      go true true e f = unfold pick in (rw (absent (eqb-true space sp e) (eqb-true name n f)))
       go true false e f = unfold pick in rest F ∙ same sp n
       go false u e f = unfold pick in rest F ∙ same sp n
 

@@ -1,13 +1,13 @@
 -- What the code finds alike in the rows of two forms is what the rules find alike in their fields.
 use mathlib.Core.Path.{◌≡◌, refl, sym, ap, ap₂, ◌∙◌}
-use mathlib.Core.Bool.{Bool, true, false, ◌&&◌, and_true, and_assoc}
+use mathlib.Core.Bool.{Bool, true, false, ◌&&◌, and-true, and_assoc}
 use mathlib.Core.List.{List, [], ◌∷◌, ◌++◌, map, append-nil, append_assoc, reverse, reverse-cons, reverse-append}
 use Prim.Native.Nat.{ℕ, zero, suc, ◌+◌, ◌-◌, ◌/◌, ◌<◌, ◌≤◌}
 use native.Mathlib.Omega.{arith}
 use lib.Dec.{eqb, leb, ltb}
 use lib.ListN.{length, take, drop, length-append, length-map, length-reverse, length-drop, take-append-drop}
 use lib.Seq.{take_at}
-use borrow.Author.Tests.{lt-ltb, le-ltb, le-leb, lt-leb, eq-eqb, ne_eqb, eqb_true, eqb_false}
+use borrow.Author.Tests.{lt-ltb, le-ltb, le-leb, lt-leb, eq-eqb, ne_eqb, eqb-true, eqb-false}
 use Rattle.kit.specs.Pick.{pick}
 use Rattle.kit.proofs.Laws.{lt_or_le}
 use Rattle.rules.specs.Tools.{if◌then◌else◌}
@@ -51,7 +51,7 @@ module _ (c : Choice) where
 
   same_parts_lem : (a b : Raw) (u v : List ℕ) → same_numbers (six_parts a ++ u) (six_parts b ++ v) ≡ (same_numbers (six_parts a ++ []) (six_parts b ++ []) && same_numbers u v)
   unfolding six_parts same_numbers
-  same_parts_lem (raw code b e x y z) (raw code' b' e' x' y' z') u v = simp (and_true, and_assoc)
+  same_parts_lem (raw code b e x y z) (raw code' b' e' x' y' z') u v = simp (and-true, and_assoc)
 
   same_cons : (x y : Row) (xs ys : List Row) → same c (x ∷ xs) (y ∷ ys) ≡ (same c (x ∷ []) (y ∷ []) && same c xs ys)
   unfolding same rows_parts
@@ -128,12 +128,12 @@ module _ (c : Choice) where
       where
         go : (b : Bool) → eqb (i + length (item_rows y)) (i + length (item_rows x)) ≡ b → pick b (same_run_t c l r i (i + length (item_rows x) - i)) false ≡ same c (item_rows x) (item_rows y)
         go true e =
-            let h = eqb_true (i + length (item_rows y)) (i + length (item_rows x)) e in
+            let h = eqb-true (i + length (item_rows y)) (i + length (item_rows x)) e in
             let n : i + length (item_rows x) - i ≡ length (item_rows x) = omega arith in
             let p : length (item_rows x) ≡ length (item_rows y) = omega arith in
             ap (same_run_t c l r i) n ∙ run_same l r (item_rows x) (item_rows y) i (item_at l i x ls s) (item_at r i y rs t) p
         go false e =
-            let h = eqb_false (i + length (item_rows y)) (i + length (item_rows x)) e in
+            let h = eqb-false (i + length (item_rows y)) (i + length (item_rows x)) e in
             sym (never_same (item_rows x) (item_rows y) (λ q. h (omega arith)))
 
     next_none : (i : ℕ) (rs : List Item) → Stands l i [] → next_t c l r i ≡ i

@@ -7,7 +7,7 @@ use native.Mathlib.Omega.{arith}
 use lib.Dec.{leb, ltb}
 use lib.ListN.{length, take, drop, length-append, length-reverse, length-drop, take-append-drop}
 use lib.Seq.{take_at}
-use borrow.Author.Tests.{lt-ltb, le-ltb, le-leb, lt-leb, leb_true, leb_false, ltb-true, ltb-false}
+use borrow.Author.Tests.{lt-ltb, le-ltb, le-leb, lt-leb, leb-true, leb-false, ltb-true, ltb-false}
 use Rattle.kit.specs.Pick.{pick}
 use Rattle.rules.specs.Tools.{if◌then◌else◌}
 use Rattle.rules.specs.Rows.{Row, Close, encode}
@@ -95,7 +95,7 @@ module _ (c : Choice) where
     where
       go : (b : Bool) → leb (length (item_rows y)) n ≡ b → (n - length (item_rows y) < size xs + length (item_rows x) → fitting (n - length (item_rows y)) (xs ++ (x ∷ [])) ≡ fitting (n - length (item_rows y)) xs)
           → (if b then suc (fitting (n - length (item_rows y)) (xs ++ (x ∷ []))) else 0) ≡ (if b then suc (fitting (n - length (item_rows y)) xs) else 0)
-      go true e rec = ap suc (rec (omega (arith, leb_true (length (item_rows y)) n e, length-append (item_rows y) (items_rows xs))))
+      go true e rec = ap suc (rec (omega (arith, leb-true (length (item_rows y)) n e, length-append (item_rows y) (items_rows xs))))
       go false e rec = refl
 
   fit_low : (n : ℕ) (xs : List Item) → fitting n xs ≤ length xs

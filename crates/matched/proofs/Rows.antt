@@ -1,6 +1,6 @@
 -- A row as the code counts it is the rules' row as it counts.
 use mathlib.Core.Path.{◌≡◌, refl, sym, ap, ◌∙◌}
-use mathlib.Core.Bool.{Bool, true, false, ◌&&◌, ◌||◌, and_true}
+use mathlib.Core.Bool.{Bool, true, false, ◌&&◌, ◌||◌, and-true}
 use mathlib.Core.List.{List, [], ◌∷◌, ◌++◌, append-nil}
 use Prim.Native.Nat.{ℕ, zero, suc, ◌/◌, ◌%◌, ◌<◌, ◌≤◌}
 use native.Mathlib.Omega.{arith}
@@ -92,7 +92,7 @@ counted_is c p = rw (number_is c (is_name_x p.code p.e) p.x, number_is c (is_nam
 
 all_same_lem : (p q : Parts) → all_same p q ≡ same_numbers (six_parts (raw_of p) ++ []) (six_parts (raw_of q) ++ [])
 unfolding all_same six_parts same_numbers
-all_same_lem p q = simp and_true
+all_same_lem p q = simp and-true
 
 -- Rows are found the same by their parts as by the rules.
 pub same_row : (c : Choice) (p q : Parts) (x y : Row) → raw_of p ≡ encode x → raw_of q ≡ encode y → same_t c p q ≡ same c (x ∷ []) (y ∷ [])

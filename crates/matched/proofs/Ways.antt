@@ -7,7 +7,7 @@ use native.Mathlib.Omega.{arith}
 use lib.Dec.{eqb, leb, ltb}
 use lib.ListN.{length}
 use borrow.Author.Rules.{rules}
-use borrow.Author.Tests.{leb_false, lt-ltb, le-ltb, le-leb, lt-leb, eq-eqb, ne_eqb}
+use borrow.Author.Tests.{leb-false, lt-ltb, le-ltb, le-leb, lt-leb, eq-eqb, ne_eqb}
 use Rattle.kit.specs.Pick.{pick}
 use Rattle.kit.proofs.Laws.{left_suc, down_suc}
 use Rattle.parts.specs.PartsAt.{parts_at}
@@ -192,7 +192,7 @@ module _ (c : Choice) (l r : List ℕ) (from : ℕ) where
     where
       go : (t : Bool) → leb (length r / 16) (from + 1 + s) ≡ t → pick t false (same_t c (parts_at l (length l / 16 - 2 - s)) (parts_at r (length r / 16 - 2 - s))) ≡ true → s + 1 ≤ length r / 16 - (from + 1)
       go true h w = false_not w
-      go false h w = let g : from + 1 + s < length r / 16 = leb_false _ _ h in omega arith
+      go false h w = let g : from + 1 + s < length r / 16 = leb-false _ _ h in omega arith
 
   -- the rows of the left behind `from`, but for the CLOSE
   abbrev k : ℕ

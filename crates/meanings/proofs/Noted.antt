@@ -5,7 +5,7 @@ use mathlib.Core.Logic.{◌⊎◌, inl, inr}
 use mathlib.Core.List.{List}
 use native.Mathlib.Omega.{arith}
 use Prim.Native.Nat.{ℕ, zero, suc, ◌+◌, ◌-◌, ◌/◌, ◌≤◌, ◌<◌}
-use borrow.Author.Tests.{ltb-true, leb_true, eqb_true}
+use borrow.Author.Tests.{ltb-true, leb-true, eqb-true}
 use lib.Dec.{eqb, ltb, leb}
 use lib.ListN.{length, get_or, set, length-set}
 use lib.Seq.{get_or-set_same, get_or-set_other}
@@ -108,7 +108,7 @@ module _ (form : List ℕ) (entries : List Entry) (row : ℕ) where
   entry_is h =
       let few = both_true (leb (rows_in form) 4096) _ h in
       let there = both_true (ltb row (rows_in form)) _ few.1 in
-      let a = leb_true (rows_in form) 4096 few.0 in
+      let a = leb-true (rows_in form) 4096 few.0 in
       let b = ltb-true row (rows_in form) there.0 in
       let c = ltb-true row (length (noted form entries)) there.1 in
       let l = note_length form entries 0 (rows_in form) in
@@ -123,7 +123,7 @@ module _ (form : List ℕ) (entries : List Entry) (row : ℕ) where
     where
       by : (b : Bool) → eqb (code_at form row) 2 ≡ b → meant_by form row ≡ meaning_of form row
       by true e =
-          let f : false ≡ true = rw (eqb_true (code_at form row) 2 e) at r in
+          let f : false ≡ true = rw (eqb-true (code_at form row) 2 e) at r in
           absurd (let z : ◌≡◌ {A = ℕ} 0 1 = cc in omega arith)
       by false e = sym (no! _ e (yes! _ r refl))
 
@@ -153,7 +153,7 @@ module _ (form : List ℕ) (entries : List Entry) where
   unfolding is_inserted_outer is_reference meaning_of
   alias_is decl h =
       let o = both_true (is_inserted form decl) (eqb (code_at form (next_of decl)) 5) h in
-      let c = eqb_true (code_at form (next_of decl)) 5 o.1 in
+      let c = eqb-true (code_at form (next_of decl)) 5 o.1 in
       meaning_is form entries (next_of decl) (rw c) ∙ sym (yes! _ o.1 refl)
 
   behind_is : (m : Meaning) → behind_at form (noted form entries) m ≡ behind form m

@@ -12,7 +12,7 @@ use Rattle.rules.specs.Tree.{Declaration, Scope, flatten}
 use Rattle.rules.specs.Readings.{Place, walked_at}
 use Rattle.rules.specs.Answer
 use Rattle.rules.specs.Answer.{accepted, mark, setting_of, row_count}
-use Rattle.rules.specs.Laws.ToolLaws.{All, done, ◌&◌, ok_at, and_right, leb_le, eqb_true}
+use Rattle.rules.specs.Laws.ToolLaws.{All, done, ◌&◌, ok_at, and_right, leb_le, eqb-true}
 use Rattle.rules.specs.Laws.Results.{some_same, no_option}
 use Rattle.rules.specs.Laws.Read.BeginsWritten.{rows_length}
 use Rattle.rules.specs.Laws.Meaning.Names.{LowScope}
@@ -100,7 +100,7 @@ module _ (form : List ℕ) (t : Scope) (F : Reads form t) where
   -- its tree's rows stand in it, and nothing behind them
   pub just_these : length (part_of form) ≡ 8 + 16 * length (flatten t)
   just_these =
-      let long : length form ≡ v.version.header + 16 * row_count v.version form = eqb_true _ _ is_read.long in
+      let long : length form ≡ v.version.header + 16 * row_count v.version form = eqb-true _ _ is_read.long in
       let l = length-drop (v.version.header - 8) form in
       let h = within.header in
       omega (arith, long, l, h, count_is, ap length part_is)

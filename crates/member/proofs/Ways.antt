@@ -9,7 +9,7 @@ use mir.Syntax.{w8}
 use mir.Val.{Fits}
 use lib.Dec.{ltb}
 use lib.ListN.{length, get_or, take, drop, replicate, length-drop, length-append, drop_of_length-le, take-append-drop}
-use lib.Seq.{take_all, length-take-le, drop_drop, drop-append-add}
+use lib.Seq.{take_all, length-take-le, drop-drop, drop-append-add}
 use borrow.Author.Rules.{rules}
 use borrow.Author.Tests.{lt-ltb, le-ltb, le-leb}
 use Rattle.kit.proofs.Laws.{lt_or_le}
@@ -263,7 +263,7 @@ module _ (size : ℕ) where
       let q : size ≡ length area + (size - room) = omega arith in
       let k : room + (size - room) ≡ size = omega arith in
       let rest : drop size (area ++ drop room old) ≡ drop size old =
-      ap (λ (x : ℕ). drop x (area ++ drop room old)) q ∙ (drop-append-add area (drop room old) (size - room) ∙ (drop_drop (size - room) room old ∙ ap (λ (x : ℕ). drop x old) k)) in
+      ap (λ (x : ℕ). drop x (area ++ drop room old)) q ∙ (drop-append-add area (drop room old) (size - room) ∙ (drop-drop (size - room) room old ∙ ap (λ (x : ℕ). drop x old) k)) in
       cleared_kept 0 size old (area ++ drop room old) n rest
 
 -- ---- member

@@ -10,7 +10,7 @@ use native.Mathlib.Omega.{arith}
 use Rattle.std.proofs.Math.ListN.{length, length-append}
 use Rattle.std.proofs.lemmas.List.{length-map}
 use Rattle.kit.proofs.Laws.{copies_at}
-use borrow.Author.Tests.{eq-eqb, ne_eqb, lt-leb, eqb_true}
+use borrow.Author.Tests.{eq-eqb, ne_eqb, lt-leb, eqb-true}
 use Rattle.kit.specs.Pick.{pick}
 use Rattle.kit.specs.Out.{Out, ◌&◌}
 use Rattle.rules.specs.Rows.{Row, Field, Decl, Ref, Path, Outer, Case, Open, Close, Export, encode}
@@ -47,7 +47,7 @@ module _ (names : List Slot) (counts : List (List ℕ)) (depth used : ℕ) where
   unfolding root_row_t pick
   row_passed r i h false c e f = rw e
   row_passed r i h true false e f = rw (e, f)
-  row_passed r i h true true e f = absurd (h (eqb_true depth 1 e) (eqb_true (code_in r) 2 f))
+  row_passed r i h true true e f = absurd (h (eqb-true depth 1 e) (eqb-true (code_in r) 2 f))
 
   turn_passed : (r : Row) (i : ℕ) → Passed depth r → turn_t (as_parts r) i names counts (cursor depth used) ≡ (cursor depth used & names & counts)
   unfolding turn_t root_behind_t depth_t pick
@@ -201,7 +201,7 @@ module _ (room : ℕ) (narrow : room < 65536) (es : List Entry) (names : List Sl
     where
       go : (t : Bool) → eqb d.space s ≡ t → get_or (set c d.space (n + 1)) s 0 ≡ count s (decls_in es ++ (d ∷ []))
       go true q =
-          let same = eqb_true d.space s q in
+          let same = eqb-true d.space s q in
           rw (← same) (get_or-set_same c d.space (n + 1) 0 (omega (arith, tab.width)) ∙ (add-one n ∙ sym (count_same d.space (decls_in es) d (eqb_same d.space))))
       go false q = get_or-set_other c d.space s (n + 1) 0 (not_same d.space s q) ∙ tab.counted s h ∙ sym (count_other s (decls_in es) d q)
 

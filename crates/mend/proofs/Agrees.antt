@@ -1,6 +1,6 @@
 -- What the code answers and leaves is what the rules say, for every setting.
 use mathlib.Core.Path.{◌≡◌, refl, sym, ap, ap₂, ◌∙◌, subst}
-use mathlib.Core.Bool.{Bool, true, false, ◌&&◌, ◌||◌, not, and_true, and_assoc}
+use mathlib.Core.Bool.{Bool, true, false, ◌&&◌, ◌||◌, not, and-true, and_assoc}
 use mathlib.Core.Logic.{◌⊎◌, inl, inr}
 use mathlib.Core.Option.{Option, none, some}
 use mathlib.Core.List.{List, [], ◌∷◌, ◌++◌, append_assoc, append-nil}
@@ -10,7 +10,7 @@ use Prim.Native.Nat.{ℕ, zero, suc, ◌+◌, ◌-◌, ◌*◌, ◌/◌, ◌%◌
 use lib.Dec.{eqb, leb, ltb}
 use lib.ListN.{length, get_or, take, drop, replicate, length-append, length-drop, length-replicate}
 use lib.Seq.{sets, sets-eq, length-take-le}
-use borrow.Author.Tests.{ltb-false, eqb_true}
+use borrow.Author.Tests.{ltb-false, eqb-true}
 use Rattle.kit.specs.Out.{◌&◌}
 use Rattle.kit.specs.Pick.{pick}
 use Rattle.kit.proofs.Laws.{tests, lt_or_le, sets_append}
@@ -58,7 +58,7 @@ module _ (a b c d e f g h : ℕ) (rest : List ℕ) where
       let n = suc (suc (suc (suc (suc (suc (suc (suc (length rest)))))))) in
       let t : leb 8 n ≡ true = omega tests in
       let u : ltb n 8 ≡ false = omega tests in
-      rw (t, u) (simp (and_true, and_assoc))
+      rw (t, u) (simp (and-true, and_assoc))
 
   abbrev letters : (version : ℕ) → Bool
   letters version = eqb a 87 && eqb b 78 && eqb c 84 && eqb d version && eqb e 0
@@ -79,7 +79,7 @@ module _ (a b c d e f g h : ℕ) (rest : List ℕ) where
       go (inr s) =
           let t : leb 16 (length whole) ≡ true = omega tests in
           let v : ltb (length whole) 16 ≡ false = omega tests in
-          rw (t, v) (simp (and_true, and_assoc))
+          rw (t, v) (simp (and-true, and_assoc))
 
   asks_two : asks_for (setting 1) whole ≡ asks_t (limits_of (setting 1)) whole
   unfolding asks_for asks_t letters_t mark same_numbers bytes pick
@@ -211,7 +211,7 @@ module _ (l : Limits) (L : Held l) (old : List ℕ) (asks_it : asks_for (setting
 
   -- where it is as long as its count says, that is how many rows it has
   counted : eqb (length new) (l.header + 16 * row_count v new) ≡ true → row_count v new ≡ total
-  counted e = omega (arith, eqb_true (length new) (l.header + 16 * row_count v new) e, new_size)
+  counted e = omega (arith, eqb-true (length new) (l.header + 16 * row_count v new) e, new_size)
 
   unsized : (total ≡ 0) ⊎ (l.rows < total) → sized v new ≡ false
   unfolding sized setting_in
@@ -228,7 +228,7 @@ module _ (l : Limits) (L : Held l) (old : List ℕ) (asks_it : asks_for (setting
   module _ (some_rows : total ≡ 0 → ⊥) (few_rows : total ≤ l.rows) where
     rows_counted : row_count v new ≡ total
     unfolding new_t setting_in row_count
-    rows_counted = OutBytes.header-count s total body (omega (arith, L.countable))
+    rows_counted = OutBytes.header_count s total body (omega (arith, L.countable))
 
     between_right : between 1 l.rows (row_count v new) ≡ true
     between_right =
@@ -254,7 +254,7 @@ module _ (l : Limits) (L : Held l) (old : List ℕ) (asks_it : asks_for (setting
 
     behind_head : drop l.header new ≡ body
     unfolding new_t setting_in
-    behind_head = OutBytes.header-drop s total body L.fits
+    behind_head = OutBytes.header_drop s total body L.fits
 
     code_reads : read_to l body ≡ answer_of (read s.rules v.scopes (rows_in s new))
     unfolding read_to setting_in

@@ -6,7 +6,7 @@ use native.Mathlib.Nat.{zero-add}
 use native.Mathlib.Numerals.{add-one}
 use Prim.Native.Nat.{ℕ, zero, suc, ◌+◌, ◌-◌, ◌*◌, ◌/◌, ◌≤◌, ◌<◌}
 use lib.ListN.{length, set, take, drop, replicate, length-append, length-drop}
-use lib.Seq.{sets, sets-eq, length-sets, take_all, take_at, drop_at, drop_drop, drop-length, length-take-le}
+use lib.Seq.{sets, sets-eq, length-sets, take_all, take_at, drop_at, drop-drop, drop-length, length-take-le}
 use borrow.Author.Rules.{rules}
 use Rattle.kit.specs.Pick.{pick}
 use Rattle.kit.proofs.Laws.{tests, left_suc, sets_append}
@@ -66,7 +66,7 @@ module _ (k : Kept) (old rows rows' : List ℕ) (i : ℕ) (put : rows' ≡ sets 
       let next : 16 * i + 16 ≡ 16 * (i + 1) = omega arith in
       ap (drop (16 * (i + 1))) (put_is ∙ sets-eq row rows (16 * i) (omega arith))
       ∙ (drop_at front _ (16 * (i + 1)) long
-      ∙ (ap (λ (m : ℕ). drop m rows) at ∙ (sym (drop_drop 16 (16 * i) rows) ∙ (ap (drop 16) behind ∙ (drop_drop 16 (16 * i) old ∙ ap (λ (m : ℕ). drop m old) next)))))
+      ∙ (ap (λ (m : ℕ). drop m rows) at ∙ (sym (drop-drop 16 (16 * i) rows) ∙ (ap (drop 16) behind ∙ (drop-drop 16 (16 * i) old ∙ ap (λ (m : ℕ). drop m old) next)))))
 
 pub put_end : (k : Kept) (old rows T : List ℕ) (i n : ℕ) → sets rows (16 * i) (from_t old k i (n - i)) ≡ T → n ≤ i → rows ≡ T
 unfolding from_t
@@ -111,7 +111,7 @@ module _ (b b₁ body b₂ b₃ : List ℕ) (l : Limits) (k : Kept) (long header
 
   head_size : length H ≡ header
   unfolding setting_in
-  head_size = OutBytes.header-length (setting_in l) (k.rows + k.scopes) [] fits ∙ sym is
+  head_size = OutBytes.header_length (setting_in l) (k.rows + k.scopes) [] fits ∙ sym is
 
   abbrev rest : List ℕ
   rest = mended_body_t (drop header b) k
@@ -146,7 +146,7 @@ module _ (b b₁ body b₂ b₃ : List ℕ) (l : Limits) (k : Kept) (long header
           f ∙ (ap (λ (x : List ℕ). sets x 0 (mended_body_t x k)) behind_head ∙ (sets-eq rest (drop header b) 0 (omega (arith, rest_size, length-drop header b)) ∙ ap (λ (m : ℕ). rest ++ drop m (drop header b)) (zero-add (length rest) ∙ rest_size))) in
           let both : length (H ++ rest) ≡ header + 16 * (k.rows + k.scopes) = omega (arith, length-append H rest, head_size, rest_size) in
           let front : take header b₁ ≡ H = ap (take header) headed ∙ take_at H (drop header b) header head_size in
-          let tail : drop (16 * (k.rows + k.scopes)) (drop header b) ≡ drop (0 + length (H ++ rest)) b = drop_drop (16 * (k.rows + k.scopes)) header b ∙ ap (λ (m : ℕ). drop m b) (sym (zero-add (length (H ++ rest)) ∙ both)) in
+          let tail : drop (16 * (k.rows + k.scopes)) (drop header b) ≡ drop (0 + length (H ++ rest)) b = drop-drop (16 * (k.rows + k.scopes)) header b ∙ ap (λ (m : ℕ). drop m b) (sym (zero-add (length (H ++ rest)) ∙ both)) in
           g
           ∙ (ap₂ (λ (x y : List ℕ). x ++ (body ++ y)) front none_behind
           ∙ (ap (λ (x : List ℕ). H ++ x) (append-nil body ∙ (body_is ∙ ap (λ (x : List ℕ). rest ++ x) tail))

@@ -9,7 +9,7 @@ use lib.Dec.{eqb, leb, ltb}
 use lib.ListN.{length, get_or, take, drop, length-drop}
 use lib.Seq.{sets, length-take-le, take_all}
 use borrow.Author.Rules.{rules}
-use borrow.Author.Tests.{not_true, not_false, ltb-false}
+use borrow.Author.Tests.{not-true, not-false, ltb-false}
 use Rattle.kit.specs.Out.{◌&◌}
 use Rattle.kit.specs.Pick.{pick}
 use Rattle.kit.proofs.Laws.{yes!, no!, tests}
@@ -120,7 +120,7 @@ module _ (l : Limits) (old : List ℕ) (size room space : ℕ) where
 
   room_fits : {t : Bool} → t ≡ room_t l old size room space → not t ≡ false → size ≤ room
   unfolding room_t pick
-  room_fits {t} w e = go (ltb room size) refl (sym w ∙ not_false t e)
+  room_fits {t} w e = go (ltb room size) refl (sym w ∙ not-false t e)
     where
       go : (b : Bool) → ltb room size ≡ b → pick b false (leb (length (list_bytes (changes_in l old))) space) ≡ true → size ≤ room
       go true q p = absurd (let z : ◌≡◌ {A = ℕ} 0 1 = cc in omega arith)
@@ -166,11 +166,11 @@ module _ (l : Limits) (buffer list : List ℕ) (long : ℕ) (k : Kept) where
 
     pub to_short : {a : Answer} → a ≡ refused_t 3 0 → not t ≡ true → a & buffer & list ≡ to_t l buffer long list k
     unfolding to_t
-    to_short e h = no! _ (asked ∙ not_true t h) (rw e)
+    to_short e h = no! _ (asked ∙ not-true t h) (rw e)
 
     pub to_whole : {x : Ran} → x ≡ read_then (read_to l (mended_body_t body k)) l buffer long list k → not t ≡ false → x ≡ to_t l buffer long list k
     unfolding to_t
-    to_whole f h = yes! _ (asked ∙ not_false t h) f
+    to_whole f h = yes! _ (asked ∙ not-false t h) f
 
   module _ (is : k ≡ kept_in body) where
     pub kept_fits : l.header ≤ long → long ≤ length buffer → l.header + 16 * k.rows ≤ long

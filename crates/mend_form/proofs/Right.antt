@@ -7,7 +7,7 @@ use native.Mathlib.Nat.{add-zero, zero-add}
 use Prim.Native.Nat.{ℕ, zero, suc, ◌+◌, ◌-◌, ◌*◌, ◌/◌, ◌%◌, ◌≤◌, ◌<◌}
 use lib.Dec.{eqb}
 use lib.ListN.{length, get_or, take, drop, length-drop, get_or-eq_default}
-use lib.Seq.{drop_drop, get_or-take, get_or-drop, length-take-le}
+use lib.Seq.{drop-drop, get_or-take, get_or-drop, length-take-le}
 use Rattle.kit.specs.Pick.{pick}
 use Rattle.kit.proofs.Laws.{tests}
 use Rattle.rules.specs.Tools.{if◌then◌else◌}
@@ -147,7 +147,7 @@ first_byte l n = go (drop n l) ∙ (get_or-drop n l 0 0 ∙ ap (λ (k : ℕ). ge
     go (x ∷ m) = value_one x
 
 next_row : (rows : List ℕ) (i : ℕ) → drop 16 (drop (16 * i) rows) ≡ drop (16 * (i + 1)) rows
-next_row rows i = let e : 16 * i + 16 ≡ 16 * (i + 1) = omega arith in drop_drop 16 (16 * i) rows ∙ ap (λ (n : ℕ). drop n rows) e
+next_row rows i = let e : 16 * i + 16 ≡ 16 * (i + 1) = omega arith in drop-drop 16 (16 * i) rows ∙ ap (λ (n : ℕ). drop n rows) e
 
 -- by whether the row is the root's CLOSE
 module _ (rows : List ℕ) (i left depth : ℕ) where

@@ -8,7 +8,7 @@ use native.Mathlib.Nat.{add-zero, zero-add}
 use Prim.Native.Nat.{ℕ, zero, suc, ◌+◌, ◌-◌, ◌*◌, ◌/◌, ◌≤◌, ◌<◌}
 use lib.Dec.{leb, ltb}
 use lib.ListN.{length, get_or, take, drop, replicate, length-append, length-replicate}
-use lib.Seq.{take_at, drop_at, drop_drop, get_or-take, get_or-drop}
+use lib.Seq.{take_at, drop_at, drop-drop, get_or-take, get_or-drop}
 use Rattle.kit.specs.Pick.{pick}
 use Rattle.kit.proofs.Laws.{tests, lt_or_le, yes!, no! }
 use Rattle.rules.specs.Rows.{Close, encode_row}
@@ -78,7 +78,7 @@ module _ (rows : List ℕ) (k : Kept) where
       let more : suc j + n ≡ suc (j + n) = omega arith in
       let far : 16 * suc j ≡ 16 + 16 * j = omega arith in
       let at : i + 1 + j ≡ i + suc j = omega arith in
-      ap₂ (λ (d m : ℕ). drop d (from_t rows k i m)) far more ∙ (sym (drop_drop (16 * j) 16 (from_t rows k i (suc (j + n)))) ∙ (ap (drop (16 * j)) (behind i (j + n)) ∙ (from_drop (i + 1) j n ∙ ap (λ (m : ℕ). from_t rows k m n) at)))
+      ap₂ (λ (d m : ℕ). drop d (from_t rows k i m)) far more ∙ (sym (drop-drop (16 * j) 16 (from_t rows k i (suc (j + n)))) ∙ (ap (drop (16 * j)) (behind i (j + n)) ∙ (from_drop (i + 1) j n ∙ ap (λ (m : ℕ). from_t rows k m n) at)))
 
   -- row i of the mended form
   pub body_row : k.rows ≤ length rows / 16 → (i : ℕ) → i < k.rows + k.scopes → take 16 (drop (16 * i) (mended_body_t rows k)) ≡ row_in rows k i

@@ -8,8 +8,8 @@ use native.Mathlib.Nat.{add-zero, zero-add, add_assoc}
 use Prim.Native.Nat.{ℕ, zero, suc, ◌+◌, ◌-◌, ◌*◌, ◌/◌, ◌≤◌, ◌<◌}
 use lib.Dec.{eqb, ltb}
 use lib.ListN.{length, get_or, take, drop, replicate, length-append, length-drop, length-replicate}
-use lib.Seq.{sets, sets-eq, take_all, take_at, drop_at, take-add, drop_drop, drop-length, length-take-le}
-use borrow.Author.Tests.{eqb_true, eqb_false}
+use lib.Seq.{sets, sets-eq, take_all, take_at, drop_at, take-add, drop-drop, drop-length, length-take-le}
+use borrow.Author.Tests.{eqb-true, eqb-false}
 use Rattle.kit.specs.Pick.{pick}
 use Rattle.kit.proofs.Laws.{tests, yes!, no! }
 use Rattle.rules.specs.Tools.{if◌then◌else◌}
@@ -91,7 +91,7 @@ first_cut : (l : List ℕ) (at w s : ℕ) → at + (w + s) ≤ length l → (tak
 first_cut l at w s h =
     let size : length (take w (drop at l)) ≡ w = length-take-le w (drop at l) (omega (arith, length-drop at l)) in
     let two : take (w + s) (drop at l) ≡ take w (drop at l) ++ take s (drop w (drop at l)) = take-add w s (drop at l) in
-    (ap (take w) two ∙ take_at (take w (drop at l)) _ w size, ap (drop w) two ∙ (drop_at (take w (drop at l)) _ w size ∙ ap (take s) (drop_drop w at l)))
+    (ap (take w) two ∙ take_at (take w (drop at l)) _ w size, ap (drop w) two ∙ (drop_at (take w (drop at l)) _ w size ∙ ap (take s) (drop-drop w at l)))
 
 cut_at : (ws old new : List ℕ) (at to : ℕ) → at + sum ws ≤ length old → to + sum ws ≤ length new → changes at (cuts ws (take (sum ws) (drop at old)) (take (sum ws) (drop to new))) ≡ cut_changes old new at to ws
 unfolding cuts changes
@@ -131,7 +131,7 @@ module _ (header : ℕ) (old : List ℕ) (k : Kept) (there : header + 16 * k.row
   rows_changes_lem i (suc left) ps e =
       let a = header + 16 * i in
       let row = take 16 (drop (16 * i) rows) in
-      let here : drop (16 * i) rows ≡ drop a old = drop_drop (16 * i) header old in
+      let here : drop (16 * i) rows ≡ drop a old = drop-drop (16 * i) header old in
       let made : row_in rows k i ≡ mended_row_t rows (16 * i) 0 16 = sym (row_stays rows k i (omega arith) refl (omega (arith, length-drop header old))) in
       let is : mended_row_t rows (16 * i) 0 16 ≡ afters (row_pieces row) = row_at rows (16 * i) (omega (arith, length-drop header old)) in
       let wide : length (row_in rows k i) ≡ 16 = ap length made ∙ row_size rows (16 * i) 0 16 in
@@ -218,11 +218,11 @@ rest_changes_lem header old h k is there = go (eqb n (16 * k.scopes)) refl
     go : (b : Bool) → eqb n (16 * k.scopes) ≡ b
         → (if same_numbers rest (close_rows k.scopes) then [] else record { at = a; before = rest; now = length (close_rows k.scopes) } ∷ []) ≡ pick b [] (change old a n (16 * k.scopes) ∷ [])
     go true e =
-        let z = no_such_scope (eqb_true n (16 * k.scopes) e) in
-        let none : rest ≡ [] = empty rest (omega (arith, length-drop a old, eqb_true n (16 * k.scopes) e)) in
+        let z = no_such_scope (eqb-true n (16 * k.scopes) e) in
+        let none : rest ≡ [] = empty rest (omega (arith, length-drop a old, eqb-true n (16 * k.scopes) e)) in
         both_empty rest k.scopes none z _
     go false e =
-        let differ : false ≡ same_numbers rest (close_rows k.scopes) = other_length rest (close_rows k.scopes) (λ q. eqb_false n (16 * k.scopes) e (omega (arith, q, length-drop a old, close_rows_size k.scopes))) in
+        let differ : false ≡ same_numbers rest (close_rows k.scopes) = other_length rest (close_rows k.scopes) (λ q. eqb-false n (16 * k.scopes) e (omega (arith, q, length-drop a old, close_rows_size k.scopes))) in
         rw (← differ, close_rows_size k.scopes, all)
 
 -- ---- the header
@@ -281,7 +281,7 @@ module _ (l : Limits) (count : ℕ) (room : 6 + pick l.wide 4 2 ≤ l.header) (s
 
   the_zeros : take w (drop (6 + c) (header_of_t l count)) ≡ zeros
   the_zeros =
-      ap (take w) (sym (drop_drop c 6 (header_of_t l count)) ∙ (ap (drop c) behind_mark ∙ drop_at Bc _ c (bytes_length c count)))
+      ap (take w) (sym (drop-drop c 6 (header_of_t l count)) ∙ (ap (drop c) behind_mark ∙ drop_at Bc _ c (bytes_length c count)))
       ∙ take_at zeros _ w (length-replicate {A = ℕ} w 0)
 
   pub header_afters : (old : List ℕ) → 5 ≤ length old → length (afters (header_pieces (setting_in l) count old)) ≡ l.header
@@ -309,7 +309,7 @@ module _ (l : Limits) (count : ℕ) (room : 6 + pick l.wide 4 2 ≤ l.header) (s
       let six : c ≡ 6 + c - 6 = omega arith in
       let one : cut 5 five (bytes 1 l.rules) 1 ≡ piece_changes old new 5 5 1 = cut_is old new 5 5 1 five (bytes 1 l.rules) refl byte_five in
       let two : cut 6 counted Bc c ≡ piece_changes old new 6 6 (6 + c - 6) = cut_is old new 6 6 c counted Bc refl the_count ∙ ap (piece_changes old new 6 6) six in
-      let three : cut (6 + c) last zeros w ≡ piece_changes old new (6 + c) (6 + c) w = cut_is old new (6 + c) (6 + c) w last zeros (ap (take w) (drop_drop c 6 old)) the_zeros in
+      let three : cut (6 + c) last zeros w ≡ piece_changes old new (6 + c) (6 + c) w = cut_is old new (6 + c) (6 + c) w last zeros (ap (take w) (drop-drop c 6 old)) the_zeros in
       first_stays (take 5 old) 5 (length-take-le 5 old long) _
       ∙ (cut_one 5 five (bytes 1 l.rules) 1 6 (bytes_length 1 l.rules) refl _
       ∙ ap₂ (λ (x y : List Change). x ++ y) one
@@ -339,7 +339,7 @@ module _ (l : Limits) (old : List ℕ) (room : 6 + pick l.wide 4 2 ≤ l.header)
       let count = length (afters rows) / 16 in
       let a = l.header + 16 * k.rows in
       let tail = piece (drop (16 * k.rows) (drop l.header old)) (close_rows k.scopes) ∷ [] in
-      let tail_is : drop (16 * k.rows) (drop l.header old) ≡ drop a old = drop_drop (16 * k.rows) l.header old in
+      let tail_is : drop (16 * k.rows) (drop l.header old) ≡ drop a old = drop-drop (16 * k.rows) l.header old in
       let head : changes 0 (header_pieces (setting_in l) count old) ≡ head_changes l old (header_of_t l total) = ap (λ (n : ℕ). changes 0 (header_pieces (setting_in l) n old)) form_counted ∙ head_changes_lem l total room short old (omega arith) in
       let size : 0 + length (afters (header_pieces (setting_in l) count old)) ≡ l.header = zero-add _ ∙ header_afters l count room short old (omega arith) in
       let start : l.header + 16 * 0 ≡ l.header = omega arith in

@@ -39,20 +39,20 @@ module _ (l : Limits) (rows : List ℕ) (k : Kept) where
   next_read i this there made s h kinds o next kinds' st =
       let size : length this ≡ 16 = ap length made ∙ in_size rows k i in
       let row : row_to l.names this 0 ≡ row_of l.names (parts_at (mended_body_t rows k) i) = parts_row l.names this 0 ∙ ap (row_of l.names) (ap (λ (x : List ℕ). parts_at x 0) made ∙ sym (parts_body rows k there i)) in
-      Steps.one-read (rules_of l.rules) l.names this size s h kinds o next kinds' st ∙ ap (read_step_t (rules_of l.rules) (position_of s) kinds) row
+      Steps.one_read (rules_of l.rules) l.names this size s h kinds o next kinds' st ∙ ap (read_step_t (rules_of l.rules) (position_of s) kinds) row
 
   module _ (n : ℕ) (start : ReadState) (kinds₀ : List ℕ) (i : ℕ) (s : ReadState) (kinds : List ℕ) (inv : read_on_t (rules_of l.rules) l.names (mended_body_t rows k) i (n - i) (outcome_of s & kinds) ≡ read_on_t (rules_of l.rules) l.names (mended_body_t rows k) 1 (n - 1) (outcome_of start & kinds₀)) where
     pub next_turn : i < n → s.stage < 5 → (t : ReadState) (kinds' : List ℕ) → (outcome_of t & kinds') ≡ read_step_t (rules_of l.rules) (position_of s) kinds (row_of l.names (parts_at (mended_body_t rows k) i)) → read_on_t (rules_of l.rules) l.names (mended_body_t rows k) (i + 1) (n - (i + 1)) (outcome_of t & kinds') ≡ read_on_t (rules_of l.rules) l.names (mended_body_t rows k) 1 (n - 1) (outcome_of start & kinds₀)
-    next_turn h e t kinds' st = Steps.on-turn (rules_of l.rules) l.names (mended_body_t rows k) n i s kinds _ inv h e (parts_at (mended_body_t rows k) i) refl t kinds' st
+    next_turn h e t kinds' st = Steps.on_turn (rules_of l.rules) l.names (mended_body_t rows k) n i s kinds _ inv h e (parts_at (mended_body_t rows k) i) refl t kinds' st
 
     module _ (r : outcome_of start ≡ on in_root) (x : RowsRead) (e : x ≡ read_as_t n (outcome_of s) i) where
       pub next_end : n ≤ i → x ≡ read_rows_t (rules_of l.rules) l.names (mended_body_t rows k) 1 (n - 1) in_root kinds₀
       next_end h =
-          Steps.all_read (rules_of l.rules) l.names (mended_body_t rows k) n start r kinds₀ (outcome_of s) i kinds (Steps.on-end (rules_of l.rules) l.names (mended_body_t rows k) n i s kinds _ inv h) x e
+          Steps.all_read (rules_of l.rules) l.names (mended_body_t rows k) n start r kinds₀ (outcome_of s) i kinds (Steps.on_end (rules_of l.rules) l.names (mended_body_t rows k) n i s kinds _ inv h) x e
 
       pub next_over : 5 ≤ s.stage → x ≡ read_rows_t (rules_of l.rules) l.names (mended_body_t rows k) 1 (n - 1) in_root kinds₀
       next_over h =
-          Steps.all_read (rules_of l.rules) l.names (mended_body_t rows k) n start r kinds₀ (outcome_of s) i kinds (Steps.on-over (rules_of l.rules) l.names (mended_body_t rows k) n i s kinds _ inv h) x e
+          Steps.all_read (rules_of l.rules) l.names (mended_body_t rows k) n start r kinds₀ (outcome_of s) i kinds (Steps.on_over (rules_of l.rules) l.names (mended_body_t rows k) n i s kinds _ inv h) x e
 
 -- ---- read_mended
 
@@ -65,11 +65,11 @@ module _ (l : Limits) (rows : List ℕ) (k : Kept) (is : k ≡ kept_in rows) (th
       g ∙ (parts_row l.names first 0 ∙ (ap (row_of l.names) (ap (λ (r : List ℕ). parts_at r 0) made ∙ sym (parts_body rows k there 0)) ∙ sym (parts_row l.names (mended_body_t rows k) 0)))
 
   pub mended_other : OneOf not_open (tag_of row_type.the_type this) → Broken 0 ≡ read_to l (mended_body_t rows (kept_in rows))
-  mended_other h = Steps.read-other l (mended_body_t rows k) this root_is h ∙ ap (read_to l) body_is
+  mended_other h = Steps.read_other l (mended_body_t rows k) this root_is h ∙ ap (read_to l) body_is
 
   module _ (kind name : ℕ) (o : this ≡ row.Open kind name) where
     pub mended_kind : (kind ≡ 0 → ⊥) → Broken 0 ≡ read_to l (mended_body_t rows (kept_in rows))
-    mended_kind h = Steps.read-kind l (mended_body_t rows k) this root_is kind name o h ∙ ap (read_to l) body_is
+    mended_kind h = Steps.read_kind l (mended_body_t rows k) this root_is kind name o h ∙ ap (read_to l) body_is
 
     module _ (h : kind ≡ 0) (n : ℕ) (q : n ≡ l.scopes) where
       pub mended_none : n ≡ 0 → Deep 0 ≡ read_to l (mended_body_t rows (kept_in rows))
@@ -78,7 +78,7 @@ module _ (l : Limits) (rows : List ℕ) (k : Kept) (is : k ≡ kept_in rows) (th
       pub mended_root : (n ≡ 0 → ⊥) → n ≤ 255 → (r : RowsRead) → r ≡ read_rows_t (rules_of l.rules) l.names (mended_body_t rows k) 1 (k.rows + k.scopes - 1) in_root (take (n - 0) (drop 0 (replicate 255 0))) → r ≡ read_to l (mended_body_t rows (kept_in rows))
       mended_root z few r e =
           let count : k.rows + k.scopes - 1 ≡ length (mended_body_t rows k) / 16 - 1 = omega (arith, body_size rows k) in
-          Steps.read-root l (mended_body_t rows k) this root_is kind name o h n q z few r (e ∙ ap (λ (m : ℕ). read_rows_t (rules_of l.rules) l.names (mended_body_t rows k) 1 m in_root (take (n - 0) (drop 0 (replicate 255 0)))) count) ∙ ap (read_to l) body_is
+          Steps.read_root l (mended_body_t rows k) this root_is kind name o h n q z few r (e ∙ ap (λ (m : ℕ). read_rows_t (rules_of l.rules) l.names (mended_body_t rows k) 1 m in_root (take (n - 0) (drop 0 (replicate 255 0)))) count) ∙ ap (read_to l) body_is
 
 pub ruleset next_ways = (next_turn, next_end, next_over, rules)
 

@@ -22,7 +22,7 @@ use Rattle.rules.specs.Rules
 use Rattle.rules.specs.Rules.{Refusal, number_of, Result, ok, resolve}
 use Rattle.rules.specs.Answer
 use Rattle.rules.specs.Answer.{AnswerOf, refused, accepted, map_answer, setting_of, row_count, rows_in, answer, form_in, output, written, output_after}
-use Rattle.rules.specs.Laws.ToolLaws.{and_right, leb_le, or_true, false_not}
+use Rattle.rules.specs.Laws.ToolLaws.{and_right, leb_le, or-true, false_not}
 use Rattle.rules.specs.Laws.RowLaws.{Bytes}
 use Rattle.rules.specs.Laws.InputLaws.{AllUsual, Accepted}
 use Rattle.moving.specs.Moved.{MovedNumber, NoItem}
@@ -52,10 +52,10 @@ use Rattle.moved.specs.Run.{rows_of, listed_t, before, fronts_t}
 steps_number : (why : Refusal) → 1 ≤ number_of why
 unfolding number_of
 steps_number (Rules.twice space first) = omega arith
-steps_number Rules.not-exported = omega arith
+steps_number Rules.not_exported = omega arith
 steps_number (Rules.not_outer space) = omega arith
 steps_number (Rules.unknown space) = omega arith
-steps_number Rules.no-scope = omega arith
+steps_number Rules.no_such_scope = omega arith
 steps_number Rules.too_far = omega arith
 steps_number Rules.case_twice = omega arith
 steps_number Rules.not_earlier = omega arith
@@ -165,7 +165,7 @@ module _ (v : Setting) (input o m a : List ℕ) where
 
   lists_short : wrong_count v input ≡ false → (ltb (length m) (16 * n) || ltb (length a) (12 * n)) ≡ true → in_one ≡ refused 3 0 []
   unfolding moved_in too_short rooms_of if◌then◌else◌
-  lists_short e s = rw (e, s, or_true (ltb (length o) (v.version.header + 64 * n)))
+  lists_short e s = rw (e, s, or-true (ltb (length o) (v.version.header + 64 * n)))
 
   -- a refusal leaves the lists
   refused_leaves : (number place : ℕ) (carried : List ℕ) → after_one (refused number place carried) ≡ held (output_after v (refused number place carried) (v.version.header + 64 * n) o) m a
@@ -375,7 +375,7 @@ module _ (settings : List Setting) (input o m a : List ℕ) where
     unfolding listed entries resolve
     agree =
         lists_agree (body v input) (body v o') v.rules T.before T.after T.next T.low T.resolves (OnBytes.rows_before settings usual within input o bs rs e)
-        (OnBytes.rows-after settings usual within input o bs rs e) (OnBytes.rows_are settings usual within input o bs rs e)
+        (OnBytes.rows_after_lem settings usual within input o bs rs e) (OnBytes.rows_are settings usual within input o bs rs e)
 
     few : length entries ≡ rows
     unfolding entries entries_in

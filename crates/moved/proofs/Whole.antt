@@ -18,7 +18,7 @@ use Rattle.rules.specs.Versions.{Setting, base, version1, today}
 use Rattle.rules.specs.Rows.{Row}
 use Rattle.rules.specs.Answer
 use Rattle.rules.specs.Answer.{AnswerOf, refused, accepted, setting_of, has_header, answer, output}
-use Rattle.rules.specs.Laws.ToolLaws.{or_true}
+use Rattle.rules.specs.Laws.ToolLaws.{or-true}
 use Rattle.rules.specs.Laws.Results.{some_same, no_option}
 use Rattle.rules.specs.Laws.InputLaws.{base_usual}
 use Rattle.moving.specs.MovedAnswer.{MovedAnswer, moved_answer, rooms_of, buffers}
@@ -81,7 +81,7 @@ module _ (form o m a : List ℕ) (rows : ℕ) (are : rows ≡ rows_asked 0 form)
 
   module _ (h : length a < 12 * rows) where
     second_short : (ltb (length m) (16 * rows) || ltb (length a) (12 * rows)) ≡ true
-    second_short = let t : ltb (length a) (12 * rows) ≡ true = omega tests in ap (λ (b : Bool). ltb (length m) (16 * rows) || b) t ∙ or_true (ltb (length m) (16 * rows))
+    second_short = let t : ltb (length a) (12 * rows) ≡ true = omega tests in ap (λ (b : Bool). ltb (length m) (16 * rows) || b) t ∙ or-true (ltb (length m) (16 * rows))
 
     pub second_answers : meaning (Refused (record { number = 3; place = 0 })) ≡ ruled A
     second_answers = (no_room second_short).0

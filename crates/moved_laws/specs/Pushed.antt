@@ -14,7 +14,7 @@ use Rattle.rules.specs.Tree.{Declaration, Head, Fields, end, ◌▸◌, head_of}
 use Rattle.rules.specs.Rules.{fresh}
 use Rattle.rules.specs.Answer.{same_numbers}
 use Rattle.rules.specs.Readings.{is_fresh, any_fresh, is_inserted, Level, Spot, original, inserted, Standing, in_original, in_inserted, standings, place}
-use Rattle.rules.specs.Laws.ToolLaws.{All, done, ◌&◌, all_append, false_not, eqb_false, and_false, leb_true}
+use Rattle.rules.specs.Laws.ToolLaws.{All, done, ◌&◌, all_append, false_not, eqb-false, and-false, leb-true}
 use Rattle.rules.specs.Laws.Results.{some_same, no_option}
 use Rattle.rules.specs.Laws.Output.Kept.{IsAlias, AliasesFields}
 use Rattle.places.specs.PlaceRows.{Located, located_of}
@@ -171,8 +171,8 @@ rise_at {field} {at} (then_on {f = f} {a = a} h r) (suc k) x e =
 
 apart_places : (l l' : Level) (f a g b : ℕ) → After f (suc a) g b → same_place (place l (original g b)) (place l' (original f a)) ≡ false
 unfolding same_place place
-apart_places l l' f a g b (inl h) = let e : eqb g f ≡ false = omega (tests, h) in rw (e, and_false (same_numbers l.way l'.way))
-apart_places l l' f a g b (inr h) = let e : eqb b a ≡ false = omega (tests, h) in rw (e, and_false (eqb g f), and_false (same_numbers l.way l'.way))
+apart_places l l' f a g b (inl h) = let e : eqb g f ≡ false = omega (tests, h) in rw (e, and-false (same_numbers l.way l'.way))
+apart_places l l' f a g b (inr h) = let e : eqb b a ≡ false = omega (tests, h) in rw (e, and-false (eqb g f), and-false (same_numbers l.way l'.way))
 
 -- a later one is at another place
 differ : {field at : ℕ} {xs : List Standing} → Rise field at xs → (l l' : Level) (j k : ℕ) (x y : Standing) → j < k → get_elem? xs j ≡ some y → get_elem? xs k ≡ some x

@@ -5,7 +5,7 @@ use mathlib.Core.List.{List, [], ◌∷◌}
 use native.Mathlib.Omega.{arith}
 use Prim.Native.Nat.{ℕ, ◌+◌, ◌*◌, ◌-◌, ◌≤◌, ◌<◌}
 use borrow.Author.Rules.{rules}
-use borrow.Author.Tests.{leb_true}
+use borrow.Author.Tests.{leb-true}
 use lib.Dec.{eqb, ltb, leb}
 use lib.ListN.{length, get_or, drop, drop_of_length-le}
 use Rattle.kit.specs.Pick.{pick}
@@ -26,10 +26,10 @@ both_right false true h = refl
 both_right false false h = h
 
 pub digit_low : (d : ℕ) → is_digit d ≡ true → 48 ≤ d
-digit_low d h = leb_true 48 d (both_left (leb 48 d) (leb d 57) h)
+digit_low d h = leb-true 48 d (both_left (leb 48 d) (leb d 57) h)
 
 pub digit_high : (d : ℕ) → is_digit d ≡ true → d ≤ 57
-digit_high d h = leb_true d 57 (both_right (leb 48 d) (leb d 57) h)
+digit_high d h = leb-true d 57 (both_right (leb 48 d) (leb d 57) h)
 
 pub digit_is : {b : Bool} (d : ℕ) → b ≡ is_digit d → b ≡ true → is_digit d ≡ true
 digit_is d is h = rw (← is) h

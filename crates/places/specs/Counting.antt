@@ -21,9 +21,9 @@ elem_map g (x ∷ xs) zero = refl
 elem_map g (x ∷ xs) (suc n) = elem_map g xs n
 
 -- a list put together of two is mapped part by part
-pub map_append : {A B : Type 0} (g : A → B) (xs ys : List A) → map g (xs ++ ys) ≡ map g xs ++ map g ys
-map_append g [] ys = refl
-map_append {B = B} g (x ∷ xs) ys = ap {B = List B} (λ l. g x ∷ l) (map_append g xs ys)
+pub map-append : {A B : Type 0} (g : A → B) (xs ys : List A) → map g (xs ++ ys) ≡ map g xs ++ map g ys
+map-append g [] ys = refl
+map-append {B = B} g (x ∷ xs) ys = ap {B = List B} (λ l. g x ∷ l) (map-append g xs ys)
 
 -- ---- the scopes around a place
 
@@ -88,7 +88,7 @@ pub located_standings : (row n : ℕ) (fs : Fields) → map standing (located ro
 unfolding located standings
 located_standings row n end = refl
 located_standings row n (i ▸ fs) =
-    map_append standing (in_rows (suc row) own) _
+    map-append standing (in_rows (suc row) own) _
     ∙ (ap {B = List Standing} (λ l. l ++ map standing (located (row + length (item_rows i)) next fs)) (rows_standing (suc row) own)
     ∙ ap {B = List Standing} (λ l. own ++ l) (located_standings (row + length (item_rows i)) next fs))
   where

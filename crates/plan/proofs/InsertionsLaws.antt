@@ -1,6 +1,6 @@
 -- Step B's ways through the code: each law is one unfolding of a twin, with the facts in the form in which the code gives them.
 use Rattle.std.proofs.Common.{◌≡◌, ℕ, suc, ◌+◌, ◌-◌, ◌/◌, ◌%◌, ◌<◌, ◌≤◌, Bool, true, false, not, List, [], ◌∷◌, length, get_or, set, replicate, sym, refl, ap, ◌∙◌, arith, rules}
-use borrow.Author.Tests.{not_true, not_false}
+use borrow.Author.Tests.{not-true, not-false}
 use Rattle.kit.proofs.Laws.{yes!, no!, tests, left_suc, down}
 use Rattle.kit.specs.Out.{Out, ◌&◌}
 use Rattle.rules.specs.Tools.{is_in}
@@ -63,20 +63,20 @@ module _ (names : List Slot) (counts : List ℕ) (p : PlanState) (space row left
 module _ (names : List Slot) (p : PlanState) (space name : ℕ) where
   pub here_untested : not p.early ≡ true → false ≡ late_here_t names p space name
   unfolding late_here_t
-  here_untested e = no! _ (not_true p.early e) refl
+  here_untested e = no! _ (not-true p.early e) refl
 
   pub here_tested : not p.early ≡ false → (l : Bool) → l ≡ late_in names p.first p.used p.used space name → l ≡ late_here_t names p space name
   unfolding late_here_t
-  here_tested e l q = yes! _ (not_false p.early e) q
+  here_tested e l q = yes! _ (not-false p.early e) q
 
   module _ (scopes : List (List ℕ)) (out : ℕ) where
     pub out_untested : not p.early ≡ true → false ≡ late_out_t names scopes p out space name
     unfolding late_out_t
-    out_untested e = no! _ (not_true p.early e) refl
+    out_untested e = no! _ (not-true p.early e) refl
 
     pub out_tested : not p.early ≡ false → (s : List ℕ) → s ≡ scope_at scopes (p.depth - out) → (before : ℕ) → before ≡ before_around scopes p.depth p.before out → (l : Bool) → l ≡ late_in names (first_of s) before p.used space name → l ≡ late_out_t names scopes p out space name
     unfolding late_out_t
-    out_tested e s q before v l w = yes! _ (not_false p.early e) (rw (q, v) at w)
+    out_tested e s q before v l w = yes! _ (not-false p.early e) (rw (q, v) at w)
 
 -- ---- plan_outer, plan_name, plan_ref
 
@@ -88,11 +88,11 @@ module _ (names : List Slot) (scopes : List (List ℕ)) (counts : List ℕ) (p :
   module _ (f : l ≡ false) (b : Bool) (t : b ≡ is_in (r.space % 256) FOUR) where
     pub outer_not : not b ≡ true → (Refused (refusal_at 8 r.z) (of_space r.space) & names & counts) ≡ met_t (MetAt out number) names scopes counts p r name
     unfolding met_t plan_outer_t
-    outer_not e = no! _ (sym u ∙ f) (no! _ (sym t ∙ not_true b e) refl)
+    outer_not e = no! _ (sym u ∙ f) (no! _ (sym t ∙ not-true b e) refl)
 
     pub outer_done : not b ≡ false → (q : PlanState) (ns : List Slot) (cs : List ℕ) → (q & ns & cs) ≡ insert_alias_t names counts p r.space r.row (out % 4294967296) number → (Done q & ns & cs) ≡ met_t (MetAt out number) names scopes counts p r name
     unfolding met_t plan_outer_t plan_done_t
-    outer_done e q ns cs w = no! _ (sym u ∙ f) (yes! _ (sym t ∙ not_false b e) (rw (← w)))
+    outer_done e q ns cs w = no! _ (sym u ∙ f) (yes! _ (sym t ∙ not-false b e) (rw (← w)))
 
 module _ (entered names : List Slot) (scopes : List (List ℕ)) (counts : List ℕ) (p : PlanState) (r : Reference) where
   module _ (name : ℕ) (b : Bool) (t : b ≡ is_found (find_in (between 0 p.entered entered) r.space name)) where

@@ -1,6 +1,6 @@
 -- Ways through the code that reads rows.
 use mathlib.Core.Path.{◌≡◌, refl, sym, ap, ◌∙◌}
-use mathlib.Core.Bool.{Bool, true, false, ◌&&◌, not, or_false, and_true, and_false}
+use mathlib.Core.Bool.{Bool, true, false, ◌&&◌, not, or-false, and-true, and-false}
 use mathlib.Core.Option.{Option, none, some}
 use mathlib.Core.Logic.{⊎_elim}
 use mathlib.Core.List.{List, [], ◌∷◌}
@@ -9,7 +9,7 @@ use Prim.Native.Nat.{ℕ, ◌+◌, ◌-◌, ◌/◌, ◌≤◌, ◌<◌}
 use lib.Dec.{eqb, leb}
 use lib.ListN.{length, get_or, set}
 use borrow.Author.Rules.{rules}
-use borrow.Author.Tests.{eq-eqb, ne_eqb, not_true, not_false}
+use borrow.Author.Tests.{eq-eqb, ne_eqb, not-true, not-false}
 use Rattle.kit.specs.Pick.{pick}
 use Rattle.kit.specs.Out.{◌&◌}
 use Rattle.kit.proofs.Laws.{yes!, no!, tests, lt_or_le}
@@ -150,7 +150,7 @@ module _ (s : ReadState) where
   settled_as h = ⊎_elim (λ g. low g) (λ g. high g) (lt_or_le s.stage 4)
     where
       low : s.stage < 4 → settled_t (current_in s) ≡ is_complete (wanted_t (current_in s)) && not (exports s.field.code)
-      low g = rw (inside s (omega arith)) (unfold settled_t in rw (not_exported s.stage s.paths (left_of s.left) (omega arith)) (or_false _))
+      low g = rw (inside s (omega arith)) (unfold settled_t in rw (not_exported s.stage s.paths (left_of s.left) (omega arith)) (or-false _))
 
       high : 3 < s.stage → settled_t (current_in s) ≡ is_complete (wanted_t (current_in s)) && not (exports s.field.code)
       high g = rw (outside s g) (unfold settled_t wanted_t is_complete in refl)
@@ -160,10 +160,10 @@ module _ (s : ReadState) where
 
   module _ (h : s.stage ≡ 3 → ⊥) (e : Bool) (x : e ≡ exports s.field.code) where
     pub settled_not : e ≡ true → false ≡ settled_t (current_in s)
-    settled_not g = sym (settled_as h ∙ rw (← x, g) (and_false (is_complete (wanted_t (current_in s)))))
+    settled_not g = sym (settled_as h ∙ rw (← x, g) (and-false (is_complete (wanted_t (current_in s)))))
 
     pub settled_here : e ≡ false → (t : Bool) → t ≡ is_complete (wanted_t (current_in s)) → t ≡ settled_t (current_in s)
-    settled_here g t q = q ∙ sym (settled_as h ∙ rw (← x, g) (and_true _))
+    settled_here g t q = q ∙ sym (settled_as h ∙ rw (← x, g) (and-true _))
 
   pub end_between : 3 < s.stage → true ≡ may_end_t (current_in s)
   end_between h = sym (ap may_end_t (outside s h) ∙ (unfold may_end_t in refl))
@@ -173,24 +173,24 @@ module _ (s : ReadState) where
 
   module _ (h : s.stage ≤ 3) (b : Bool) (x : b ≡ is_none (opens s.field.code)) where
     pub end_settled : b ≡ true → (t : Bool) → t ≡ settled_t (current_in s) → t ≡ may_end_t (current_in s)
-    end_settled g t q = q ∙ sym (end_as h ∙ rw (← x, g) (and_true _))
+    end_settled g t q = q ∙ sym (end_as h ∙ rw (← x, g) (and-true _))
 
     pub end_opens : b ≡ false → false ≡ may_end_t (current_in s)
-    end_opens g = sym (end_as h ∙ rw (← x, g) (and_false (settled_t (current_in s))))
+    end_opens g = sym (end_as h ∙ rw (← x, g) (and-false (settled_t (current_in s))))
 
   module _ (kind name : ℕ) where
     open_as : may_open_t (current_in s) kind name ≡ settled_t (current_in s) && same_kind (opens s.field.code) kind && eqb name s.field.name
     open_as = ⊎_elim (λ g. rw (inside s (omega arith)) (unfold may_open_t in refl)) (λ g. rw (outside s g) (unfold may_open_t settled_t in refl)) (lt_or_le s.stage 4)
 
     pub open_name_lem : (name ≡ s.field.name → ⊥) → false ≡ may_open_t (current_in s) kind name
-    open_name_lem h = sym (open_as ∙ rw (ne_eqb name s.field.name h) (simp and_false))
+    open_name_lem h = sym (open_as ∙ rw (ne_eqb name s.field.name h) (simp and-false))
 
     module _ (h : name ≡ s.field.name) (b : Bool) (x : b ≡ same_kind (opens s.field.code) kind) where
       pub open_settled : b ≡ true → (t : Bool) → t ≡ settled_t (current_in s) → t ≡ may_open_t (current_in s) kind name
-      open_settled g t q = q ∙ sym (open_as ∙ rw (← x, g, eq-eqb name s.field.name h) (simp and_true))
+      open_settled g t q = q ∙ sym (open_as ∙ rw (← x, g, eq-eqb name s.field.name h) (simp and-true))
 
       pub open_kind : b ≡ false → false ≡ may_open_t (current_in s) kind name
-      open_kind g = sym (open_as ∙ rw (← x, g) (simp and_false))
+      open_kind g = sym (open_as ∙ rw (← x, g) (simp and-false))
 
 module _ (code : ℕ) (i : Inner) (o : as_option i ≡ opens code) where
   pub opens_nothing : i ≡ inner.Nothing → true ≡ is_none (opens code)
@@ -234,7 +234,7 @@ low_declares_lem code = ⊎_elim (λ h. same_at (λ k. low_declares (declares k)
 may_low : (d : Declares) (n space : ℕ) → low_declares d ≡ true → 12 < space → may_declare d n space ≡ false
 unfolding low_declares may_declare
 may_low nothing n space l h = refl
-may_low (single spaces) n space l h = rw (low_not_in space h spaces l) (and_false (eqb n 0))
+may_low (single spaces) n space l h = rw (low_not_in space h spaces l) (and-false (eqb n 0))
 may_low (several spaces) n space l h = low_not_in space h spaces l
 
 declared_known : (code n space : ℕ) → may_declare (declares code) n space ≡ true → known space ≡ space
@@ -267,11 +267,11 @@ module _ (rules : RuleSet) (s : ReadState) (space name : ℕ) where
     decl_as = rw (inside s (omega arith), is_declaring s.stage s.paths (left_of s.left) h) (unfold on_decl_t in rw (← p))
 
     pub decl_not : not m ≡ true → (r : ReadState) → outcome_of r ≡ wrong → outcome_of r ≡ on_decl_t rules (position_of s) space name
-    decl_not g r w = w ∙ sym (decl_as ∙ rw (not_true m g) (unfold pick in refl))
+    decl_not g r w = w ∙ sym (decl_as ∙ rw (not-true m g) (unfold pick in refl))
 
     pub decl_more : not m ≡ false → (wide : ℕ) → wide ≡ space → (n : ℕ) → left_of n ≡ declared_left rules s.field (left_of s.left) (known wide) → (f : Field) → f ≡ declared_t s.field name → (paths : ℕ) → outcome_of (made s.depth s.kind n paths f 0) ≡ on_decl_t rules (position_of s) space name
     decl_more g wide v n l f e paths =
-        let t = not_false m g in
+        let t = not-false m g in
         let k = declared_known s.field.code s.field.decls space (sym p ∙ t) in
         made_declaring _ _ n paths f ∙ rw (l, v, k, e) (sym (decl_as ∙ rw t (unfold pick in refl)))
 
@@ -357,41 +357,41 @@ module _ (s : ReadState) (m e : Bool) (p : m ≡ is_complete (wanted_t (current_
 module _ (s : ReadState) (kinds : List ℕ) (kind name : ℕ) (m : Bool) (p : m ≡ may_open_t (current_in s) kind name) (r : ReadState) where
   pub open_not : not m ≡ true → outcome_of r ≡ wrong → (outcome_of r & kinds) ≡ on_open_t (position_of s) kinds kind name
   unfolding position_of on_open_t pick
-  open_not h w = rw (← p, not_true m h, w)
+  open_not h w = rw (← p, not-true m h, w)
 
   module _ (h : not m ≡ false) where
     pub open_deep : length kinds ≤ s.depth → outcome_of r ≡ deep → (outcome_of r & kinds) ≡ on_open_t (position_of s) kinds kind name
     unfolding position_of on_open_t pick
-    open_deep g w = let t : leb (length kinds) s.depth ≡ true = omega tests in rw (← p, not_false m h, t, w)
+    open_deep g w = let t : leb (length kinds) s.depth ≡ true = omega tests in rw (← p, not-false m h, t, w)
 
     pub open_on : s.depth < length kinds → outcome_of r ≡ between_t (s.depth + 1) kind → (outcome_of r & set kinds s.depth s.kind) ≡ on_open_t (position_of s) kinds kind name
     unfolding position_of on_open_t pick
-    open_on g e = let t : leb (length kinds) s.depth ≡ false = omega tests in rw (← p, not_false m h, t, e)
+    open_on g e = let t : leb (length kinds) s.depth ≡ false = omega tests in rw (← p, not-false m h, t, e)
 
 module _ (s : ReadState) (kinds : List ℕ) (m : Bool) (p : m ≡ may_end_t (current_in s)) (r : ReadState) where
   pub close_not : not m ≡ true → outcome_of r ≡ wrong → outcome_of r ≡ on_close_t (position_of s) kinds
   unfolding position_of on_close_t pick
-  close_not h w = rw (← p, not_true m h, w)
+  close_not h w = rw (← p, not-true m h, w)
 
   module _ (h : not m ≡ false) where
     pub close_whole : s.depth ≤ 1 → outcome_of r ≡ whole → outcome_of r ≡ on_close_t (position_of s) kinds
     unfolding position_of on_close_t pick
-    close_whole g w = let t : leb s.depth 1 ≡ true = omega tests in rw (← p, not_false m h, t, w)
+    close_whole g w = let t : leb s.depth 1 ≡ true = omega tests in rw (← p, not-false m h, t, w)
 
     pub close_on : 1 < s.depth → (k : ℕ) → k ≡ get_or kinds (s.depth - 1) 0 → outcome_of r ≡ between_t (s.depth - 1) k → outcome_of r ≡ on_close_t (position_of s) kinds
     unfolding position_of on_close_t pick
-    close_on g k q e = let t : leb s.depth 1 ≡ false = omega tests in rw (← p, not_false m h, t, ← q) e
+    close_on g k q e = let t : leb s.depth 1 ≡ false = omega tests in rw (← p, not-false m h, t, ← q) e
 
 -- ---- any row
 
 module _ (rules : RuleSet) (P : Position) (kinds : List ℕ) (r : ReadState) (top : ℕ) (p : Parts) (m : Bool) (q : m ≡ is_sound top p) where
   pub step_unsound : not m ≡ true → outcome_of r ≡ wrong → (outcome_of r & kinds) ≡ read_step_t rules P kinds (row_of top p)
   unfolding read_step_t
-  step_unsound h w = rw (unsound top p (sym q ∙ not_true m h), w)
+  step_unsound h w = rw (unsound top p (sym q ∙ not-true m h), w)
 
   module _ (h : not m ≡ false) where
     sound : is_sound top p ≡ true
-    sound = sym q ∙ not_false m h
+    sound = sym q ∙ not-false m h
 
     pub step_field : p.code ≡ 1 → (code builtin : ℕ) → code ≡ p.b → builtin ≡ p.e → outcome_of r ≡ on_field_t P code builtin → (outcome_of r & kinds) ≡ read_step_t rules P kinds (row_of top p)
     unfolding read_step_t

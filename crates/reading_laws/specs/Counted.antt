@@ -16,7 +16,7 @@ use Rattle.rules.specs.Tree.{Declaration, Operand, ref, outer, case, Head, Scope
 use Rattle.rules.specs.Good.{GoodScope, GoodFields}
 use Rattle.rules.specs.Readings
 use Rattle.rules.specs.Readings.{is_inserted, Place, Level, held, Spot, original, inserted, in_original, in_inserted, place, counted, counted_out, counting, counting_reading}
-use Rattle.rules.specs.Laws.ToolLaws.{All, done, ◌&◌, all_append, all_map, eqb_true}
+use Rattle.rules.specs.Laws.ToolLaws.{All, done, ◌&◌, all_append, all_map, eqb-true}
 use Rattle.rules.specs.Laws.Results.{some_same, no_option}
 use Rattle.rules.specs.Laws.Meaning.Names.{LowScope}
 use Rattle.rules.specs.Laws.Output.Numbers.{Numbered, AllNumbered, NumberedScope, NumberedFields, NumberedItem}
@@ -165,7 +165,7 @@ module _ (s : Scope) (fs : List Floor) (own : All (AtItsWay s) fs) where
 
       go : (b : Bool) → eqb h.code 11 ≡ b
           → Agree s fs (if b then counted_out (levels fs) h.operands else none) (if b then said_out fs h.operands m else said (some x) n 0)
-      go true b = agree_out h.operands m (c (eqb_true h.code 11 b))
+      go true b = agree_out h.operands m (c (eqb-true h.code 11 b))
       go false b = itself
 
 -- a number in the innermost of these scopes

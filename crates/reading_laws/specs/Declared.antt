@@ -9,7 +9,7 @@ use Rattle.rules.specs.Tools.{if◌then◌else◌}
 use Rattle.rules.specs.Rows.{encode}
 use Rattle.rules.specs.Tree.{Declaration, Head, Scope, Fields, end, ◌▸◌, head_of, item_rows, flatten}
 use Rattle.rules.specs.Readings.{is_inserted, Place, Level, Spot, original, inserted, in_original, in_inserted, place}
-use Rattle.rules.specs.Laws.ToolLaws.{All, done, ◌&◌, all_append, eqb_true}
+use Rattle.rules.specs.Laws.ToolLaws.{All, done, ◌&◌, all_append, eqb-true}
 use Rattle.rules.specs.Laws.Results.{some_same, no_option}
 use Rattle.places.specs.PlaceRows.{Floor, floors_at, decl_at, row_of_decl, Located, in_rows, located, located_of, counted_row}
 use Rattle.places.specs.Counting.{spot_of, of_space_all}
@@ -72,7 +72,7 @@ space_is (x ∷ xs) space = go (eqb x.standing.decl.space space) refl (space_is 
   where
     go : (b : Bool) → eqb x.standing.decl.space space ≡ b → All (λ (x : Located). x.standing.decl.space ≡ space) (located_of xs space)
         → All (λ (x : Located). x.standing.decl.space ≡ space) (if b then x ∷ located_of xs space else located_of xs space)
-    go true e a = eqb_true _ space e & a
+    go true e a = eqb-true _ space e & a
     go false e a = a
 
 counted_own : (f : Floor) (space n : ℕ) (x : Located) → counted_row f space n ≡ some x → counted_row f x.standing.decl.space n ≡ some x

@@ -22,7 +22,7 @@ use Rattle.rules.specs.Readings
 use Rattle.rules.specs.Readings.{is_inserted, Place, Standing, in_original, in_inserted, standings, walked, walked_at}
 use Rattle.rules.specs.Laws.Results.{some_same, no_option}
 use Rattle.places.specs.PlaceRows.{Floor, operand_at, row_of_operand, Located, located, located_of, counted_row}
-use Rattle.places.specs.Counting.{map_append, standing, located_standings}
+use Rattle.places.specs.Counting.{map-append, standing, located_standings}
 use Rattle.places.specs.RowAt.{operand_row_of, decls_of, own_decls}
 use Rattle.row_parts.specs.Parts.{code_at, b_at, e_at, x_at, y_at, field_of}
 use Rattle.scopes.specs.Scopes.{scope_of, is_meant, find_in, scope_outward}
@@ -127,7 +127,7 @@ standing_decls : (n : ℕ) (fs : Fields) → decls_of (standings n fs) ≡ decla
 unfolding standings declarations
 standing_decls n end = refl
 standing_decls n (i ▸ fs) =
-    map_append (λ (s : Standing). s.decl) (if is_inserted (head_of i) then in_inserted (head_of i) (head_of i).decls else in_original n 0 (head_of i).decls) _
+    map-append (λ (s : Standing). s.decl) (if is_inserted (head_of i) then in_inserted (head_of i) (head_of i).decls else in_original n 0 (head_of i).decls) _
     ∙ (ap (λ (l : List Declaration). l ++ decls_of (standings (if is_inserted (head_of i) then n else suc n) fs)) (own_decls (is_inserted (head_of i)) n (head_of i))
     ∙ ap (λ (l : List Declaration). (head_of i).decls ++ l) (standing_decls (if is_inserted (head_of i) then n else suc n) fs))
 

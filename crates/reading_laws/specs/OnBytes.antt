@@ -2,7 +2,7 @@
 -- look like a form with a header of eight bytes, which is what the readings on rows take.
 use Rattle.std.specs.Prelude.{◌≡◌, refl, Bool, true, false, ◌||◌, not, ℕ, ◌+◌, ◌-◌, ◌*◌, ◌/◌, ◌≤◌, ◌^◌, ◌<◌, eqb, ltb, length, drop}
 use Rattle.std.proofs.Math.Path.{ap}
-use Rattle.std.proofs.Common.{sym, ◌∙◌, subst, arith, length-append, length-drop, drop_drop, ltb-false}
+use Rattle.std.proofs.Common.{sym, ◌∙◌, subst, arith, length-append, length-drop, drop-drop, ltb-false}
 use Rattle.std.proofs.Math.Option.{Option, none, some}
 use mathlib.Core.List.{List, [], ◌∷◌, ◌++◌, map, append-nil}
 use Rattle.std.proofs.lemmas.List.{length-map}
@@ -15,7 +15,7 @@ use Rattle.rules.specs.Tree.{Scope, flatten, form as tree}
 use Rattle.rules.specs.Good.{GoodScope}
 use Rattle.rules.specs.Answer
 use Rattle.rules.specs.Answer.{AnswerOf, refused, accepted, map_answer, answer, answer_in, form_in, output, row_count, rows_in, rows_bytes, form_bytes, written, setting_of}
-use Rattle.rules.specs.Laws.ToolLaws.{Ok, ok_at, eqb_true}
+use Rattle.rules.specs.Laws.ToolLaws.{Ok, ok_at, eqb-true}
 use Rattle.rules.specs.Laws.RowLaws.{Bytes}
 use Rattle.rules.specs.Laws.Read.BeginsWritten.{rows_length}
 use Rattle.rules.specs.Laws.Read.ReadRight.{read_right}
@@ -96,7 +96,7 @@ long_enough v input room t e = go (between 1 v.version.rows (row_count v.version
   where
     go : (a b : Bool) → eqb (length input) (v.version.header + 16 * row_count v.version input) ≡ b → (rest : AnswerOf Scope) → (if not a || not b then refused 2 0 [] else rest) ≡ accepted t
         → length input ≡ v.version.header + 16 * row_count v.version input
-    go true true q rest e = eqb_true _ _ q
+    go true true q rest e = eqb-true _ _ q
     go true false q rest e = let no_way : ◌≡◌ {A = ℕ} 0 1 = cc in absurd (omega arith)
     go false b q rest e = let no_way : ◌≡◌ {A = ℕ} 0 1 = cc in absurd (omega arith)
 
@@ -104,7 +104,7 @@ long_enough v input room t e = go (between 1 v.version.rows (row_count v.version
 pub body_stands : (v : Setting) (bs : List ℕ) (top count : ℕ) (rs : List Row) → 8 ≤ v.version.header → Answer.rows_of top count (drop v.version.header bs) ≡ map some rs → At (body v bs) 0 rs
 body_stands v bs top count rs h e =
     let to-rows : v.version.header - 8 + 8 ≡ v.version.header = omega (arith, h) in
-    rows_stand (body v bs) 0 top count rs (ap (Answer.rows_of top count) (drop_drop 8 (v.version.header - 8) bs ∙ ap (λ (n : ℕ). drop n bs) to-rows) ∙ e)
+    rows_stand (body v bs) 0 top count rs (ap (Answer.rows_of top count) (drop-drop 8 (v.version.header - 8) bs ∙ ap (λ (n : ℕ). drop n bs) to-rows) ∙ e)
 
 body_long : (v : Setting) (bs : List ℕ) (n : ℕ) → 8 ≤ v.version.header → v.version.header + 16 * n ≤ length bs → 8 + 16 * n ≤ length (body v bs)
 body_long v bs n h long = let l = length-drop (v.version.header - 8) bs in omega (arith, l, h, long)

@@ -15,7 +15,7 @@ use Rattle.rules.specs.Tools.{if◌then◌else◌, ◌then◌, ◌or_else◌}
 use Rattle.rules.specs.Tree.{Scope}
 use Rattle.rules.specs.Readings
 use Rattle.rules.specs.Readings.{Place, Level, Standing, Spot, original, inserted, standings, first_named, place, declared}
-use Rattle.rules.specs.Laws.ToolLaws.{All, ◌&◌, eqb_true, eqb_false, eqb_same, false_not}
+use Rattle.rules.specs.Laws.ToolLaws.{All, ◌&◌, eqb-true, eqb-false, eqb_same, false_not}
 use Rattle.rules.specs.Laws.Results.{some_same, no_option}
 use Rattle.places.specs.PlaceRows.{Floor, Located, located, located_of, counted_row, row_of_decl}
 use Rattle.places.specs.Counting.{levels, standing, spot_of, located_standings}
@@ -127,8 +127,8 @@ eqb_turn : (m n : ℕ) → eqb m n ≡ eqb n m
 eqb_turn m n = go (eqb n m) refl
   where
     go : (b : Bool) → eqb n m ≡ b → eqb m n ≡ b
-    go true e = let same = eqb_true n m e in omega (tests, same)
-    go false e = eqb_false m n (λ q. false_not (sym e ∙ (ap (λ (k : ℕ). eqb n k) q ∙ eqb_same n)))
+    go true e = let same = eqb-true n m e in omega (tests, same)
+    go false e = eqb-false m n (λ q. false_not (sym e ∙ (ap (λ (k : ℕ). eqb n k) q ∙ eqb_same n)))
 
 module _ (space name : ℕ) (is_name : eqb name 0 ≡ false) where
   pub by_name_lem : (other number : ℕ) → is_meant (Name name) other number ≡ eqb other name

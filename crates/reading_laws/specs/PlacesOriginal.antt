@@ -14,7 +14,7 @@ use Rattle.rules.specs.Rows.{Row, Field, Close, encode}
 use Rattle.rules.specs.Tree.{Declaration, Operand, ref, outer, case, Head, Scope, Fields, end, ◌▸◌, Item, head_of, flatten, fields_rows, item_rows, head_rows, decl_rows, operand_row, operand_rows, export_rows}
 use Rattle.rules.specs.Good.{GoodScope}
 use Rattle.rules.specs.Readings.{is_fresh, any_fresh, is_inserted, Place}
-use Rattle.rules.specs.Laws.ToolLaws.{then_some, or_cases, or_true, false_not}
+use Rattle.rules.specs.Laws.ToolLaws.{then_some, or_cases, or-true, false_not}
 use Rattle.rules.specs.Laws.Results.{some_same, no_option}
 use Rattle.places.specs.PlaceRows.{Placed, originals_from, Floor, floors_at, field_in, field_at, decl_row, row_of_decl}
 use Rattle.places.specs.RowAt.{all_at}
@@ -77,7 +77,7 @@ module _ (form : List ℕ) where
       let same : d.name ≡ c.name = sym (ap x_part a.0) ∙ ap x_part b.0 in
       or_cases (is_fresh d.name) (any_fresh ds) e
       (λ t. ap (λ (x : Bool). x || any_fresh es) (ap is_fresh (sym same) ∙ t))
-      (λ t. ap (λ (x : Bool). is_fresh c.name || x) (fresh_too ds es (row + 1) r n a.1 b.1 t) ∙ or_true (is_fresh c.name))
+      (λ t. ap (λ (x : Bool). is_fresh c.name || x) (fresh_too ds es (row + 1) r n a.1 b.1 t) ∙ or-true (is_fresh c.name))
 
   -- the FIELD of a DECL
   up_decls : (ds : List Declaration) (row m : ℕ) → At form (row + 1) (decl_rows ds) → m < length ds → field_of form (suc (row + m)) ≡ field_of form row

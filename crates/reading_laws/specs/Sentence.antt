@@ -111,19 +111,19 @@ module _ (input old : List ℕ) (bs : Bytes input) (out : List Row) (e : answer 
 
   pub rows_after_lem : Rows (output base input old) trees.after
   rows_after_lem =
-      subst (λ (l : List ℕ). Rows l trees.after) (whole_body (output base input old) trees.setting the_one) (OnBytes.rows-after base base_usual base_within input old bs out e)
+      subst (λ (l : List ℕ). Rows l trees.after) (whole_body (output base input old) trees.setting the_one) (OnBytes.rows_after_lem base base_usual base_within input old bs out e)
 
   good_after : GoodScope trees.setting.rules trees.after
-  good_after = OnBytes.good-after base base_usual base_within input old bs out e
+  good_after = OnBytes.good_after base base_usual base_within input old bs out e
 
   -- the input has its tree's rows and nothing behind them
   just_these : length input ≡ 8 + 16 * length (flatten trees.before)
-  just_these = ap length (sym (whole_body input trees.setting the_one)) ∙ OnBytes.just-these base base_usual base_within input old bs out e
+  just_these = ap length (sym (whole_body input trees.setting the_one)) ∙ OnBytes.just_these base base_usual base_within input old bs out e
 
   -- the form's bytes alone
   pub rows_of_file : Rows (form_bytes trees.setting out) trees.after
   rows_of_file =
-      subst (λ (l : List ℕ). Rows l trees.after) (whole_body (form_bytes trees.setting out) trees.setting the_one) (OnBytes.rows-of-file base base_usual base_within input old bs out e)
+      subst (λ (l : List ℕ). Rows l trees.after) (whole_body (form_bytes trees.setting out) trees.setting the_one) (OnBytes.rows_of_file base base_usual base_within input old bs out e)
 
   -- in any bytes in which the output's rows stand
   module _ (written-bytes : List ℕ) (R : Rows written-bytes trees.after) where

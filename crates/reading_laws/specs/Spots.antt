@@ -16,7 +16,7 @@ use Rattle.rules.specs.Tree.{Declaration, Operand, ref, outer, case, Head, Scope
 use Rattle.rules.specs.Shapes.{declares, enough}
 use Rattle.rules.specs.Good.{GoodHead, GoodScope, GoodFields, GoodItem}
 use Rattle.rules.specs.Readings.{is_fresh, any_fresh, is_inserted, held, Spot, original, inserted, in_original, in_inserted}
-use Rattle.rules.specs.Laws.ToolLaws.{All, done, ◌&◌, all_append, eqb_true}
+use Rattle.rules.specs.Laws.ToolLaws.{All, done, ◌&◌, all_append, eqb-true}
 use Rattle.rules.specs.Laws.Results.{some_same, no_option}
 use Rattle.places.specs.PlaceRows.{Floor, floors_at, Located, in_rows, located}
 use Rattle.places.specs.RowAt.{decls_length}
@@ -39,7 +39,7 @@ module _ (rules : RuleSet) where
   -- an outer alias has one DECL
   pub one_decl : (h : Head) (kind : ℕ) → GoodHead rules kind h → h.code ≡ 11 → length h.decls ≡ 1
   unfolding declares enough
-  one_decl h kind g e = eqb_true (length h.decls) 1 (subst (λ (c : ℕ). enough (declares c) (length h.decls) ≡ true) e g.enough_declared)
+  one_decl h kind g e = eqb-true (length h.decls) 1 (subst (λ (c : ℕ). enough (declares c) (length h.decls) ≡ true) e g.enough_declared)
 
   -- the fields of a floor are good
   abbrev pub GoodOf : Fields → Type 0

@@ -1,6 +1,6 @@
 -- Rows that stand in the bytes of a form, one behind another.
 use Rattle.std.specs.Prelude.{◌≡◌, refl, List, [], ◌∷◌, ◌++◌, map, ℕ, zero, suc, ◌+◌, length, get_or, take, drop}
-use Rattle.std.proofs.Common.{ap, sym, ◌∙◌, subst, arith, add-zero, get_or-drop, drop_drop}
+use Rattle.std.proofs.Common.{ap, sym, ◌∙◌, subst, arith, add-zero, get_or-drop, drop-drop}
 use Rattle.std.proofs.Math.Option.{some}
 use Rattle.std.proofs.Math.ListN.{get_elem?}
 use Rattle.rules.specs.Rows.{value, Raw, raw, raw_at, Row, encode, decode_row}
@@ -97,7 +97,7 @@ value_two l a = here (drop a l) ∙ rw (get_or-drop a l 0 0, get_or-drop a l 1 0
 raw_at_lem : (l : List ℕ) (a : ℕ) → raw_at (drop a l) ≡ raw (get_or l a 0) (get_or l (a + 1) 0) (two l (a + 2)) (four l (a + 4)) (four l (a + 8)) (four l (a + 12))
 unfolding raw_at
 raw_at_lem l a =
-    rw (drop_drop 1 a l, drop_drop 2 a l, drop_drop 4 a l, drop_drop 8 a l, drop_drop 12 a l, value_one l a, value_one l (a + 1), value_two l (a + 2), value_four l (a + 4), value_four l (a + 8), value_four l (a + 12))
+    rw (drop-drop 1 a l, drop-drop 2 a l, drop-drop 4 a l, drop-drop 8 a l, drop-drop 12 a l, value_one l a, value_one l (a + 1), value_two l (a + 2), value_four l (a + 4), value_four l (a + 8), value_four l (a + 12))
 
 row_stands : (form : List ℕ) (row top : ℕ) (r : Row) → decode_row top (drop (start_of row) form) ≡ some r → Is form row r
 unfolding code_at b_at e_at x_at y_at z_at decode_row
@@ -112,5 +112,5 @@ rows_stand form row top (suc count) (r ∷ rs) e =
     let first : decode_row top (drop (start_of row) form) ≡ some r = cc in
     let rest : rows_of top count (drop 16 (drop (start_of row) form)) ≡ map some rs = cc in
     let one_on_lem : start_of row + 16 ≡ start_of (row + 1) = omega arith in
-    let next : drop 16 (drop (start_of row) form) ≡ drop (start_of (row + 1)) form = drop_drop 16 (start_of row) form ∙ ap (λ (n : ℕ). drop n form) one_on_lem in
+    let next : drop 16 (drop (start_of row) form) ≡ drop (start_of (row + 1)) form = drop-drop 16 (start_of row) form ∙ ap (λ (n : ℕ). drop n form) one_on_lem in
     (row_stands form row top r first, rows_stand form (row + 1) top count rs (rw next at rest))

@@ -11,7 +11,7 @@ use Rattle.rules.specs.Tree.{Operand, ref, outer, case, Head, Scope, head_of, fl
 use Rattle.rules.specs.Shapes.{here_only}
 use Rattle.rules.specs.Readings
 use Rattle.rules.specs.Readings.{Place, walked, walked_at}
-use Rattle.rules.specs.Laws.ToolLaws.{and_left, and_right, not_true, eqb_true, false_not}
+use Rattle.rules.specs.Laws.ToolLaws.{and_left, and_right, not-true, eqb-true, false_not}
 use Rattle.rules.specs.Laws.Meaning.Names.{LowScope}
 use Rattle.places.specs.PlaceRows.{row_of_operand}
 use Rattle.places.specs.RowAt.{operand_row_of}
@@ -37,9 +37,9 @@ read_outward form r e =
     let first = and_left (eqb (code_at form r) 3 && eqb (y_at form r) 0) (not (here_only (b_at form (field_of form r)))) T.1 in
     record {
       named = T.0;
-      is_ref_lem = eqb_true (code_at form r) 3 (and_left (eqb (code_at form r) 3) (eqb (y_at form r) 0) first);
-      bare = eqb_true (y_at form r) 0 (and_right (eqb (code_at form r) 3) (eqb (y_at form r) 0) first);
-      walks = not_true (here_only (b_at form (field_of form r))) (and_right (eqb (code_at form r) 3 && eqb (y_at form r) 0) (not (here_only (b_at form (field_of form r)))) T.1);
+      is_ref_lem = eqb-true (code_at form r) 3 (and_left (eqb (code_at form r) 3) (eqb (y_at form r) 0) first);
+      bare = eqb-true (y_at form r) 0 (and_right (eqb (code_at form r) 3) (eqb (y_at form r) 0) first);
+      walks = not-true (here_only (b_at form (field_of form r))) (and_right (eqb (code_at form r) 3 && eqb (y_at form r) 0) (not (here_only (b_at form (field_of form r)))) T.1);
     }
   where
     go : (a b : Bool) → is_outward (pick a Counting (pick b Outward LookedUp)) ≡ true → (a ≡ false) × (b ≡ true)

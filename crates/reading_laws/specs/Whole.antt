@@ -17,7 +17,7 @@ use Rattle.rules.specs.Rows.{Field, Ref, Outer, Index, Num, Id, encode, flag, nu
 use Rattle.rules.specs.Tree.{Declaration, Operand, ref, outer, Head, Scope, head_rows, decl_rows, operand_row, operand_rows, export_rows}
 use Rattle.rules.specs.Good.{GoodScope}
 use Rattle.rules.specs.Readings.{is_fresh, any_fresh, is_inserted, Place, Spot, original, inserted}
-use Rattle.rules.specs.Laws.ToolLaws.{All, ◌&◌, and_false, or_false, eqb_true}
+use Rattle.rules.specs.Laws.ToolLaws.{All, ◌&◌, and-false, or-false, eqb-true}
 use Rattle.rules.specs.Laws.Results.{some_same, no_option}
 use Rattle.places.specs.PlaceRows.{Floor, floors_at, operand_at, row_of_operand, Located, counted_row}
 use Rattle.places.specs.Counting.{spot_of, of_space_all}
@@ -109,7 +109,7 @@ module _ (form : List ℕ) where
 
   not_before : (row : ℕ) → eqb (code_at form (next_of row)) 5 ≡ false → is_inserted_outer form row ≡ false
   unfolding is_inserted_outer
-  not_before row e = rw (e, and_false (parts.is_inserted form row))
+  not_before row e = rw (e, and-false (parts.is_inserted form row))
 
   is_alias_lem : (row : ℕ) (d : Declaration) → Is form row (decl_row_of d) → is_fresh d.name ≡ true → code_at form (next_of row) ≡ 5 → is_inserted_outer form row ≡ true
   unfolding is_inserted_outer parts.is_inserted encode
@@ -160,7 +160,7 @@ module _ (form : List ℕ) where
       let first = M.0 in
       let next : next_of x.row ≡ I.row + 1 + 1 = next_row x.row low ∙ omega (arith, is_at, first) in
       let fresh : is_fresh x.standing.decl.name ≡ true =
-      ap (λ (c : Declaration). is_fresh c.name) M.1 ∙ or_false (is_fresh D.0.name) (sym (ap any_fresh D.1) ∙ I.new) in
+      ap (λ (c : Declaration). is_fresh c.name) M.1 ∙ or-false (is_fresh D.0.name) (sym (ap any_fresh D.1) ∙ I.new) in
       record {
         is_one_lem = is_alias_lem x.row x.standing.decl is fresh (ap (code_at form) next ∙ ap code_part A.1);
         around = ap (λ (k : ℕ). scope_above form k 0) next ∙ (up_even form (alias_even h D.0) I.row 0 A.0 ∙ I.around);
@@ -210,7 +210,7 @@ module _ (form : List ℕ) where
           where
             choose : (b : Bool) → eqb h.code 11 ≡ b → behind form m ≡ (if b then said_out (f ∷ rest) h.operands (through_outer form (next_of x.row)) else m)
             choose true e =
-                let A = alias_there f x h I is low (eqb_true h.code 11 e) in
+                let A = alias_there f x h I is low (eqb-true h.code 11 e) in
                 behind_alias x.row n out x.standing.decl.name m A.is_one_lem refl ∙ alias_said f rest C D x h A
             choose false e =
                 behind_itself x.row n out x.standing.decl.name m (not_before x.row (ap (λ (k : ℕ). eqb (code_at form k) 5) (next_row x.row low) ∙ I.before_other e)) refl

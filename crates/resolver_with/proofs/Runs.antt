@@ -8,7 +8,7 @@ use lib.Dec.{eqb}
 use lib.ListN.{length, get_or, take, drop, replicate, length-drop, length-replicate}
 use lib.Seq.{take_all}
 use borrow.Author.Rules.{rules}
-use borrow.Author.Tests.{eqb_true}
+use borrow.Author.Tests.{eqb-true}
 use mir.Syntax.{w8}
 use mir.Val.{Fits}
 use Rattle.kit.specs.Out.{◌&◌}
@@ -141,7 +141,7 @@ pub suits_exact : (i : ℕ) (entered names : List Slot) (known chains ends : Lis
 unfolding exactly
 suits_exact i entered names known chains ends e =
     let p = exact_parts _ _ _ _ _ e in
-    record { entered = eqb_true _ _ p.0; names = eqb_true _ _ p.1; known = eqb_true _ _ p.2; chains = eqb_true _ _ p.3; ends = eqb_true _ _ p.4 }
+    record { entered = eqb-true _ _ p.0; names = eqb-true _ _ p.1; known = eqb-true _ _ p.2; chains = eqb-true _ _ p.3; ends = eqb-true _ _ p.4 }
 
 -- what is admitted has room, so the areas were not too small
 enough_true : (enough : Bool) (room low : ℕ) → 0 < low → low ≤ (if enough then room else 0) → enough ≡ true

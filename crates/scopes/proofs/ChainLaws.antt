@@ -6,7 +6,7 @@ use mathlib.Core.List.{List}
 use native.Mathlib.Omega.{arith}
 use native.Mathlib.Numerals.{add-one}
 use Prim.Native.Nat.{ℕ, zero, suc, ◌+◌, ◌-◌, ◌*◌, ◌%◌, ◌≤◌, ◌<◌}
-use borrow.Author.Tests.{eqb_true}
+use borrow.Author.Tests.{eqb-true}
 use borrow.Author.Rules.{rules}
 use lib.Dec.{eqb}
 use lib.ListN.{length, get_or, set, replicate, length-set}
@@ -77,15 +77,15 @@ module _ (form : List ℕ) (s space row : ℕ) (h : stands form s space row ≡ 
   stands_on_lem kind value v =
       let b = both_true (eqb (scope_of form row) s && eqb (code_at form row) 2) (eqb (b_at form row) space) h in
       let a = both_true (eqb (scope_of form row) s) (eqb (code_at form row) 2) b.0 in
-      rw (a.1, v, eqb_true (scope_of form row) s a.0, eqb_true (b_at form row) space b.1) (same (chain_of s space value))
+      rw (a.1, v, eqb-true (scope_of form row) s a.0, eqb-true (b_at form row) space b.1) (same (chain_of s space value))
     where
       same : (n : ℕ) → eqb n n ≡ true
       same n = omega tests
 
   key_value : (key : Key) → 0 < kind_of key → is_meant key (x_at form row) (count_of form row) ≡ true → value_of form (kind_of key) row ≡ sought_by key
   unfolding value_of pick
-  key_value (Name wanted) k m = sym (eqb_true wanted (x_at form row) (both_true (not (eqb wanted 0)) (eqb wanted (x_at form row)) m).1)
-  key_value (Number wanted) k m = sym (eqb_true wanted (count_of form row) m)
+  key_value (Name wanted) k m = sym (eqb-true wanted (x_at form row) (both_true (not (eqb wanted 0)) (eqb wanted (x_at form row)) m).1)
+  key_value (Number wanted) k m = sym (eqb-true wanted (count_of form row) m)
   key_value Inserted k m = absurd (omega arith)
 
 module _ (form : List ℕ) (s space : ℕ) where
@@ -228,7 +228,7 @@ module _ (form : List ℕ) (kind : ℕ) (chains : List ℕ) where
         let d = down next h in
         let f : last_above form kind chain (suc (next - 1)) ≡ suc (next - 1) = sym (rw d at e) in
         let o = last_is_on form kind chain (next - 1) f in
-        let c = eqb_true (chain_at form kind (next - 1)) chain (both_true (eqb (code_at form (next - 1)) 2) (eqb (chain_at form kind (next - 1)) chain) o).1 in
+        let c = eqb-true (chain_at form kind (next - 1)) chain (both_true (eqb (code_at form (next - 1)) 2) (eqb (chain_at form kind (next - 1)) chain) o).1 in
         q ∙ t.links (next - 1) (omega arith) ∙ rw c
 
     pub link_less : (chain next p : ℕ) → 0 < next → next ≤ to → next ≡ last_above form kind chain next → p ≡ get_or chains (4096 + (next - 1)) 0 → p < next

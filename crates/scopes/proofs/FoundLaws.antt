@@ -5,7 +5,7 @@ use mathlib.Core.List.{List}
 use native.Mathlib.Omega.{arith}
 use Prim.Native.Nat.{ℕ, suc, ◌-◌, ◌<◌}
 use borrow.Author.Rules.{rules}
-use borrow.Author.Tests.{ltb-true, eqb_true}
+use borrow.Author.Tests.{ltb-true, eqb-true}
 use lib.Dec.{eqb, ltb}
 use lib.ListN.{length}
 use Rattle.row_parts.specs.Parts.{x_at, rows_in}
@@ -68,7 +68,7 @@ unfolding is_scope
 follow_is form scope space key first f h q e =
     let a = both_true (ltb 0 scope && ltb scope (rows_in form)) (eqb (scope_of form scope) scope) h in
     let b = both_true (ltb 0 scope) (ltb scope (rows_in form)) a.0 in
-    e ∙ rw q (find_first form scope space key (ltb-true 0 scope b.0) (eqb_true (scope_of form scope) scope a.1) (ltb-true scope (rows_in form) b.1))
+    e ∙ rw q (find_first form scope space key (ltb-true 0 scope b.0) (eqb-true (scope_of form scope) scope a.1) (ltb-true scope (rows_in form) b.1))
 
 pub ruleset found_ways = (is_scope_is, is_sought_is, found_none, found_there, follow_is, rules)
 

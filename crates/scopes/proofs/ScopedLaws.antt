@@ -7,7 +7,7 @@ use native.Mathlib.Omega.{arith}
 use native.Mathlib.Numerals.{add-one}
 use native.Mathlib.Nat.{add-suc}
 use Prim.Native.Nat.{ℕ, zero, suc, ◌+◌, ◌-◌, ◌≤◌, ◌<◌}
-use borrow.Author.Tests.{eqb_true}
+use borrow.Author.Tests.{eqb-true}
 use lib.Dec.{eqb, eqb-suc-zero}
 use Rattle.kit.specs.Pick.{pick}
 use Rattle.kit.proofs.Laws.{yes!, no!, tests, lt_or_le}
@@ -29,7 +29,7 @@ unfolding level_above pick
 above_opens zero code h = by (eqb code 8) refl
   where
     by : (c : Bool) → eqb code 8 ≡ c → level_above 1 code ≡ 0
-    by true c = let a = eqb_true code 8 c in let b = eqb_true code 7 h in absurd (omega arith)
+    by true c = let a = eqb-true code 8 c in let b = eqb-true code 7 h in absurd (omega arith)
     by false c = rw (c, h)
 above_opens (suc l) code h = let f : false ≡ true = simp eqb-suc-zero at h in absurd (let z : ◌≡◌ {A = ℕ} 0 1 = cc in omega arith)
 
@@ -49,7 +49,7 @@ unfolding level_above level_behind pick
 level_back l code h = by (eqb code 7) refl (eqb code 8) refl l h
   where
     by : (o : Bool) → eqb code 7 ≡ o → (c : Bool) → eqb code 8 ≡ c → (l : ℕ) → (eqb l 0 && eqb code 8) ≡ false → level_above (level_behind l code) code ≡ l
-    by true o true c l h = let a = eqb_true code 7 o in let b = eqb_true code 8 c in absurd (omega arith)
+    by true o true c l h = let a = eqb-true code 7 o in let b = eqb-true code 8 c in absurd (omega arith)
     by true o false c l h = rw (o, c) (omega arith)
     by false o true c zero h = let f : true ≡ false = rw c at h in absurd (let z : ◌≡◌ {A = ℕ} 0 1 = cc in omega arith)
     by false o true c (suc l) h = rw (o, c) (omega arith)
@@ -61,7 +61,7 @@ unfolding level_above level_behind pick
 level_in m l code i h = by (eqb code 7) refl (eqb code 8) refl m i h
   where
     by : (o : Bool) → eqb code 7 ≡ o → (c : Bool) → eqb code 8 ≡ c → (m : ℕ) → m < level_behind l code → (eqb m 0 && eqb code 7) ≡ false → level_above m code < l
-    by true o true c m i h = let a = eqb_true code 7 o in let b = eqb_true code 8 c in absurd (omega arith)
+    by true o true c m i h = let a = eqb-true code 7 o in let b = eqb-true code 8 c in absurd (omega arith)
     by true o false c zero i h = let f : true ≡ false = rw o at h in absurd (let z : ◌≡◌ {A = ℕ} 0 1 = cc in omega arith)
     by true o false c (suc m) i h = let j : suc m < l + 1 = rw o at i in rw (o, c) (omega arith)
     by false o true c m i h = let j : m < l - 1 = rw (o, c) at i in rw c (omega arith)
@@ -194,7 +194,7 @@ module _ (form : List ℕ) (s : ℕ) where
   above_close : (row l : ℕ) → eqb (code_at form row) 8 ≡ true → scope_above form (suc row) l ≡ scope_above form row (suc l)
   unfolding level_above pick
   above_close row l c =
-      let e = eqb_true (code_at form row) 8 c in
+      let e = eqb-true (code_at form row) 8 c in
       let f : (eqb l 0 && eqb (code_at form row) 7) ≡ false = rw e (none (eqb l 0)) in
       above_on form row l f ∙ rw c (rw add-one)
     where
@@ -225,7 +225,7 @@ module _ (form : List ℕ) (s : ℕ) where
       root : s ≡ 0 → l ≡ 0 → eqb (code_at form row) 8 ≡ true → On (row + 1) (level_behind l (code_at form row))
       root z k c =
           let p : scope_above form row 0 ≡ s = rw k at o.0 in
-          let d = eqb_true (code_at form row) 8 c in
+          let d = eqb-true (code_at form row) 8 c in
           let v : level_behind l (code_at form row) ≡ 0 = rw (d, k) in
           rw v (root_close row z p c)
 
@@ -241,7 +241,7 @@ module _ (form : List ℕ) (s : ℕ) where
       by : (t : Bool) → (eqb l 0 && eqb (code_at form row) 8) ≡ t → On (row + 1) (level_behind l (code_at form row))
       by true h =
           let a = both_true (eqb l 0) (eqb (code_at form row) 8) h in
-          which (lt_or_le 0 s) (eqb_true l 0 a.0) a.1
+          which (lt_or_le 0 s) (eqb-true l 0 a.0) a.1
       by false h = on_step row l b h o
 
 -- ---- the number of a declaration
@@ -271,7 +271,7 @@ module _ (form : List ℕ) (s space : ℕ) where
   stands_count row h =
       let b = both_true (eqb (scope_of form row) s && eqb (code_at form row) 2) (eqb (b_at form row) space) h in
       let a = both_true (eqb (scope_of form row) s) (eqb (code_at form row) 2) b.0 in
-      rw (eqb_true (scope_of form row) s a.0, eqb_true (b_at form row) space b.1)
+      rw (eqb-true (scope_of form row) s a.0, eqb-true (b_at form row) space b.1)
 
   count_before : (row : ℕ) → row ≤ s → count_above form s space row ≡ 0
   unfolding count_above
@@ -334,7 +334,7 @@ module _ (form : List ℕ) (s space : ℕ) (key : Key) where
   sought_close : (row : ℕ) → eqb (code_at form row) 8 ≡ true → is_sought form s space key row ≡ false
   unfolding is_sought stands
   sought_close row c =
-      let e = eqb_true (code_at form row) 8 c in
+      let e = eqb-true (code_at form row) 8 c in
       let d : eqb (code_at form row) 2 ≡ false = omega tests in
       rw d (none (eqb (scope_of form row) s))
     where
@@ -377,7 +377,7 @@ module _ (form : List ℕ) (s space : ℕ) (key : Key) where
             → pick (eqb l 0 && eqb (code_at form row) 8) Nothing (pick (declares form row l space && is_meant key (x_at form row) n) (At row n) (find_from form space key (row + 1) left (level_behind l (code_at form row)) (pick (declares form row l space) (n + 1) n))) ≡ T
         by true h m w i =
             let a = both_true (eqb l 0) (eqb (code_at form row) 8) h in
-            let p : scope_above form row 0 ≡ s = rw (eqb_true l 0 a.0) at o.0 in
+            let p : scope_above form row 0 ≡ s = rw (eqb-true l 0 a.0) at o.0 in
             let f = first_none (row + 1 + left) 0 (none_close row (row + 1 + left) b e a.1 (past_close form s row inner p a.1)) in
             sym (yes! _ h (rw f))
         by false h true w i =

@@ -54,7 +54,7 @@ module _ (by : Setting) (able : Able by) (ends : List ℕ) (entered names : List
 
     -- there are as many of them
     many : length (flatten (mark t)) ≡ length (flatten t)
-    many = Marks.like-rows _ t (mark t) (marked_like t)
+    many = Marks.like_rows _ t (mark t) (marked_like t)
 
     pub marked_count : length rows / 16 ≡ length (flatten t)
     marked_count =
@@ -65,7 +65,7 @@ module _ (by : Setting) (able : Able by) (ends : List ℕ) (entered names : List
     -- and they are read, where the names of inserted fields are
     again : rows_of out_name (length rows / 16) rows ≡ map some (flatten (mark t))
     again =
-        let fits = Marks.like-fits _ (omega (arith, able.few)) t (mark t) (marked_like t) fit in
+        let fits = Marks.like_fits _ (omega (arith, able.few)) t (mark t) (marked_like t) fit in
         ap₂ (λ (k : ℕ) (l : List ℕ). rows_of out_name k l) (marked_count ∙ sym many) (sym (append-nil rows)) ∙ rows_again out_name (flatten (mark t)) [] fits
 
     stands : At rows 0 (flatten (mark t))
@@ -79,7 +79,7 @@ module _ (by : Setting) (able : Able by) (ends : List ℕ) (entered names : List
         record { short = omega (arith, rooms.entered); entered = rooms.entered_narrow; names = rooms.names_narrow; scopes = omega arith }
 
     deep : height (mark t) ≤ v.scopes
-    deep = omega (arith, Marks.like-height _ t (mark t) (marked_like t))
+    deep = omega (arith, Marks.like_height _ t (mark t) (marked_like t))
 
     ends_in_lem : EndsIn (mark t) (ends_to v.scopes rows ends) 0
     unfolding EndsIn
@@ -96,5 +96,5 @@ module _ (by : Setting) (able : Able by) (ends : List ℕ) (entered names : List
         let L = marked_like t in
         subst (λ (m : Result (Scope × ℕ)). Walks m out (walk_in (relaxed by) rows ends entered names out)) (proposed_relaxed by.rules t q e)
         (seen (resolve loose (mark t)) out _
-        (inside_agrees loose able.heap sizes rows (ends_to v.scopes rows ends) (mark t) fits stands ends_in_lem (Marks.like-well _ loose t (mark t) L (good_relaxed by.rules t good)) (Marks.like-declared _ t (mark t) L (low_scope t low)) (λ e. false_not e) [] v.scopes 0 0 entered names (replicate v.scopes no_scope) deep
+        (inside_agrees loose able.heap sizes rows (ends_to v.scopes rows ends) (mark t) fits stands ends_in_lem (Marks.like_well _ loose t (mark t) L (good_relaxed by.rules t good)) (Marks.like_declared _ t (mark t) L (low_scope t low)) (λ e. false_not e) [] v.scopes 0 0 entered names (replicate v.scopes no_scope) deep
         (begun_alone sizes rows (ends_to v.scopes rows ends) (mark t) fits (omega (arith, rooms.names, marked_count)) deep entered names (replicate v.scopes no_scope) sized false stands) out (omega (arith, many))))

@@ -81,8 +81,8 @@ module _ (settings : List Setting) (usual : AllUsual settings) (within : AllWith
           let trees : T.before ≡ run.before = (let forms : tree T.before ≡ tree run.before = sym T.reads ∙ (ap (λ (u : Setting). read u.rules u.version.scopes (rows_in u form)) (sym same) ∙ M.reads) in cc) in
           let oks = sym T.resolves ∙ (ap₂ (λ (u : Setting) (s : Scope). resolve u.rules s) (sym same) trees ∙ M.resolves) in
           let afters : T.after ≡ run.after = ap (λ (x : Scope × ℕ). x.0) (ok_same (T.after, T.next) (run.after, M.next) oks) in
-          let found = slots_agree (body v (form_bytes v rs)) T.before T.after v.rules (OnBytes.good-after settings usual within form area bs rs q) (OnBytes.rows-of-file settings usual within form area bs rs q)
-          (OnBytes.rows-of-file-are settings usual within form area bs rs q) T.keeps T.numbered ss in
+          let found = slots_agree (body v (form_bytes v rs)) T.before T.after v.rules (OnBytes.good_after settings usual within form area bs rs q) (OnBytes.rows_of_file settings usual within form area bs rs q)
+          (OnBytes.rows_of_file_are settings usual within form area bs rs q) T.keeps T.numbered ss in
           ap (λ (x : List ℕ). map (answer_to x) ss) (sym bytes_are_lem) ∙ (found ∙ ap₂ (λ (b a : Scope). bindings b a ss) trees afters)
 
 -- ---- the answer

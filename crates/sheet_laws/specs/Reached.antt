@@ -14,7 +14,7 @@ use Rattle.rules.specs.Rows.{Num, Id}
 use Rattle.rules.specs.Tree.{Operand, ref, outer, case, Scope}
 use Rattle.rules.specs.Good.{GoodScope}
 use Rattle.rules.specs.Readings.{Place, Spot, original, inserted}
-use Rattle.rules.specs.Laws.ToolLaws.{eqb_true, false_not}
+use Rattle.rules.specs.Laws.ToolLaws.{eqb-true, false_not}
 use Rattle.rules.specs.Laws.Output.Numbers.{Numbered, NumberedScope}
 use Rattle.places.specs.PlaceRows.{Floor, operand_at, row_of_operand, Located, counted_row}
 use Rattle.places.specs.Counting.{spot_of, of_space_all}
@@ -55,7 +55,7 @@ module _ (fs : List Floor) where
   tells_behind x n m (inserted h) c = go (eqb h.code 11) refl
     where
       go : (b : Bool) → eqb h.code 11 ≡ b → Tells (if b then said_out fs h.operands m else said (some x) n 0) (if b then outer_to fs h.operands else some x)
-      go true e = tells_out h.operands m (c (eqb_true h.code 11 e))
+      go true e = tells_out h.operands m (c (eqb-true h.code 11 e))
       go false e = record { n = n; away = 0; is = refl }
 
 tells_number : (f : Floor) (rest : List Floor) → AliasesCount f → (m : Located → Meaning) (space n z : ℕ) → Tells (said_from (f ∷ rest) m 0 space n 0) (reached_from (f ∷ rest) (ref space (Num n) [] z))

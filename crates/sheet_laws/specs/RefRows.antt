@@ -14,7 +14,7 @@ use Rattle.kit.proofs.Laws.{yes!, no!, tests}
 use Rattle.rules.specs.Tools.{only}
 use Rattle.rules.specs.Rows.{Row, Ref, encode}
 use Rattle.rules.specs.Readings.{is_fresh}
-use Rattle.rules.specs.Laws.ToolLaws.{All, ◌&◌, eqb_false}
+use Rattle.rules.specs.Laws.ToolLaws.{All, ◌&◌, eqb-false}
 use Rattle.moving.specs.Moved.{if_any}
 use Rattle.row_parts.specs.Parts.{code_at, x_at, z_at, rows_in, is_inserted}
 use Rattle.reading_laws.specs.Stand.{Is, At, code_part, x_part, z_part}
@@ -164,7 +164,7 @@ module _ (form : List ℕ) (z : ℕ) where
   -- a row that is no REF
   other_row : (row : ℕ) (r : Row) → Is form row r → NotRef r → is_reference form row z ≡ false
   unfolding is_reference encode
-  other_row row r is n = let c : code_at form row ≡ code_of r = ap code_part is in let t : eqb (code_at form row) 3 ≡ false = eqb_false (code_at form row) 3 (λ e. n (sym c ∙ e)) in sym (no! _ t refl)
+  other_row row r is n = let c : code_at form row ≡ code_of r = ap code_part is in let t : eqb (code_at form row) 3 ≡ false = eqb-false (code_at form row) 3 (λ e. n (sym c ∙ e)) in sym (no! _ t refl)
 
   pub other_rows : (row : ℕ) (rs : List Row) → All NotRef rs → At form row rs → Span row (length rs) []
   unfolding if_any only

@@ -19,12 +19,12 @@ use Rattle.rules.specs.Good.{after_operand, after_operands, GoodHead, GoodScope,
 use Rattle.rules.specs.Rules.{fresh}
 use Rattle.rules.specs.Readings
 use Rattle.rules.specs.Readings.{is_fresh, any_fresh, is_inserted, Place, level, fields_of}
-use Rattle.rules.specs.Laws.ToolLaws.{All, done, ◌&◌, all_append, then_some, or_cases, or_false, eqb_true, eqb_same, eqb_false, leb_true, false_not}
+use Rattle.rules.specs.Laws.ToolLaws.{All, done, ◌&◌, all_append, then_some, or_cases, or-false, eqb-true, eqb_same, eqb-false, leb-true, false_not}
 use Rattle.rules.specs.Laws.Results.{no_option, some_same}
 use Rattle.rules.specs.Laws.Output.Kept.{Alias, IsAlias, AliasesScope, AliasesFields, AliasesItem}
 use Rattle.places.specs.PlaceRows
 use Rattle.places.specs.PlaceRows.{Placed, Floor, floor, field_at, operand_at, row_of_operand, operand_row_at}
-use Rattle.places.specs.Counting.{map_append}
+use Rattle.places.specs.Counting.{map-append}
 use Rattle.places.specs.RowAt.{decls_length, operand_row_of}
 use Rattle.moving.specs.Moved.{if_any}
 use Rattle.moving.specs.Laws.RowOrder.{row_is, operand_on, Rest, all_fields, place_field, rest_inserted, rest_original, first_is, held_rest}
@@ -43,8 +43,8 @@ eqb_flip : (a b : ℕ) → eqb a b ≡ eqb b a
 eqb_flip a b = go (eqb a b) refl
   where
     go : (t : Bool) → eqb a b ≡ t → t ≡ eqb b a
-    go true e = let same = eqb_true a b e in sym (subst (λ (k : ℕ). eqb b k ≡ true) (sym same) (eqb_same b))
-    go false e = sym (eqb_false b a (λ q. false_not (sym e ∙ subst (λ (k : ℕ). eqb a k ≡ true) (sym q) (eqb_same a))))
+    go true e = let same = eqb-true a b e in sym (subst (λ (k : ℕ). eqb b k ≡ true) (sym same) (eqb_same b))
+    go false e = sym (eqb-false b a (λ q. false_not (sym e ∙ subst (λ (k : ℕ). eqb a k ≡ true) (sym q) (eqb_same a))))
 
 -- the first row of an operand, and its PATHs
 pub operand_split : (o : Operand) → (ps : List ℕ) × (operand_row o ≡ operand_row_of o ∷ path_rows ps)
@@ -106,10 +106,10 @@ alias_operand : (rules : RuleSet) (h : Head) (kind : ℕ) → GoodHead rules kin
 unfolding parts
 alias_operand rules h kind g e =
     or_cases (eqb h.code 9) _ e (λ q. one_operand _ h.operands g.left (uses 9 q) g.ends)
-    (λ e. or_cases (eqb h.code 10) _ e (λ q. one_operand _ h.operands g.left (uses 10 q) g.ends) (λ e. one_operand _ h.operands g.left (uses 11 (or_false (eqb h.code 11) e)) g.ends))
+    (λ e. or_cases (eqb h.code 10) _ e (λ q. one_operand _ h.operands g.left (uses 10 q) g.ends) (λ e. one_operand _ h.operands g.left (uses 11 (or-false (eqb h.code 11) e)) g.ends))
   where
     uses : (c : ℕ) → eqb h.code c ≡ true → after_operands (parts rules c h.builtin h.decls) h.operands ≡ some g.left
-    uses c q = subst (λ (c : ℕ). after_operands (parts rules c h.builtin h.decls) h.operands ≡ some g.left) (eqb_true h.code c q) g.uses
+    uses c q = subst (λ (c : ℕ). after_operands (parts rules c h.builtin h.decls) h.operands ≡ some g.left) (eqb-true h.code c q) g.uses
 
 -- ---- what is found
 
@@ -146,8 +146,8 @@ module _ (form : List ℕ) (s : Scope) (z : ℕ) where
   found_append P Q =
       record {
         all = P.all ++ Q.all;
-        span = span_is form z (span_append form z P.span Q.span) refl (sym (map_append (λ (x : Stood). x.row) P.all Q.all));
-        places = map_append (λ (x : Stood). x.place) P.all Q.all ∙ ap₂ (λ (a b : List Place). a ++ b) P.places Q.places;
+        span = span_is form z (span_append form z P.span Q.span) refl (sym (map-append (λ (x : Stood). x.row) P.all Q.all));
+        places = map-append (λ (x : Stood). x.place) P.all Q.all ∙ ap₂ (λ (a b : List Place). a ++ b) P.places Q.places;
         right = all_append P.all Q.all P.right Q.right;
       }
 
@@ -262,7 +262,7 @@ module _ (form : List ℕ) (s : Scope) (z : ℕ) where
   new_decl_lem row d k a e =
       let c : row_parts_lem.code_at form row ≡ 2 = ap code_part a.0 in
       let x : row_parts_lem.x_at form row ≡ d.name = ap x_part a.0 in
-      rw (c, x, e, leb_true {m = 2147483648} {n = 2147483648 + k} (omega arith))
+      rw (c, x, e, leb-true {m = 2147483648} {n = 2147483648 + k} (omega arith))
 
   inserted_found : (row : ℕ) (h : Head) (A : Alias h) (o : Operand) → h.operands ≡ o ∷ [] → At form row (head_rows h) → Found row (length (head_rows h)) []
   unfolding if_any only decl_rows

@@ -7,7 +7,7 @@ use native.Mathlib.Omega.{arith}
 use Prim.Native.Nat.{ℕ, ◌+◌, ◌*◌, ◌-◌, ◌/◌, ◌≤◌, ◌<◌}
 use lib.Dec.{leb}
 use lib.ListN.{length, get_or, take, drop, replicate}
-use borrow.Author.Tests.{leb_true, leb_false}
+use borrow.Author.Tests.{leb-true, leb-false}
 use mir.Syntax.{w8}
 use mir.Val.{Fits}
 use Rattle.kit.specs.Out.{◌&◌}
@@ -55,7 +55,7 @@ module _ (form resolved sheet answers : List ℕ) (work : ℕ) (lent : Lent) (i 
   told_small e = go large e
     where
       go : (b : Bool) → (b && leb size work) ≡ false → (if b then work else 0) < size
-      go true e = leb_false size work e
+      go true e = leb-false size work e
       go false e = let h = header_long i in omega (arith, sized, h)
 
   told_large : enough ≡ true → size ≤ told
@@ -63,7 +63,7 @@ module _ (form resolved sheet answers : List ℕ) (work : ℕ) (lent : Lent) (i 
   told_large e = go large e
     where
       go : (b : Bool) → (b && leb size work) ≡ true → size ≤ (if b then work else 0)
-      go true e = leb_true size work e
+      go true e = leb-true size work e
       go false e = let no_way : ◌≡◌ {A = ℕ} 0 1 = cc in absurd (omega arith)
 
   pub lent_large : enough ≡ true → roomy (setting i).version lent ≡ true
@@ -77,7 +77,7 @@ module _ (form resolved sheet answers : List ℕ) (work : ℕ) (lent : Lent) (i 
   work_large e = go large e
     where
       go : (b : Bool) → (b && leb size work) ≡ true → size ≤ work
-      go true e = leb_true size work e
+      go true e = leb-true size work e
       go false e = let no_way : ◌≡◌ {A = ℕ} 0 1 = cc in absurd (omega arith)
 
   abbrev Says : Answer → (new : List ℕ) → Type 0

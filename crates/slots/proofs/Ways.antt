@@ -8,7 +8,7 @@ use Prim.Native.Nat.{ℕ, suc, ◌+◌, ◌*◌, ◌-◌, ◌/◌, ◌%◌, ◌�
 use borrow.Author.Rules.{rules}
 use lib.Dec.{eqb, leb}
 use lib.ListN.{length, get_or, take, drop, length-append}
-use lib.Seq.{sets, drop_drop}
+use lib.Seq.{sets, drop-drop}
 use Rattle.kit.specs.Out.{Out, ◌&◌}
 use Rattle.kit.proofs.Laws.{tests, left_suc, sets_append}
 use Rattle.rules.specs.Tools.{if◌then◌else◌}
@@ -35,7 +35,7 @@ pub next_slot : (sheet : List ℕ) (n count : ℕ) → n < count → slots_of (c
 unfolding slots_of
 next_slot sheet n count h =
     let on : 12 * n + 12 ≡ 12 * (n + 1) = omega arith in
-    rw (left_suc n count h, drop_drop 4 (12 * n) sheet, drop_drop 8 (12 * n) sheet, drop_drop 12 (12 * n) sheet, on)
+    rw (left_suc n count h, drop-drop 4 (12 * n) sheet, drop-drop 8 (12 * n) sheet, drop-drop 12 (12 * n) sheet, on)
 
 no_slots_lem : (sheet : List ℕ) (n count : ℕ) → count ≤ n → slots_of (count - n) (drop (12 * n) sheet) ≡ []
 unfolding slots_of

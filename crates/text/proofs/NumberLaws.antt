@@ -5,7 +5,7 @@ use mathlib.Core.List.{List, [], ◌∷◌}
 use native.Mathlib.Omega.{arith}
 use Prim.Native.Nat.{ℕ, ◌+◌, ◌*◌, ◌-◌, ◌≤◌, ◌<◌}
 use borrow.Author.Rules.{rules}
-use borrow.Author.Tests.{leb_true}
+use borrow.Author.Tests.{leb-true}
 use lib.Dec.{eqb, leb}
 use lib.ListN.{length, get_or, drop, drop_of_length-le}
 use Rattle.kit.specs.Pick.{pick}
@@ -20,7 +20,7 @@ both_left true b h = refl
 both_left false b h = h
 
 pub digit_low : (d : ℕ) → is_digit d ≡ true → 48 ≤ d
-digit_low d h = leb_true 48 d (both_left (leb 48 d) (leb d 57) h)
+digit_low d h = leb-true 48 d (both_left (leb 48 d) (leb d 57) h)
 
 pub digit_is : {b : Bool} (d : ℕ) → b ≡ is_digit d → b ≡ true → is_digit d ≡ true
 digit_is d is h = rw (← is) h

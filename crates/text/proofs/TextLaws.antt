@@ -8,7 +8,7 @@ use borrow.Author.Rules.{rules}
 use borrow.Author.Tests.{ltb-false}
 use lib.Dec.{eqb, ltb}
 use lib.ListN.{length, get_or, take, drop, set, drop_of_length-le, length-drop}
-use lib.Seq.{sets, drop_drop}
+use lib.Seq.{sets, drop-drop}
 use Rattle.kit.specs.Pick.{pick}
 use Rattle.kit.specs.Out.{Out, ◌&◌}
 use Rattle.kit.proofs.Laws.{yes!, no!, tests, drop_next, left_suc, sets_append}
@@ -201,7 +201,7 @@ module _ (text out : List ℕ) (most from number rows : ℕ) (T : Out Parsed (Li
         let n : line_length (drop from text) ≡ end - from = omega (arith, is) in
         let some : 0 < length (drop from text) = simp length-drop (omega (arith, h)) in
         let e : from + (end - from) ≡ end = omega (arith, is) in
-        let d : drop (end - from) (drop from text) ≡ drop end text = drop_drop (end - from) from text ∙ ap (λ k. drop k text) e in
+        let d : drop (end - from) (drop from text) ≡ drop end text = drop-drop (end - from) from text ∙ ap (λ k. drop k text) e in
         first_line (drop from text) some
         ∙ ap (λ k. take k (drop from text) ∷ lines_of (drop k (drop from text))) n
         ∙ ap (λ k. take (end - from) (drop from text) ∷ lines_of k) d

@@ -8,7 +8,7 @@ use Prim.Native.Nat.{ℕ, zero, suc, ◌+◌, ◌-◌, ◌*◌, ◌^◌, ◌≤�
 use lib.Dec.{eqb, leb, ltb}
 use lib.ListN.{length, get_or, take, drop, replicate, length-append, length-replicate}
 use lib.Seq.{take_at, take-take, drop_at}
-use borrow.Author.Tests.{eqb_true, leb_true, le-ltb}
+use borrow.Author.Tests.{eqb-true, leb-true, le-ltb}
 use Rattle.kit.proofs.Laws.{lt_or_le}
 use Rattle.rules.specs.Tools.{if◌then◌else◌, between, only, ◌or_else◌, ◌then◌}
 use Rattle.rules.specs.Versions.{Setting, as_claimed}
@@ -43,7 +43,7 @@ numbers_same [] [] e = refl
 numbers_same [] (y ∷ b) e = false_not e
 numbers_same (x ∷ a) [] e = false_not e
 numbers_same (x ∷ a) (y ∷ b) e =
-    let p = eqb_true x y (and_left (eqb x y) _ e) in
+    let p = eqb-true x y (and_left (eqb x y) _ e) in
     let q = numbers_same a b (and_right (eqb x y) _ e) in
     rw (p, q)
 
@@ -92,7 +92,7 @@ module _ (one : Setting) where
   first_byte : (l : List ℕ) → same_numbers (take 6 l) (Answer.mark one) ≡ true → (rest : List ℕ) × (l ≡ 87 ∷ rest)
   unfolding Answer.mark same_numbers
   first_byte [] e = false_not e
-  first_byte (b ∷ l) e = (l, ap (λ (x : ℕ). x ∷ l) (eqb_true b 87 (and_left (eqb b 87) _ e)))
+  first_byte (b ∷ l) e = (l, ap (λ (x : ℕ). x ∷ l) (eqb-true b 87 (and_left (eqb b 87) _ e)))
 
   unmarked : (l claim : List ℕ) → get_or l 0 0 ≡ 0 → same_numbers (take 6 claim) (Answer.mark one) ≡ true → same_numbers (take (length claim) l) claim ≡ false
   unmarked l claim z m = let F = first_byte claim m in rw F.1 (none_begins l F.0 z)
@@ -120,7 +120,7 @@ module _ (one : Setting) where
         let n = row_count one.version input in
         let h = one.version.header in
         let most = one.version.rows in
-        let few = leb_true n most (and_right (leb 1 n) (leb n most) (neither (between 1 most n) (eqb (length input) (h + 16 * n)) e).0) in
+        let few = leb-true n most (and_right (leb 1 n) (leb n most) (neither (between 1 most n) (eqb (length input) (h + 16 * n)) e).0) in
         rw (le-ltb (h + 64 * most) (h + 64 * n) (omega arith), not_less (h + 64 * n))
 
     same_answer : (input : List ℕ) → answer_in [] one input (one.version.header + 64 * one.version.rows) ≡ answer_in [] one input (one.version.header + 64 * row_count one.version input)
@@ -137,7 +137,7 @@ module _ (one : Setting) where
 
       pub claim_long : length claim ≡ one.version.header + 16 * row_count one.version claim
       unfolding row_count
-      claim_long = eqb_true (length claim) _ as_read.long
+      claim_long = eqb-true (length claim) _ as_read.long
 
       front_same : (rs : List Row) (z : List ℕ) → length rs ≤ 4 * one.version.rows → same_numbers (take (length claim) (form_bytes one rs ++ z)) claim ≡ same_numbers (form_bytes one rs) claim
       front_same rs z few = go (same_numbers (take (length claim) (form_bytes one rs ++ z)) claim) refl

@@ -9,7 +9,7 @@ use lib.Dec.{eqb, leb}
 use lib.ListN.{length, take, drop, length-drop, length-map, drop_of_length-le}
 use lib.Seq.{take_all}
 use borrow.Author.Rules.{rules}
-use borrow.Author.Tests.{leb_true, eqb_true}
+use borrow.Author.Tests.{leb-true, eqb-true}
 use Rattle.kit.specs.Pick.{pick}
 use Rattle.kit.proofs.Laws.{drop_next}
 use Rattle.rules.specs.Tools.{if◌then◌else◌, between, only}
@@ -57,9 +57,9 @@ header_rows s input rows e =
     let m = row_count s.version input in
     let b = counted_rows (not (between 1 s.version.rows m) || not (eqb (length input) (s.version.header + 16 * m))) rows m a.1 in
     let d = neither (between 1 s.version.rows m) (eqb (length input) (s.version.header + 16 * m)) b.0 in
-    let low = leb_true 1 m (and_left (leb 1 m) (leb m s.version.rows) d.0) in
-    let high = leb_true m s.version.rows (and_right (leb 1 m) (leb m s.version.rows) d.0) in
-    let sized = eqb_true (length input) (s.version.header + 16 * m) d.1 in
+    let low = leb-true 1 m (and_left (leb 1 m) (leb m s.version.rows) d.0) in
+    let high = leb-true m s.version.rows (and_right (leb 1 m) (leb m s.version.rows) d.0) in
+    let sized = eqb-true (length input) (s.version.header + 16 * m) d.1 in
     record { headed = a.0; counted = sym b.1; some_rows = omega (arith, b.1); few = omega (arith, b.1); long = omega (arith, b.1) }
   where
     only_rows : (b : Bool) (s : Setting) (input : List ℕ) (n : ℕ) → Rows n ≡ header_for (only b s) input → (b ≡ true) × (Rows n ≡ header_in s.version input)

@@ -2,13 +2,13 @@
 use Rattle.std.specs.Prelude.{◌≡◌, refl, Bool, true, ◌||◌, ℕ, suc, ◌≤◌, ◌<◌, eqb, leb, length}
 use Rattle.std.proofs.Math.Option.{some}
 use mathlib.Core.List.{List, [], ◌∷◌}
-use Rattle.std.proofs.Common.{arith, leb_true, eqb_true}
+use Rattle.std.proofs.Common.{arith, leb-true, eqb-true}
 use Rattle.rules.specs.Tools.{is_in}
 use Rattle.rules.specs.Versions.{RuleSet}
 use Rattle.rules.specs.Tree.{Declaration, Operand, ref, outer, case, Head, Item, plain, holds, head_of}
 use Rattle.rules.specs.Shapes.{Want, r, p, out, cas, Part, one, opt, any, cases, variants, typed, is_empty, parts, paths_ok, fits_ref, fits_outer, is_case, next, here_only}
 use Rattle.rules.specs.Good.{after_operand, after_operands, GoodHead, GoodItem}
-use Rattle.rules.specs.Laws.ToolLaws.{false_not, and_right, or_cases, or_false, Ok, ok_at, only_ok, if_ok_lem, then_some}
+use Rattle.rules.specs.Laws.ToolLaws.{false_not, and_right, or_cases, or-false, Ok, ok_at, only_ok, if_ok_lem, then_some}
 use Rattle.rules.specs.Laws.Results.{if_both}
 use Rattle.agree.specs.Fit.Spaces.{SpaceOperand, SpacesOperands, SpacesHead}
 use Rattle.agree.specs.StepC.AliasAgrees.{FitOperand, FitOperands}
@@ -32,8 +32,8 @@ module _ (fits : Want → Bool) (Q : Type 0) (f : (w : Want) → fits w ≡ true
 ref_far : (space count : ℕ) (w : Want) → fits_ref w space count ≡ true → 1 < count → 7 ≤ space
 unfolding fits_ref paths_ok
 ref_far space count (r spaces) e h =
-    or_cases (leb 7 space) (leb count 1) (and_right (is_in space spaces) (leb 7 space || leb count 1) e) (λ q. leb_true 7 space q) (λ q. let l = leb_true count 1 q in absurd (omega arith))
-ref_far space count (p spaces) e h = let l = eqb_true count 0 (and_right (is_in space spaces) (eqb count 0) e) in absurd (omega arith)
+    or_cases (leb 7 space) (leb count 1) (and_right (is_in space spaces) (leb 7 space || leb count 1) e) (λ q. leb-true 7 space q) (λ q. let l = leb-true count 1 q in absurd (omega arith))
+ref_far space count (p spaces) e h = let l = eqb-true count 0 (and_right (is_in space spaces) (eqb count 0) e) in absurd (omega arith)
 ref_far space count (out s) e h = false_not e
 ref_far space count cas e h = false_not e
 
@@ -72,7 +72,7 @@ NoPath (case name z) = Unit {0}
 
 none_left : (ps : List ℕ) → eqb (length ps) 0 ≡ true → ps ≡ []
 none_left [] e = refl
-none_left (x ∷ ps) e = let l = eqb_true (suc (length ps)) 0 e in absurd (omega arith)
+none_left (x ∷ ps) e = let l = eqb-true (suc (length ps)) 0 e in absurd (omega arith)
 
 module _ (fits : Want → Bool) (Q : Type 0) (f : (spaces : List ℕ) → fits (p spaces) ≡ true → Q) where
   next_bare : (ps : List Part) → Bare ps → Ok (λ qs. Q × Bare qs) (next fits ps)
@@ -110,8 +110,8 @@ operands_bare ps (o ∷ os) left b e =
 parts_bare : (rules : RuleSet) (code builtin : ℕ) (ds : List Declaration) → here_only code ≡ true → Bare (parts rules code builtin ds)
 unfolding here_only parts
 parts_bare rules code builtin ds h =
-    or_cases (eqb code 4) _ h (λ e. rw (eqb_true code 4 e) tt) (λ g.
-    or_cases (eqb code 5) _ g (λ e. rw (eqb_true code 5 e) (if_both Bare (is_empty ds) [] (any (p (4 ∷ [])) ∷ []) tt tt)) (λ l. rw (eqb_true code 24 (or_false (eqb code 24) l)) tt))
+    or_cases (eqb code 4) _ h (λ e. rw (eqb-true code 4 e) tt) (λ g.
+    or_cases (eqb code 5) _ g (λ e. rw (eqb-true code 5 e) (if_both Bare (is_empty ds) [] (any (p (4 ∷ [])) ∷ []) tt tt)) (λ l. rw (eqb-true code 24 (or-false (eqb code 24) l)) tt))
 
 -- ---- fields
 

@@ -10,7 +10,7 @@ use Rattle.rules.specs.Versions.{RuleSet}
 use Rattle.rules.specs.Tree.{Declaration, Operand, ref, outer, case, Head, Fields, end, ◌▸◌, Item, plain, holds, head_of}
 use Rattle.rules.specs.Shapes.{Want, r, p, out, cas, Part, one, opt, any, cases, variants, typed, Declares, nothing, single, several, declares, signature, ascribed, builtin_parts, declared, is_empty, parts, paths_ok, fits_ref, fits_outer, is_case, next, may_declare}
 use Rattle.rules.specs.Good.{MayDeclare, after_operand, after_operands, GoodHead, GoodFields}
-use Rattle.rules.specs.Laws.ToolLaws.{false_not, and_left, and_right, or_cases, eqb_true, Ok, ok_at, only_ok, if_ok_lem, then_some, done, ◌&◌, get_d_all}
+use Rattle.rules.specs.Laws.ToolLaws.{false_not, and_left, and_right, or_cases, eqb-true, Ok, ok_at, only_ok, if_ok_lem, then_some, done, ◌&◌, get_d_all}
 use Rattle.rules.specs.Laws.Results.{if_both}
 use Rattle.agree.specs.Fit.Spaces.{SpacesDecls, SpaceOperand, SpacesOperands, SpacesHead, Spaces}
 
@@ -24,7 +24,7 @@ in_low : (s : ℕ) (ss : List ℕ) → is_in s ss ≡ true → lows ss ≡ true 
 in_low s [] i l = false_not i
 in_low s (t ∷ ss) i l =
     or_cases (eqb s t) (is_in s ss) i
-    (λ e. let q = eqb_true s t e in let h = ltb-true t 13 (and_left (ltb t 13) (lows ss) l) in omega arith)
+    (λ e. let q = eqb-true s t e in let h = ltb-true t 13 (and_left (ltb t 13) (lows ss) l) in omega arith)
     (λ e. in_low s ss e (and_right (ltb t 13) (lows ss) l))
 
 -- ---- DECLs

@@ -1,7 +1,7 @@
 -- Laws of rows that stand in bytes: one run behind another, the rows of a form, the rows of one field.
 use Rattle.std.specs.Prelude.{◌≡◌, refl, ◌⊎◌, get_or}
 use Rattle.std.proofs.Math.Path.{sym, ap}
-use Rattle.std.proofs.Common.{◌∙◌, inl, inr, drop_drop, length-take-le, get_or-drop, get_or-take, take-take, lt-ltb}
+use Rattle.std.proofs.Common.{◌∙◌, inl, inr, drop-drop, length-take-le, get_or-drop, get_or-take, take-take, lt-ltb}
 use Rattle.std.proofs.Math.Option.{some}
 use mathlib.Core.List.{List, [], ◌∷◌, ◌++◌, map}
 use Rattle.std.proofs.Math.Nat.{add-zero}
@@ -93,7 +93,7 @@ module _ (top : ℕ) (bytes : List ℕ) (all : Bytes bytes) (any : top ≤ any_n
   rows_at (suc count) p (r ∷ rs) h e =
       let d : decode_row top (drop (16 * p) bytes) ≡ some r = cons_head _ _ _ _ e in
       let q : 16 * p + 16 ≡ 16 * (p + 1) = omega arith in
-      let t : rows_of top count (drop (16 * (p + 1)) bytes) ≡ map some rs = rw (drop_drop 16 (16 * p) bytes, q) at (cons_tail _ _ _ _ e) in
+      let t : rows_of top count (drop (16 * (p + 1)) bytes) ≡ map some rs = rw (drop-drop 16 (16 * p) bytes, q) at (cons_tail _ _ _ _ e) in
       let l = length-drop (16 * p) bytes in
       let rest = rows_at count (p + 1) rs (omega arith) t in (
         (record { there = omega arith; reads = row_in bytes p (omega arith) ∙ ap taken (decode_wider top any_name (drop (16 * p) bytes) r any d); holds = sym (encode_again top (drop (16 * p) bytes) r (bytes_drop (16 * p) bytes all) (omega arith) d) }, rest.0),
@@ -130,7 +130,7 @@ module _ (bytes : List ℕ) (a m : ℕ) (fits : a + m ≤ length bytes / 16) whe
         record {
           there = omega (arith, cut_size);
           reads = row_part_lem bytes a m fits i (omega arith) ∙ g.0.reads;
-          holds = part_take 16 (16 * i) (16 * m) (drop (16 * a) bytes) (omega arith) ∙ ap (take 16) (drop_drop (16 * i) (16 * a) bytes ∙ ap (λ n. drop n bytes) q) ∙ g.0.holds;
+          holds = part_take 16 (16 * i) (16 * m) (drop (16 * a) bytes) (omega arith) ∙ ap (take 16) (drop-drop (16 * i) (16 * a) bytes ∙ ap (λ n. drop n bytes) q) ∙ g.0.holds;
         },
         cut_at (i + 1) rs (omega arith) (rw e at g.1),
       )

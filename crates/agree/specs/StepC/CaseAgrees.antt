@@ -1,9 +1,9 @@
 -- A CASE: the code enters the names of a field's CASEs in the table of entered names, the rules keep them in a list.
 use Rattle.std.specs.Prelude.{◌≡◌, Bool, true, ◌&&◌, ◌||◌, not, List, [], ◌∷◌, ◌++◌, ℕ, ◌+◌, ◌<◌, eqb, length, set}
 use Rattle.std.proofs.Math.Path.{refl}
-use Rattle.std.proofs.Common.{sym, ◌∙◌, arith, eq-eqb, ne_eqb, eqb_true}
+use Rattle.std.proofs.Common.{sym, ◌∙◌, arith, eq-eqb, ne_eqb, eqb-true}
 use Rattle.std.proofs.Math.Bool.{false}
-use Rattle.std.proofs.lemmas.Bool.{eqb_false}
+use Rattle.std.proofs.lemmas.Bool.{eqb-false}
 use Rattle.kit.specs.Pick.{pick}
 use Rattle.kit.specs.Out.{◌&◌}
 use Rattle.rules.specs.Tools.{if◌then◌else◌, is_in}
@@ -53,8 +53,8 @@ eqb_swap : (a b : ℕ) → eqb a b ≡ eqb b a
 eqb_swap a b = go (eqb a b) refl
   where
     go : (t : Bool) → eqb a b ≡ t → t ≡ eqb b a
-    go true e = sym (eq-eqb b a (sym (eqb_true a b e)))
-    go false e = sym (ne_eqb b a (λ h. eqb_false a b e (sym h)))
+    go true e = sym (eq-eqb b a (sym (eqb-true a b e)))
+    go false e = sym (ne_eqb b a (λ h. eqb-false a b e (sym h)))
 
 -- one name more
 more_cases : (entered : List Slot) (n : ℕ) (seen : List ℕ) (new : ℕ) → n < length entered → Cases entered n seen → Cases (set entered n (decl_slot 13 new 0)) (n + 1) (new ∷ seen)

@@ -11,7 +11,7 @@ use Rattle.kit.specs.Out.{Out, ◌&◌}
 use Rattle.kit.proofs.Laws.{no!, tests}
 use Rattle.rules.specs.Tree.{Declaration}
 use Rattle.rules.specs.Rules.{Result, refused, ok, ◌>>=◌}
-use Rattle.rules.specs.Laws.ToolLaws.{eqb_true, eqb_same, false_not, length_snoc}
+use Rattle.rules.specs.Laws.ToolLaws.{eqb-true, eqb_same, false_not, length_snoc}
 use Rattle.refusal.specs.declared.Refusal.{Refusal as Said}
 use Rattle.refusal.specs.declared.Told.{Told}
 use Rattle.names.specs.Table.{Slot, slot_of, alias_slot, between}
@@ -77,7 +77,7 @@ module _ (room first : ℕ) (names₀ : List Slot) where
         where
           go : (t : Bool) → eqb d.space s ≡ t → get_or (set counts d.space (count d.space before + 1)) s 0 ≡ count s (before ++ (d ∷ []))
           go true e =
-              let q = eqb_true d.space s e in
+              let q = eqb-true d.space s e in
               let w = tab.width in
               rw (← q) (get_or-set_same counts d.space _ 0 (omega arith) ∙ sym (count_same d.space before d (eqb_same d.space) ∙ (omega arith)))
           go false e = get_or-set_other counts d.space s _ 0 (not_same d.space s e) ∙ tab.counted s h ∙ sym (count_other s before d e)

@@ -145,13 +145,13 @@ aliases_length space at p (q ∷ ps) z k = ap suc (aliases_length space (Id (Rul
 module _ (here : List Declaration) (outside : Outside) where
   -- a name that is found further out inserts one field at the most
   found_heads : (space name z k n : ℕ) (o : Option (ℕ × ℕ)) → 1 ≤ n → OkR (λ e. length e.inserted ≤ n) (Rules.found_at space name z k o)
-  unfolding Rules.found_at Rules.through Rules.as-it-is
+  unfolding Rules.found_at Rules.through Rules.as_it_is
   found_heads space name z k n none h = omega arith
   found_heads space name z k n (some at) h = if_both (OkR _) _ _ _ h tt
 
   -- an operand inserts no more fields than it has rows
   pub operand_heads : (k : ℕ) (o : Operand) → OkR (λ e. length e.inserted ≤ length (operand_row o)) (expand_operand here outside k o)
-  unfolding expand_operand Rules.through Rules.as-it-is operand_row
+  unfolding expand_operand Rules.through Rules.as_it_is operand_row
   operand_heads k (ref space (Num n) [] z) = omega arith
   operand_heads k (ref space (Id name) [] z) = bind_any _ _ _ (λ u. if_both (OkR _) _ _ _ (omega arith) (found_heads space name z k _ _ (omega arith)))
   operand_heads k (ref space at (p ∷ ps) z) = if_both (OkR _) _ _ _ tt (omega (arith, paths_length (p ∷ ps), aliases_length space at p ps z k))

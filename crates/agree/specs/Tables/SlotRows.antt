@@ -4,7 +4,7 @@ use Rattle.std.proofs.Math.Path.{sym}
 use Rattle.std.proofs.Common.{ap, ◌∙◌, arith, add-zero}
 use Rattle.std.proofs.Math.Bool.{false}
 use Rattle.std.proofs.Math.Option.{Option, none, some}
-use mathlib.Core.List.{List, [], ◌∷◌, ◌++◌, map, map_append}
+use mathlib.Core.List.{List, [], ◌∷◌, ◌++◌, map, map-append}
 use Rattle.rules.specs.Tools.{if◌then◌else◌}
 use Rattle.rules.specs.Rows.{Row, Num, Id}
 use Rattle.rules.specs.Tree.{Declaration, Operand, ref, outer, case, Head, Fields, end, ◌▸◌, Item, head_of, operand_row, item_rows}
@@ -57,8 +57,8 @@ operands_words here outside (o ∷ os) before k row E q =
     let ih = operands_words here outside os (before ++ heads_decls c.0.inserted) c.0.k (row + length (operand_row o)) c.1 c.3 in
     let zero-each = holds_of _ _ c.0 (operand_rows_lem here outside k o) c.2 in
     rw (← c.4, c.2)
-    (map_append row_of (inserted_slots before row c.0.inserted) _
-    ∙ (rw (ih, inserted_words before row c.0.inserted, ← zero-each, shift row (length (operand_row o)) c.1.rows) (sym (map_append (λ (n : ℕ). row + n) c.0.rows _))))
+    (map-append row_of (inserted_slots before row c.0.inserted) _
+    ∙ (rw (ih, inserted_words before row c.0.inserted, ← zero-each, shift row (length (operand_row o)) c.1.rows) (sym (map-append (λ (n : ℕ). row + n) c.0.rows _))))
 
 -- the entries of what is inserted, one for each
 entries_words : {rows : List Row} (lo hi base : ℕ) (hs : List Head) (ns : List ℕ) → Served rows hs ns → AllNew lo hi hs → entry_rows (inserted_entries base hs ns) ≡ map (λ (n : ℕ). base + n) ns
@@ -92,7 +92,7 @@ decl_words before row row' (d ∷ ds) e = cons_same _ _ _ _ e (decl_words (befor
 three_parts : (x y z : List Slot) (x' y' z' : List Entry) → map row_of x ≡ entry_rows x' → map row_of y ≡ entry_rows y' → map row_of z ≡ entry_rows z' → map row_of (x ++ (y ++ z)) ≡ entry_rows (x' ++ (y' ++ z'))
 three_parts x y z x' y' z' p q r =
     let f : Entry → ℕ = λ (e : Entry). e.row in
-    rw (map_append row_of x (y ++ z), map_append row_of y z, p, q, r) (sym (map_append f x' (y' ++ z') ∙ ap (λ (l : List ℕ). map f x' ++ l) (map_append f y' z')))
+    rw (map-append row_of x (y ++ z), map-append row_of y z, p, q, r) (sym (map-append f x' (y' ++ z') ∙ ap (λ (l : List ℕ). map f x' ++ l) (map-append f y' z')))
 
 fields_entries : (here : List Declaration) (outside : Outside) (k : ℕ) (i : Item) (fs : Fields) (X : List Entry × ℕ) → expand_fields here outside k (i ▸ fs) ≡ ok X
     → (e : Expanded Head) × (r : List Entry × ℕ) × (expand_head here outside k (head_of i) ≡ ok e) × (expand_fields here (onward i outside) e.k fs ≡ ok r)

@@ -1,7 +1,7 @@
 -- The walk over a whole form: it writes the rows that the rules make of the form, or it refuses with the same number and place.
 use Rattle.std.specs.Prelude.{◌≡◌, Bool, true, ℕ, suc, ◌+◌, ◌*◌, ◌/◌, ◌≤◌, ◌<◌, length, drop}
 use Rattle.std.proofs.Math.Path.{refl}
-use Rattle.std.proofs.Common.{sym, ap, ◌∙◌, arith, add-zero, zero-add, length-append, length-drop, drop_drop}
+use Rattle.std.proofs.Common.{sym, ap, ◌∙◌, arith, add-zero, zero-add, length-append, length-drop, drop-drop}
 use Rattle.std.proofs.Math.Option.{Option, none, some}
 use mathlib.Core.List.{List, [], ◌∷◌, ◌++◌, append_assoc, append-nil}
 use Rattle.kit.specs.Out.{◌&◌}
@@ -67,7 +67,7 @@ all_written_lem pre old (r ∷ rs) to e h =
     let d = row_size r in
     let c = length-drop 16 old in
     rw (one_more_lem pre old r to e (omega arith))
-    (all_written_lem (pre ++ encode_row r) (drop 16 old) rs (to + 1) (omega arith) (omega arith) ∙ rw (append_assoc pre (encode_row r) (rows_bytes rs), drop_drop, x, z))
+    (all_written_lem (pre ++ encode_row r) (drop 16 old) rs (to + 1) (omega arith) (omega arith) ∙ rw (append_assoc pre (encode_row r) (rows_bytes rs), drop-drop, x, z))
 
 -- ---- the walk over a form
 

@@ -1,7 +1,7 @@
 -- Of every batch: its prelude is answered as if it were alone, and each member as if no other were there.
 use Rattle.std.specs.Prelude.{◌≡◌, Bool, true, false, length, take, drop}
 use Rattle.std.proofs.Math.Path.{refl, ap}
-use Rattle.std.proofs.Common.{sym, ◌∙◌, zero-mul, suc-mul, mul_comm, div-add-mod', length-take-le, take_at, drop_at, drop_drop}
+use Rattle.std.proofs.Common.{sym, ◌∙◌, zero-mul, suc-mul, mul_comm, div-add-mod', length-take-le, take_at, drop_at, drop-drop}
 use Rattle.std.proofs.Math.Option.{Option, none, some}
 use mathlib.Core.List.{List, [], ◌∷◌, ◌++◌}
 use Prim.Native.Nat.{ℕ, zero, suc, ◌+◌, ◌*◌, ◌/◌, ◌≤◌}
@@ -116,7 +116,7 @@ next_share : (i share : ℕ) → suc i * share ≡ share + i * share
 next_share i share = omega (arith, suc-mul i share)
 
 past_old : (share n : ℕ) (old : List ℕ) → drop (n * share) (drop share old) ≡ drop (suc n * share) old
-past_old share n old = drop_drop (n * share) share old ∙ ap (λ (k : ℕ). drop k old) (sym (next_share n share))
+past_old share n old = drop-drop (n * share) share old ∙ ap (λ (k : ℕ). drop k old) (sym (next_share n share))
 
 fewer : (share n : ℕ) (old : List ℕ) → suc n * share ≤ length old → (share ≤ length old) × (n * share ≤ length (drop share old))
 fewer share n old h = (omega (arith, next_share n share), omega (arith, next_share n share, length-drop share old))
@@ -139,7 +139,7 @@ module _ (s : Setting) (root : Env) (share : ℕ) (u : Usual s) where
   past_first n m old rest h =
       let first = output_inside (root ∷ []) (s ∷ []) m (take share old) in
       ap (λ (k : ℕ). drop k (first ++ rest)) (next_share n share)
-      ∙ (sym (drop_drop (n * share) share (first ++ rest)) ∙ ap (drop (n * share)) (drop_at first rest share (share_length m old h)))
+      ∙ (sym (drop-drop (n * share) share (first ++ rest)) ∙ ap (drop (n * share)) (drop_at first rest share (share_length m old h)))
 
   outputs_at : (members : List (List ℕ)) (i : ℕ) (m old : List ℕ) → get_elem? members i ≡ some m → length members * share ≤ length old
       → share_at i share (member_outputs s root share members old) ≡ output_inside (root ∷ []) (s ∷ []) m (share_at i share old)

@@ -20,7 +20,7 @@ use Rattle.rules.specs.Readings
 use Rattle.rules.specs.Readings.{is_inserted, Place, walked, walked_at, place_from, is_earlier}
 use Rattle.rules.specs.Explainer.{Standing, explained}
 use Rattle.batching.specs.BatchReadings.{Meant, seat, placed, meant_by, member_outward, meant_earlier, member_counting, decl_in, decl_at, meant_decl, member_standing, among_both, member_denotes}
-use Rattle.rules.specs.Laws.ToolLaws.{false_not, leb_true, All, done, ◌&◌}
+use Rattle.rules.specs.Laws.ToolLaws.{false_not, leb-true, All, done, ◌&◌}
 use Rattle.rules.specs.Laws.RowLaws.{Bytes}
 use Rattle.rules.specs.Laws.Results.{some_same, no_option}
 use Rattle.rules.specs.Laws.Meaning.Names.{LowScope}
@@ -99,7 +99,7 @@ late_meant s m p c x ls lm w r e = go c.way (row_named s m p x (meant_by c) ls l
   where
     go : (way : List ℕ) → Named x.0 x.1 (meant_decl s m (placed way c.field c.at)) → is_earlier (record { way = way; field = c.field; at = c.at }) (place_from (seat s) p) ≡ false
         → meant_earlier (placed way c.field c.at) p ≡ false
-    go [] n e = let l = in_field_lem s x.0 x.1 c.field c.at n in false_not (sym e ∙ leb_true l)
+    go [] n e = let l = in_field_lem s x.0 x.1 c.field c.at n in false_not (sym e ∙ leb-true l)
     go (k ∷ way) n e = e
 
 -- ---- of inputs
@@ -254,7 +254,7 @@ module _ (settings : List Setting) (usual : AllUsual settings) (prelude : List �
       let I = late_inside (inside_prelude A.setting.rules A.before (A.after, A.next) A.low A.resolves) (A.setting ∷ []) (A.usual, tt) m (length before_it) z carried B.answers in
       let w : (x : ℕ × ℕ) → walked I.use_there.head I.use_there.operand ≡ some x → walked_at I.tree I.where_it_is ≡ some x =
       λ x e. sym (walked_inside_lem (seat A.before) (Readings.root A.before ∷ []) I.tree I.where_it_is)
-      ∙ Agree.walked_at (seat A.before) (Readings.root A.before ∷ []) I.tree I.where_it_is I.use_there x I.stands e in (
+      ∙ Agree.walked_at_lem (seat A.before) (Readings.root A.before ∷ []) I.tree I.where_it_is I.use_there x I.stands e in (
         B.rows,
         record {
           around = A;

@@ -1,7 +1,7 @@
 -- Of a batch in bytes: its members are cut apart whole, what is refused ahead of the prelude touches nothing, and each member's share and eight
 -- bytes of answer depend on no other member.
 use Rattle.std.specs.Prelude.{◌≡◌, refl, Bool, true, false, not, ◌||◌, ℕ, zero, suc, ◌+◌, ◌*◌, ◌≤◌, eqb, length, take, drop}
-use Rattle.std.proofs.Common.{ap, ap₂, sym, ◌∙◌, arith, ltb-false, length-append, take-append-drop, length-drop, take_at, drop_at, drop_drop, take_all, length-take-le}
+use Rattle.std.proofs.Common.{ap, ap₂, sym, ◌∙◌, arith, ltb-false, length-append, take-append-drop, length-drop, take_at, drop_at, drop-drop, take_all, length-take-le}
 use Rattle.std.proofs.Math.Option.{Option, none, some}
 use mathlib.Core.List.{List, [], ◌∷◌, ◌++◌, append_assoc}
 use Rattle.std.proofs.Math.ListN.{get_elem?}
@@ -70,7 +70,7 @@ eight i l = take 8 (drop (8 * i) l)
 eight_on : (i : ℕ) (first rest : List ℕ) → length first ≡ 8 → eight (suc i) (first ++ rest) ≡ eight i rest
 eight_on i first rest h =
     let n : 8 * suc i ≡ 8 + 8 * i = omega arith in
-    rw n (ap (take 8) (sym (drop_drop (8 * i) 8 (first ++ rest)) ∙ ap (drop (8 * i)) (drop_at first rest 8 h)))
+    rw n (ap (take 8) (sym (drop-drop (8 * i) 8 (first ++ rest)) ∙ ap (drop (8 * i)) (drop_at first rest 8 h)))
 
 answers_eight : (answers : List Answer) (i : ℕ) (a : Answer) (rest : List ℕ) → get_elem? answers i ≡ some a → eight i (answers_bytes answers ++ rest) ≡ bytes 8 (packed a)
 unfolding answers_bytes

@@ -1,6 +1,6 @@
 -- What the name of a member means is what the number counts to that stands in its place in the output, in the member's or in the prelude's: for
 -- walked names, here_only_lem ones and the named index of an OUTER. The number of a path's instance stands in an inserted alias, out of the same
--- table; of that `Frames.here-meets` says the same.
+-- table; of that `Frames.here_meets` says the same.
 use Rattle.std.specs.Prelude.{◌≡◌, refl, Bool, true, eqb}
 use Rattle.std.proofs.Math.Path.{ap}
 use Rattle.std.proofs.Common.{sym, ◌∙◌, subst}
@@ -37,7 +37,7 @@ use Rattle.rules.specs.Laws.Meaning.Agree.{Ended, Arrived, readings_agree}
 -- ---- what the steps make of an OUTER
 
 outer_stays : (ds : List Declaration) (outside : Outside) (k space : ℕ) (up at : Index) (z : ℕ) → OkR (λ e. e.now ≡ outer space up at z) (expand_operand ds outside k (outer space up at z))
-unfolding expand_operand Rules.as-it-is
+unfolding expand_operand Rules.as_it_is
 outer_stays ds outside k space up at z = refl
 
 outer_kept : (ds : List Declaration) (outside : Outside) (k : ℕ) (os : List Operand) (o space : ℕ) (up at : Index) (z : ℕ) → get_elem? os o ≡ some (outer space up at z)
@@ -50,12 +50,12 @@ outer_kept ds outside k (x ∷ os) (suc o) space up at z e = bind_any _ _ _ (λ 
 
 head_kept : (ds : List Declaration) (outside : Outside) (k : ℕ) (h : Head) (o space : ℕ) (up at : Index) (z : ℕ) → get_elem? h.operands o ≡ some (outer space up at z)
     → OkR (λ e. get_elem? e.now.operands o ≡ some (outer space up at z)) (expand_head ds outside k h)
-unfolding expand_head Rules.as-it-is with_operands
+unfolding expand_head Rules.as_it_is with_operands
 head_kept ds outside k h o space up at z e = if_both (OkR _) _ _ _ e (bind_ok _ _ _ _ (outer_kept ds outside k h.operands o space up at z e) (λ es p. p))
 
 -- a here_only_lem field is left by step B
 here_kept : (ds : List Declaration) (outside : Outside) (k : ℕ) (h : Head) → here_only h.code ≡ true → OkR (λ e. e.now ≡ h) (expand_head ds outside k h)
-unfolding expand_head Rules.as-it-is if◌then◌else◌
+unfolding expand_head Rules.as_it_is if◌then◌else◌
 here_kept ds outside k h c = rw c refl
 
 module _ (here : Env) (outside : Outside) (space : ℕ) (up at : Index) (z : ℕ) where
@@ -144,8 +144,8 @@ unfolding up_number out_to or_refused
 goes_to es (Num n) fz d q = ap {B = Option ℕ} some (ok_same n d q)
 goes_to es (Id x) fz d q = sym (named_is es x) ∙ go (named es x) q
   where
-    go : (o : Option ℕ) → or_refused o Rules.no-scope fz ≡ ok d → o ≡ some d
-    go none q = no_result Rules.no-scope fz d q
+    go : (o : Option ℕ) → or_refused o Rules.no_such_scope fz ≡ ok d → o ≡ some d
+    go none q = no_result Rules.no_such_scope fz d q
     go (some n) q = ap {B = Option ℕ} some (ok_same n d q)
 
 -- what a table has for a name counts, in the output, to the declaration that the name means
@@ -257,7 +257,7 @@ reach (n ∷ way) kind name fs outside k r w low eq {ins} {outs} Fs ls e =
     let N = I.2 in
     let behind : names_to way (scope J.kind J.name s₂.0) (name ∷ names_of outside.scopes) ≡ some N.names = ap (λ (x : ℕ). names_to way (scope J.kind J.name s₂.0) (x ∷ names_of outside.scopes)) (sym P.same_name) ∙ N.are in (
       I.0,
-      ap (λ (gs : Fields). Readings.around (n ∷ way) (level w gs) outs) P.fields_are ∙ Agree.around-step n way (level w P.out) outs A.q.0 (fields_of J.r.0) I.0 A.there J.held_after I.1,
+      ap (λ (gs : Fields). Readings.around (n ∷ way) (level w gs) outs) P.fields_are ∙ Agree.around_step n way (level w P.out) outs A.q.0 (fields_of J.r.0) I.0 A.there J.held_after I.1,
       record { at = N.at; names = N.names; are = names_step n way kind name fs s₁.0 _ (names_of outside.scopes) N.names s₁.1 J.holds_it behind; open_names = N.open_names },
     )
 
@@ -297,7 +297,7 @@ module _ (ls ls' : List Level) (space name n z : ℕ) (p : Place) where
 
   counts_here : (l : Level) (rest : List Level) → l ∷ rest ≡ ls' → (counted l space n then place l) ≡ some p → counts ls' (ref space (Num n) [] z) ≡ some p
   unfolding counts counting
-  counts_here l rest e q = rw (← e) (Agree.meant-place (l ∷ rest) l (counted l space n) p q)
+  counts_here l rest e q = rw (← e) (Agree.meant_place (l ∷ rest) l (counted l space n) p q)
 
   named_index : (code : ℕ) (names : List ℕ) (up : Index) (d : ℕ) (l : Level) → out_to names up ≡ some d → get_elem? ls d ≡ some l → declared l space name ≡ some p → name_in code names ls (outer space up (Id name) z) ≡ some p
   unfolding name_in declared_out ◌then◌
@@ -341,7 +341,7 @@ module _ (s s' m m' : Scope) (p : Place) (u : Use) (used : use_inside (seat s) (
 
   -- its field
   item : (i : Item) × (get_elem? (originals D.fs) p.field ≡ some i) × (get_elem? (head_of i).operands p.at ≡ some u.operand) × (head_of i ≡ u.head)
-  item = Agree.use-inv (level D.w D.fs) D.ins p.field p.at u (ap (λ (v : List Level). Readings.use_in v p.field p.at) D.was ∙ S.before)
+  item = Agree.use_inv (level D.w D.fs) D.ins p.field p.at u (ap (λ (v : List Level). Readings.use_in v p.field p.at) D.was ∙ S.before)
 
   abbrev A : Agree.At item.0 p.field 0 (declarations D.fs) D.here D.outside D.ends.k D.out
   A = Agree.at_ended D.ends p.field item.0 item.1
@@ -353,11 +353,11 @@ module _ (s s' m m' : Scope) (p : Place) (u : Use) (used : use_inside (seat s) (
   there_after : (x : Operand) → get_elem? A.h.operands p.at ≡ some x → (v : Use) × (use_inside (seat s) (root s' ∷ []) m' p ≡ some v) × (v.levels ≡ S.ls') × (v.operand ≡ x)
   there_after x g =
       let v : Use = record { levels = level D.w D.out ∷ D.outs; head = A.h; operand = x } in
-      (v, Agree.use-is (seat s) (root s' ∷ []) m' p S.ls' v S.after (ap (λ (k : List Level). Readings.use_in k p.field p.at) (sym D.now) ∙ Agree.use_there (level D.w D.out) D.outs p.field p.at A.q.0 A.h x A.there A.head g), D.now, refl)
+      (v, Agree.use_is (seat s) (root s' ∷ []) m' p S.ls' v S.after (ap (λ (k : List Level). Readings.use_in k p.field p.at) (sym D.now) ∙ Agree.use_there (level D.w D.out) D.outs p.field p.at A.q.0 A.h x A.there A.head g), D.now, refl)
 
   means_is : (o : Operand) → u.operand ≡ o → member_means s m p ≡ Option.map meant_by (name_in u.head.code S.reached.names S.ls o)
   unfolding member_means ◌then◌
-  means_is o e = rw (used, S.reached.are, Agree.use-levels S.ls p.field p.at u S.before, e)
+  means_is o e = rw (used, S.reached.are, Agree.use_levels S.ls p.field p.at u S.before, e)
 
   -- both sides for one declaration
   make : (x : Operand) → get_elem? A.h.operands p.at ≡ some x → (o : Operand) → u.operand ≡ o → (d : Place) → name_in u.head.code S.reached.names S.ls o ≡ some d → counts S.ls' x ≡ some d → Carried s s' m m' p
@@ -429,7 +429,7 @@ module _ (rules : RuleSet) (s : Scope) (q : Scope × ℕ) (low : LowScope s) (e 
   pub walked_name : (w : ℕ × ℕ) → walked u.head u.operand ≡ some w → Carried s q.0 m r.0 p
   unfolding Readings.counting_inside
   walked_name w walks =
-      let T = readings_agree rules' (seat s) (inside (framed_root rules s q low e) nowhere) m r p w low-m e-m (Agree.walked_at (seat s) (root s ∷ []) m p u w used walks) in
+      let T = readings_agree rules' (seat s) (inside (framed_root rules s q low e) nowhere) m r p w low-m e-m (Agree.walked_at_lem (seat s) (root s ∷ []) m p u w used walks) in
       let c = then_some (use_inside (seat s) (root q.0 ∷ []) r.0 p) _ T.0 T.2 in
       walked_carried s q.0 m r.0 p u used here_now w walks T.0
-      (ap (λ (k : List Level). outward k w.0 w.1) (sym (Agree.use-levels here_now.ls p.field p.at u here_now.before)) ∙ outward_use (seat s) (root s ∷ []) m p u w T.0 used walks T.1) c.0 c.1 c.2
+      (ap (λ (k : List Level). outward k w.0 w.1) (sym (Agree.use_levels here_now.ls p.field p.at u here_now.before)) ∙ outward_use (seat s) (root s ∷ []) m p u w T.0 used walks T.1) c.0 c.1 c.2

@@ -47,8 +47,8 @@ originals_count end ds here outside b k r low e = rw (← ran_end ds here outsid
 originals_count (i ▸ fs) ds here outside b k r low e =
     let R = ran i fs ds here outside b k r e in
     rw (
-      Agree.ran-originals R low.0.decls,
-      Lookups.originals-original i fs (Lookups.low-original (head_of i) low.0.decls),
+      Agree.ran_originals R low.0.decls,
+      Lookups.originals_original i fs (Lookups.low_original (head_of i) low.0.decls),
     )
     (ap suc (originals_count fs ds here (onward i outside) R.e.k R.q.1 R.rs low.2 R.goes_on_lem))
 
@@ -62,7 +62,7 @@ all_firsts : (fs : Fields) → LowFields fs → firsts (length (originals fs)) f
 unfolding firsts originals declarations
 all_firsts end low = refl
 all_firsts (i ▸ fs) low =
-    ap (λ (is : List Item). firsts (length is) (i ▸ fs)) (Lookups.originals-original i fs (Lookups.low-original (head_of i) low.0.decls))
+    ap (λ (is : List Item). firsts (length is) (i ▸ fs)) (Lookups.originals_original i fs (Lookups.low_original (head_of i) low.0.decls))
     ∙ ap (λ (ds : List Declaration). (head_of i).decls ++ ds) (all_firsts fs low.2)
 
 -- ---- of an accepted prelude
@@ -161,7 +161,7 @@ root_prepared rules kind name fs q e =
     let s₂ = bind_inv (resolve_fields fs (declarations fs) p.0 (at_root rules []) 0 p.1) _ q s₁.2 in
     let P = Runs.prepared name fs (at_root rules []) 0 p s₁.1 in
     let out_is : q.0 ≡ scope kind name s₂.0.0 = sym (ap (λ (x : Scope × ℕ). x.0) (ok_same _ q s₂.2)) in
-    let table : declarations s₂.0.0 ≡ table_of p.0 = Runs.table-is-output fs (declarations fs) p.0 (at_root rules []) 0 p.1 s₂.0 P.0 s₂.1 P.1 ∙ ap decls_in (sym P.2) in (
+    let table : declarations s₂.0.0 ≡ table_of p.0 = Runs.table_is_output fs (declarations fs) p.0 (at_root rules []) 0 p.1 s₂.0 P.0 s₂.1 P.1 ∙ ap decls_in (sym P.2) in (
       p,
       s₁.1,
       ap (λ (t : Scope). (root_of t).name) out_is ∙ sym (prepared_name name fs (at_root rules []) 0 p s₁.1),

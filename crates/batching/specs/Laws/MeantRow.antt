@@ -10,7 +10,7 @@ use Rattle.rules.specs.Tree.{Declaration, Scope, scope, Fields, end, ◌▸◌, 
 use Rattle.rules.specs.Readings
 use Rattle.rules.specs.Readings.{originals, Place, Level, level, Use, Spot, original, inserted, in_original, standings, first_named, place, declared, outward, root, fields_of, held, around, walked_at}
 use Rattle.batching.specs.BatchReadings.{Meant, in_prelude, in_member, seat, placed, meant_by, member_outward, decl_in, decl_at, meant_decl}
-use Rattle.rules.specs.Laws.ToolLaws.{All, done, ◌&◌, and_left, and_right, eqb_true, then_some}
+use Rattle.rules.specs.Laws.ToolLaws.{All, done, ◌&◌, and_left, and_right, eqb-true, then_some}
 use Rattle.rules.specs.Laws.Results.{some_same, no_option}
 use Rattle.rules.specs.Laws.Meaning.Names.{LowScope, LowFields, LowItem}
 use Rattle.rules.specs.Laws.Meaning.Lookups
@@ -37,7 +37,7 @@ decls_named n m (d ∷ ds) space name field at e = go (eqb d.space space && eqb 
         let same : original n m ≡ original field at = some_same _ _ e in
         let f : field ≡ n = cc in
         let a : at ≡ m = cc in
-        (0, f, omega arith, (eqb_true d.space space (and_left (eqb d.space space) (eqb d.name name) q), eqb_true d.name name (and_right (eqb d.space space) (eqb d.name name) q)))
+        (0, f, omega arith, (eqb-true d.space space (and_left (eqb d.space space) (eqb d.name name) q), eqb-true d.name name (and_right (eqb d.space space) (eqb d.name name) q)))
     go false q e below = let I = below e in (suc I.0, I.1, omega (arith, I.2), I.3)
 
 fields_named : (n : ℕ) (fs : Fields) (space name field at : ℕ) → LowFields fs → first_named (standings n fs) space name ≡ some (original field at)
@@ -45,10 +45,10 @@ fields_named : (n : ℕ) (fs : Fields) (space name field at : ℕ) → LowFields
 unfolding standings first_named originals ◌or_else◌ ◌then◌
 fields_named n end space name field at low e = no_option _ e
 fields_named n (i ▸ fs) space name field at low e =
-    let own = Lookups.low-original (head_of i) low.0.decls in
+    let own = Lookups.low_original (head_of i) low.0.decls in
     let e' : (first_named (in_original n 0 (head_of i).decls) space name or_else first_named (standings (suc n) fs) space name) ≡ some (original field at) =
-    sym (Lookups.first-append (in_original n 0 (head_of i).decls) (standings (suc n) fs) space name) ∙ (ap (λ ss. first_named ss space name) (sym (Lookups.standings-original n i fs own)) ∙ e) in
-    subst (λ (is : List Item). (g : ℕ) × (field ≡ n + g) × Named space name (get_elem? is g then λ j. get_elem? (head_of j).decls at)) (sym (Lookups.originals-original i fs own))
+    sym (Lookups.first_append (in_original n 0 (head_of i).decls) (standings (suc n) fs) space name) ∙ (ap (λ ss. first_named ss space name) (sym (Lookups.standings_original n i fs own)) ∙ e) in
+    subst (λ (is : List Item). (g : ℕ) × (field ≡ n + g) × Named space name (get_elem? is g then λ j. get_elem? (head_of j).decls at)) (sym (Lookups.originals_original i fs own))
     (go (first_named (in_original n 0 (head_of i).decls) space name) refl e' (fields_named (suc n) fs space name field at low.2))
   where
     go : (o : Option Spot) → first_named (in_original n 0 (head_of i).decls) space name ≡ o → (o or_else first_named (standings (suc n) fs) space name) ≡ some (original field at)
@@ -102,10 +102,10 @@ low_at : (fs : Fields) (k : ℕ) (i : Item) → LowFields fs → get_elem? (orig
 unfolding originals
 low_at end k i low e = no_option i e
 low_at (j ▸ fs) zero i low e =
-    let q : get_elem? (j ∷ originals fs) 0 ≡ some i = rw (Lookups.originals-original j fs (Lookups.low-original (head_of j) low.0.decls)) at e in
+    let q : get_elem? (j ∷ originals fs) 0 ≡ some i = rw (Lookups.originals_original j fs (Lookups.low_original (head_of j) low.0.decls)) at e in
     subst LowItem (some_same j i q) low.1
 low_at (j ▸ fs) (suc k) i low e =
-    let q : get_elem? (originals fs) k ≡ some i = rw (Lookups.originals-original j fs (Lookups.low-original (head_of j) low.0.decls)) at e in
+    let q : get_elem? (originals fs) k ≡ some i = rw (Lookups.originals_original j fs (Lookups.low_original (head_of j) low.0.decls)) at e in
     low_at fs k i low.2 q
 
 low_held : (i : Item) (gs : Fields) → LowItem i → held i ≡ some gs → LowFields gs
@@ -127,7 +127,7 @@ module _ (prelude member : Scope) (n : ℕ) where
       let s₁ = then_some (get_elem? (originals fs) k) _ ls a in
       let s₂ = then_some (held s₁.0) _ ls s₁.2 in
       along way (v ++ (k ∷ [])) s₂.0 (level v fs ∷ ks) (level (n ∷ v) fs ∷ outside) ls
-      (Agree.around-snoc v k (root member) [] (level v fs) ks s₁.0 s₂.0 e s₁.1 s₂.1)
+      (Agree.around_snoc v k (root member) [] (level v fs) ks s₁.0 s₂.0 e s₁.1 s₂.1)
       (low_held s₁.0 s₂.0 (low_at fs k s₁.0 low s₁.1) s₂.1)
       (member_held v fs ks e low & hs) s₂.2
 
@@ -157,9 +157,9 @@ row_named prelude member p x d lp lm w e = go (Readings.outward_inside (seat pre
         let s₁ = then_some (Readings.use_inside (seat prelude) (root prelude ∷ []) member p) _ c q in
         let s₂ = then_some (Readings.walked s₁.0.head s₁.0.operand) _ c s₁.2 in
         let s₃ = then_some (around p.way (level (seat prelude) (fields_of member)) (root prelude ∷ [])) _ s₁.0 s₁.1 in
-        let walks = Agree.walked_at (seat prelude) (root prelude ∷ []) member p s₁.0 s₂.0 s₁.1 s₂.1 in
+        let walks = Agree.walked_at_lem (seat prelude) (root prelude ∷ []) member p s₁.0 s₂.0 s₁.1 s₂.1 in
         let same : s₂.0 ≡ x = some_same s₂.0 x (sym walks ∙ (walked_inside_lem (seat prelude) (root prelude ∷ []) member p ∙ w)) in
-        let levels : s₁.0.levels ≡ s₃.0 = Agree.use-levels s₃.0 p.field p.at s₁.0 s₃.2 in
+        let levels : s₁.0.levels ≡ s₃.0 = Agree.use_levels s₃.0 p.field p.at s₁.0 s₃.2 in
         let reads : outward s₃.0 x.0 x.1 ≡ some c =
         subst (λ (y : ℕ × ℕ). outward s₃.0 y.0 y.1 ≡ some c) same (subst (λ (ks : List Level). outward ks s₂.0.0 s₂.0.1 ≡ some c) levels s₂.2) in
         subst (λ (y : Meant). Named x.0 x.1 (meant_decl prelude member y)) (some_same (meant_by c) d r)

@@ -59,7 +59,7 @@ unfolding standings
 fields_spots end ds here outside b k n r low eq = rw (← ran_end ds here outside b k r eq) done
 fields_spots (i ▸ fs) ds here outside b k n r low eq =
     let R = ran i fs ds here outside b k r eq in
-    subst (All (λ (x : Standing). FoundSpot outside.scopes x.spot)) (sym (Agree.ran-standings R low.0.decls n))
+    subst (All (λ (x : Standing). FoundSpot outside.scopes x.spot)) (sym (Agree.ran_standings R low.0.decls n))
     (all_append _ _ (heads_spots outside.scopes R.new (new_found R low))
     (all_append _ _ (original_spots outside.scopes n 0 (head_of i).decls) (fields_spots fs ds here (onward i outside) R.e.k R.q.1 (suc n) R.rs low.2 R.goes_on_lem)))
 

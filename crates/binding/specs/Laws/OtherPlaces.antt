@@ -19,7 +19,7 @@ use Rattle.moving.specs.Moved
 use Rattle.moving.specs.Moved.{places_at, places_in, places, if_any, collect}
 use Rattle.binding.specs.Sheet.{Slot, Binding, is_ref_at, ref_at, refs_at, outer_to, follow, reached_from, reached, bound_to, bound, binding, bindings}
 use Rattle.rules.specs.Laws.ToolLaws.{All, done, ◌&◌}
-use Rattle.places.specs.Counting.{elem_map, map_append}
+use Rattle.places.specs.Counting.{elem_map, map-append}
 
 -- ---- a tree with other places
 
@@ -293,7 +293,7 @@ module _ (to : ℕ → ℕ) where
       ap₂ (λ (k : Head) (m : ℕ). in_rows (suc row) (own (is_inserted k) n k) ++ located (row + m) (if is_inserted k then n else suc n) (placed_fields fs)) (head_of_lem i) (item_long_lem i)
       ∙ (ap (λ (c : Bool). in_rows (suc row) (own c n (placed_head h)) ++ located (row + length (item_rows i)) (if c then n else suc n) (placed_fields fs)) (head_inserted h)
       ∙ (ap₂ (λ (x y : List Located). x ++ y) (ap (in_rows (suc row)) (own_same b n h) ∙ in_rows_same (suc row) (own b n h)) (located_same (row + length (item_rows i)) next fs)
-      ∙ sym (map_append located_to (in_rows (suc row) (own b n h)) further)))
+      ∙ sym (map-append located_to (in_rows (suc row) (own b n h)) further)))
 
   of_space_same : (xs : List Located) (space : ℕ) → located_of (map located_to xs) space ≡ map located_to (located_of xs space)
   unfolding located_of if◌then◌else◌ placed_decl

@@ -14,7 +14,7 @@ use Rattle.rules.specs.Readings.{originals, Place, Level, level, Use, use_at, Sp
 use Rattle.places.specs.PlaceRows
 use Rattle.places.specs.PlaceRows.{Placed, originals_from, Floor, floors_at, field_at, decl_at, row_of_decl, Located, located, counted_row}
 use Rattle.binding.specs.Sheet.{Slot, Binding, as_written, elsewhere, no_reference, several, refs_at, outer_to, follow, reached_from, reached, bound_to, bound, binding, bindings, is_as_written, passes, failing}
-use Rattle.rules.specs.Laws.ToolLaws.{false_not, and_left, and_right, eqb_true, eqb_same, eqb_false, then_some, All, done, ◌&◌}
+use Rattle.rules.specs.Laws.ToolLaws.{false_not, and_left, and_right, eqb-true, eqb_same, eqb-false, then_some, All, done, ◌&◌}
 use Rattle.rules.specs.Laws.Results.{some_same, no_option, holds_of}
 use Rattle.places.specs.Counting.{levels, originals_from_lem, elem_map, floors_at_lem, standing, located_standings, spot_of, counted_row_lem}
 use Rattle.places.specs.RowAt.{all_at}
@@ -107,7 +107,7 @@ decl_kept rules (scope kind name fs) r p d low eq e =
         let A = Agree.at_ended D.ends p.field s₁.0 s₁.1 in
         let same : (head_of A.q.0).decls ≡ (head_of s₁.0).decls =
         ap (λ (h : Head). h.decls) A.head
-        ∙ ((holds_of _ _ _ (Runs.head-same D.here (seeing D.outside A.seen) A.e.now) A.resolves).0 ∙ (holds_of _ _ _ (Runs.expanded-same (declarations D.fs) (seeing D.outside A.seen) A.b (head_of s₁.0)) A.expands).0) in
+        ∙ ((holds_of _ _ _ (Runs.head_same D.here (seeing D.outside A.seen) A.e.now) A.resolves).0 ∙ (holds_of _ _ _ (Runs.expanded_same (declarations D.fs) (seeing D.outside A.seen) A.b (head_of s₁.0)) A.expands).0) in
         ap (λ (v : List Level). decl_in v p.field p.at) (sym D.now) ∙ at_item (originals D.out) A.q.0 A.there (ap (λ (ds : List Declaration). get_elem? ds p.at) same ∙ s₁.2)
 
 -- ---- the outward reading of a name is a declaration of that name
@@ -124,7 +124,7 @@ first_entry {P} (x ∷ xs) space name spot (h & a) e = go (eqb x.standing.decl.s
         → (first_named (map standing xs) space name ≡ some spot → (y : Located) × P y × (y.standing.spot ≡ spot) × (y.standing.decl.space ≡ space) × (y.standing.decl.name ≡ name))
         → (y : Located) × P y × (y.standing.spot ≡ spot) × (y.standing.decl.space ≡ space) × (y.standing.decl.name ≡ name)
     go true t e below =
-        (x, h, some_same _ spot e, eqb_true _ space (and_left _ _ t), eqb_true _ name (and_right (eqb x.standing.decl.space space) _ t))
+        (x, h, some_same _ spot e, eqb-true _ space (and_left _ _ t), eqb-true _ name (and_right (eqb x.standing.decl.space space) _ t))
     go false t e below = below e
 
 -- a declaration of the name in the space
@@ -155,7 +155,7 @@ unfolding Readings.use_inside Readings.root
 around_floors s p u e =
     let s₁ = then_some (Readings.around p.way (Readings.root s) []) _ u e in
     let m = map_some levels (floors_at s p.way) s₁.0 (floors_at_lem s p.way ∙ s₁.1) in
-    (m.0, m.1, m.2 ∙ sym (Agree.use-levels s₁.0 p.field p.at u s₁.2))
+    (m.0, m.1, m.2 ∙ sym (Agree.use_levels s₁.0 p.field p.at u s₁.2))
 
 -- The outward reading of a walked name is a declaration of that name in that space.
 pub outward_declares : (s : Scope) (p d : Place) (x : ℕ × ℕ) → walked_at s p ≡ some x → outward_reading s p ≡ some d → Declares s d x.0 x.1
@@ -293,10 +293,10 @@ slot_meant rules s r slot p x low eq one w =
     if_same a b row e = rw (e, eqb_same b)
 
     if_other : (a b row : ℕ) → ¬ (a ≡ b) → (if eqb a b then as_written else elsewhere row) ≡ elsewhere row
-    if_other a b row h = rw (eqb_false a b h)
+    if_other a b row h = rw (eqb-false a b h)
 
     only_same : (a b row : ℕ) (t : Bool) → eqb a b ≡ t → (if t then as_written else elsewhere row) ≡ as_written → a ≡ b
-    only_same a b row true q e = eqb_true a b q
+    only_same a b row true q e = eqb-true a b q
     only_same a b row false q e = absurd (not_both row e)
 
 -- ---- a sheet made from the names

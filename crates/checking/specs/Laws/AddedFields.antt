@@ -15,7 +15,7 @@ use Rattle.rules.specs.Shapes
 use Rattle.rules.specs.Good.{after_operand, after_operands, GoodHead, GoodScope, GoodFields, GoodItem}
 use Rattle.rules.specs.Readings.{is_fresh, any_fresh, is_inserted}
 use Rattle.checking.specs.Check.{not_new, not_number, no_alias, scope_added, fields_added, item_added}
-use Rattle.rules.specs.Laws.ToolLaws.{or_cases, or_false, eqb_true}
+use Rattle.rules.specs.Laws.ToolLaws.{or_cases, or-false, eqb-true}
 use Rattle.read_form.specs.Laws.Parting.{or_else_first, or_else_second}
 use Rattle.rules.specs.Laws.Results.{no_option}
 
@@ -62,16 +62,16 @@ abbrev mutual
 -- ---- a good field of codes 9 to 11
 
 one_decl : (ds : List Declaration) → eqb (length ds) 1 ≡ true → (d : Declaration) × (ds ≡ d ∷ [])
-one_decl [] e = let z = eqb_true 0 1 e in absurd (omega arith)
+one_decl [] e = let z = eqb-true 0 1 e in absurd (omega arith)
 one_decl (d ∷ []) e = (d, refl)
-one_decl (d ∷ d' ∷ ds) e = let z = eqb_true (suc (suc (length ds))) 1 e in absurd (omega arith)
+one_decl (d ∷ d' ∷ ds) e = let z = eqb-true (suc (suc (length ds))) 1 e in absurd (omega arith)
 
 enough_one : (code : ℕ) (ds : List Declaration) → is_in code (9 ∷ 10 ∷ 11 ∷ []) ≡ true → Shapes.enough (Shapes.declares code) (length ds) ≡ true → eqb (length ds) 1 ≡ true
 unfolding Shapes.enough Shapes.declares
 enough_one code ds c e =
-    or_cases (eqb code 9) _ c (λ t. rw (eqb_true code 9 t) at e)
-    (λ c₁. or_cases (eqb code 10) _ c₁ (λ t. rw (eqb_true code 10 t) at e)
-    (λ c₂. rw (eqb_true code 11 (or_false (eqb code 11) c₂)) at e))
+    or_cases (eqb code 9) _ c (λ t. rw (eqb-true code 9 t) at e)
+    (λ c₁. or_cases (eqb code 10) _ c₁ (λ t. rw (eqb-true code 10 t) at e)
+    (λ c₂. rw (eqb-true code 11 (or-false (eqb code 11) c₂)) at e))
 
 outer_first : (s : ℕ) (os : List Operand) (left : List Shapes.Part) → after_operands (Shapes.one (Shapes.out s) ∷ []) os ≡ some left → FirstOf s os
 unfolding after_operands after_operand Shapes.next Shapes.fits_outer Tools.only ◌then◌
@@ -80,7 +80,7 @@ outer_first s (ref space at paths z ∷ os) left e = tt
 outer_first s (outer space up at z ∷ os) left e = go (eqb s space) refl e
   where
     go : (b : Bool) → eqb s space ≡ b → (Tools.only b [] then λ q. after_operands q os) ≡ some left → space ≡ s
-    go true t f = sym (eqb_true s space t)
+    go true t f = sym (eqb-true s space t)
     go false t f = no_option left f
 outer_first s (case name z ∷ os) left e = tt
 
@@ -91,9 +91,9 @@ parts_eleven rules builtin d = refl
 pub closed : (code : ℕ) → is_in code (9 ∷ 10 ∷ 11 ∷ []) ≡ true → Shapes.opens code ≡ none
 unfolding Shapes.opens if◌then◌else◌
 closed code c =
-    or_cases (eqb code 9) _ c (λ t. rw (eqb_true code 9 t))
-    (λ c₁. or_cases (eqb code 10) _ c₁ (λ t. rw (eqb_true code 10 t))
-    (λ c₂. rw (eqb_true code 11 (or_false (eqb code 11) c₂))))
+    or_cases (eqb code 9) _ c (λ t. rw (eqb-true code 9 t))
+    (λ c₁. or_cases (eqb code 10) _ c₁ (λ t. rw (eqb-true code 10 t))
+    (λ c₂. rw (eqb-true code 11 (or-false (eqb code 11) c₂))))
 
 -- what `no_alias` tested
 abbrev Passed3 : Head → Type 0
@@ -101,7 +101,7 @@ Passed3 h = (is_in h.code (9 ∷ 10 ∷ 11 ∷ []) ≡ true) × (row : ℕ) × (
 
 any_one : (d : Declaration) → any_fresh (d ∷ []) ≡ true → is_fresh d.name ≡ true
 unfolding any_fresh
-any_one d e = or_false (is_fresh d.name) e
+any_one d e = or-false (is_fresh d.name) e
 
 module _ (rules : RuleSet) where
   alias_added : (kind : ℕ) (h : Head) → GoodHead rules kind h → is_inserted h ≡ true → Passed3 h → Added h

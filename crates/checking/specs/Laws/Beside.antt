@@ -96,7 +96,7 @@ unfolding in_inserted first_named is_fresh
 past_added h space name low a =
     let high = leb_le 2147483648 a.decl.name a.new in
     ap (λ (ds : List Declaration). first_named (in_inserted h ds) space name) a.alone
-    ∙ Lookups.first-other (record { decl = a.decl; spot = inserted h }) [] space name (omega arith)
+    ∙ Lookups.first_other (record { decl = a.decl; spot = inserted h }) [] space name (omega arith)
 
 pub same_first : (cs fs : Fields) (n space name : ℕ) → Beside cs fs → AddedFields cs → LowFields fs → name ≤ top_name → first_named (standings n cs) space name ≡ first_named (standings n fs) space name
 same_first end end n space name stop a l low = refl
@@ -105,11 +105,11 @@ same_first (i ▸ cs) fs n space name (skip e b) a l low =
     ∙ (Lookups.first_past (in_inserted (head_of i) (head_of i).decls) (standings n cs) space name (past_added (head_of i) space name low (added_head i (a.0 e))) ∙ same_first cs fs n space name b a.2 l low)
 same_first (i ▸ cs) (w ▸ fs) n space name (both e s b) a l low =
     rw (
-      Lookups.standings-original n i cs e,
+      Lookups.standings_original n i cs e,
       same_decls (head_of i) (head_of w) (same_head i w s),
-      Lookups.standings-original n w fs (Lookups.low-original (head_of w) l.0.decls),
-      Lookups.first-append (in_original n 0 (head_of w).decls) (standings (suc n) cs) space name,
-      Lookups.first-append (in_original n 0 (head_of w).decls) (standings (suc n) fs) space name,
+      Lookups.standings_original n w fs (Lookups.low_original (head_of w) l.0.decls),
+      Lookups.first_append (in_original n 0 (head_of w).decls) (standings (suc n) cs) space name,
+      Lookups.first_append (in_original n 0 (head_of w).decls) (standings (suc n) fs) space name,
       same_first cs fs (suc n) space name b a.2 l.2 low,
     )
 
@@ -160,14 +160,14 @@ module _ (here : Scope) (outside : List Env) where
       let P = pick cs fs R.0 f w b d.1 a.2 l R.1 g in
       record { i = P.i; there = ap (λ (x : List Item). get_elem? x f) (originals_inserted i cs t) ∙ P.there; same = P.same; bare = P.bare; added = P.added; row = P.row; right = P.right; low_head = P.low_head; low_item = P.low_item }
   pick (i ▸ cs) (w₀ ▸ fs) n zero w (both t s b) d a l e g =
-      let same_w : w₀ ≡ w = some_same w₀ w (rw (Lookups.originals-original w₀ fs (Lookups.low-original (head_of w₀) l.0.decls)) at g) in
+      let same_w : w₀ ≡ w = some_same w₀ w (rw (Lookups.originals_original w₀ fs (Lookups.low_original (head_of w₀) l.0.decls)) at g) in
       let R = right_both n i w₀ cs fs t e in
       subst (λ (x : Item). Picked (i ▸ cs) 0 x here outside) same_w
-      (record { i = i; there = rw (Lookups.originals-original i cs t); same = s; bare = d.0; added = a.1; row = n; right = R.first; low_head = l.0; low_item = l.1 })
+      (record { i = i; there = rw (Lookups.originals_original i cs t); same = s; bare = d.0; added = a.1; row = n; right = R.first; low_head = l.0; low_item = l.1 })
   pick (i ▸ cs) (w₀ ▸ fs) n (suc f) w (both t s b) d a l e g =
       let R = right_both n i w₀ cs fs t e in
-      let P = pick cs fs R.row f w b d.1 a.2 l.2 R.rest (rw (Lookups.originals-original w₀ fs (Lookups.low-original (head_of w₀) l.0.decls)) at g) in
-      record { i = P.i; there = rw (Lookups.originals-original i cs t) P.there; same = P.same; bare = P.bare; added = P.added; row = P.row; right = P.right; low_head = P.low_head; low_item = P.low_item }
+      let P = pick cs fs R.row f w b d.1 a.2 l.2 R.rest (rw (Lookups.originals_original w₀ fs (Lookups.low_original (head_of w₀) l.0.decls)) at g) in
+      record { i = P.i; there = rw (Lookups.originals_original i cs t) P.there; same = P.same; bare = P.bare; added = P.added; row = P.row; right = P.right; low_head = P.low_head; low_item = P.low_item }
 
 -- ---- a field of both
 

@@ -14,7 +14,7 @@ use Rattle.rules.specs.Readings
 use Rattle.rules.specs.Readings.{is_inserted, originals, Place, Level, level, Spot, original, inserted, Standing, in_original, in_inserted, standings, of_space, place, declared, outward, counted, meant, counting}
 use Rattle.checking.specs.Check
 use Rattle.checking.specs.Check.{ref_number, outer_numbers, same_pair, reached, through_outer, table, name_right, ref_right, operand_right, not_right, head_operands, scope_operands, fields_operands, item_operands}
-use Rattle.rules.specs.Laws.ToolLaws.{false_not, and_left, and_right, eqb_true, then_some, All, done, ◌&◌, all_append}
+use Rattle.rules.specs.Laws.ToolLaws.{false_not, and_left, and_right, eqb-true, then_some, All, done, ◌&◌, all_append}
 use Rattle.read_form.specs.Laws.Parting.{or_else_second, no_cons, cons_head, cons_tail}
 use Rattle.rules.specs.Laws.Results.{no_option, some_same}
 use Rattle.rules.specs.Laws.Meaning.Names.{LowOperand, LowScope, LowFields, LowItem}
@@ -64,7 +64,7 @@ spots_of space [] a = done
 spots_of space (s ∷ ss) (h & a) = go (eqb s.decl.space space) refl (spots_of space ss a)
   where
     go : (b : Bool) → eqb s.decl.space space ≡ b → All (SpotOf space) (of_space ss space) → All (SpotOf space) (if b then s.spot ∷ of_space ss space else of_space ss space)
-    go true e p = unfold if◌then◌else◌ in (subst (λ (x : ℕ). SpotOf x s.spot) (eqb_true s.decl.space space e) h & p)
+    go true e p = unfold if◌then◌else◌ in (subst (λ (x : ℕ). SpotOf x s.spot) (eqb-true s.decl.space space e) h & p)
     go false e p = unfold if◌then◌else◌ in p
 
 get_all : {A : Type 0} (P : A → Type 0) (xs : List A) (n : ℕ) (x : A) → All P xs → get_elem? xs n ≡ some x → P x
@@ -111,7 +111,7 @@ through cs w space n x a e =
     let s₃ = then_some (get_elem? (of_space (standings 0 cs) space) n) Check.if_added s₂.0 s₂.1 in
     let o = only_some (eqb s₂.0.code 11) s₂.0 s₁.0 s₁.1 in
     let at-h : get_elem? (of_space (standings 0 cs) space) n ≡ some (inserted s₁.0) = s₃.1 ∙ ap {B = Option Spot} some (added_spot s₃.0 s₂.0 s₃.2 ∙ ap inserted o.1) in
-    let code : s₁.0.code ≡ 11 = ap (λ (h : Head). h.code) (sym o.1) ∙ eqb_true s₂.0.code 11 o.0 in
+    let code : s₁.0.code ≡ 11 = ap (λ (h : Head). h.code) (sym o.1) ∙ eqb-true s₂.0.code 11 o.0 in
     let of : SpotOf space (inserted s₁.0) = get_all (SpotOf space) (of_space (standings 0 cs) space) n (inserted s₁.0) (spots_of space (standings 0 cs) (standings_of 0 cs a)) at-h in
     let O = outer_is space s₁.0.operands x (of code) s₁.2 in
     record { h = s₁.0; reaches = at-h; code = code; z = O.0; others = O.1; operands = O.2 }
@@ -196,7 +196,7 @@ unfolding same_pair
 pair_same none b e = false_not e
 pair_same (some m) none e = false_not e
 pair_same (some m) (some n) e =
-    (m, refl, ap₂ (λ (x y : ℕ). some (x, y)) (sym (eqb_true m.0 n.0 (and_left (eqb m.0 n.0) _ e))) (sym (eqb_true m.1 n.1 (and_right (eqb m.0 n.0) _ e))))
+    (m, refl, ap₂ (λ (x y : ℕ). some (x, y)) (sym (eqb-true m.0 n.0 (and_left (eqb m.0 n.0) _ e))) (sym (eqb-true m.1 n.1 (and_right (eqb m.0 n.0) _ e))))
 
 -- an outer alias counts on to where the walk ended
 counts_on : (l : Level) (ls : List Level) (space n j d i : ℕ) (paths : List ℕ) (z : ℕ) (p : Place) (h : Head) (z' : ℕ) (os : List Operand) → d ≡ j + 1 → h.code ≡ 11 → h.operands ≡ outer space (Num d) (Num i) z' ∷ os
@@ -206,7 +206,7 @@ counts_on l ls space n j d i paths z p h z' os far code operands there e = rw (e
 
 counts_here : (l : Level) (ls : List Level) (space n : ℕ) (paths : List ℕ) (z : ℕ) (p : Place) → (counted l space n then place l) ≡ some p → counting (l ∷ ls) (ref space (Num n) paths z) ≡ some p
 unfolding counting
-counts_here l ls space n paths z p e = Agree.meant-place (l ∷ ls) l (counted l space n) p e
+counts_here l ls space n paths z p e = Agree.meant_place (l ∷ ls) l (counted l space n) p e
 
 outward_here : (l : Level) (ls : List Level) (space name : ℕ) (p : Place) → declared l space name ≡ some p → outward (l ∷ ls) space name ≡ some p
 unfolding outward ◌or_else◌
@@ -241,7 +241,7 @@ module _ {cs fs : Fields} {kind called : ℕ} {outside : List Env} (w : List ℕ
   named_right : (o : Option ℕ) → find (declarations cs) space name ≡ o → Meets (level w cs) space o (declared (level w fs) space name)
       → name_right (scope kind called cs) outside o space name n ≡ true → Agreed
   unfolding name_right
-  named_right (some m) e q t = meets_here m (declared (level w fs) space name) refl q (eqb_true n m t)
+  named_right (some m) e q t = meets_here m (declared (level w fs) space name) refl q (eqb-true n m t)
   named_right none e q t =
       let X = pair_same (through_outer cs space n) (walk outside 1 space name) t in
       meets_further X.0 (outward ins space name) (undeclared (declared (level w fs) space name) refl q) refl
@@ -307,7 +307,7 @@ descend (n ∷ way) {cs} {fs} {kind} {name} {outside} w S {ins} {outs} Fs ls e =
     let P = pick (scope kind name cs) outside cs fs S.row n s₁.0 S.alike S.bare S.added S.low S.right s₁.1 in
     let W = within P.i s₁.0 s₂.0 P.row (scope kind name cs) outside P.same s₂.1 P.bare P.added P.low_item P.right in
     let I = descend way {cs = W.cs} {fs = s₂.0} {kind = W.kind} {name = W.name} (w ++ (n ∷ [])) W.inner (inside (framed w S) Fs) ls s₂.2 in
-    (I.0, Agree.around-step n way (level w cs) outs P.i W.cs I.0 P.there W.holding I.1, I.2)
+    (I.0, Agree.around_step n way (level w cs) outs P.i W.cs I.0 P.there W.holding I.1, I.2)
 
 -- ---- at the reference
 
@@ -322,7 +322,7 @@ agree_here : {cs fs : Fields} {kind called : ℕ} {outside : List Env} (w : List
     → (f o : ℕ) (u : Readings.Use) (x : ℕ × ℕ) → Readings.use_in (level w fs ∷ ins) f o ≡ some u → Readings.walked u.head u.operand ≡ some x
     → AgreedAt (level w fs ∷ ins) (level w cs ∷ outs) f o x.0 x.1
 agree_here {cs} {fs} {kind} {called} {outside} w S {ins} {outs} Fs f o u x e₁ e₂ =
-    let U = Agree.use-inv (level w fs) ins f o u e₁ in
+    let U = Agree.use_inv (level w fs) ins f o u e₁ in
     let W = walked_ref u.head u.operand x e₂ in
     let P = pick (scope kind called cs) outside cs fs S.row f U.0 S.alike S.bare S.added S.low S.right U.1 in
     let e : get_elem? (head_of U.0).operands o ≡ some (ref x.0 (Id x.1) [] W.0) = U.2 ∙ ap {B = Option Operand} some W.1 in
@@ -368,7 +368,7 @@ no_outer_case s z n z' e = let c : ◌≡◌ {A = ℕ} 0 1 = cc in absurd (omega
 
 written_ref : (here : Scope) (outside : List Env) (x : Operand) (space n z : ℕ) → Bare x → blank_operand x ≡ ref space (Num 0) [] z → operand_right here outside (ref space (Num n) [] z) x ≡ true → x ≡ ref space (Num n) [] z
 unfolding blank_operand operand_right Check.ref_now_right ref_right ref_number
-written_ref here outside (ref s (Num m) [] z') space n z b e t = rw ((refs_same s space z' z e).0, (refs_same s space z' z e).1, eqb_true m n t)
+written_ref here outside (ref s (Num m) [] z') space n z b e t = rw ((refs_same s space z' z e).0, (refs_same s space z' z e).1, eqb-true m n t)
 written_ref here outside (ref s (Num m) (q ∷ ps) z') space n z b e t = absurd b
 written_ref here outside (ref s (Id m) paths z') space n z b e t = false_not t
 written_ref here outside (outer s up at z') space n z b e t = no_outer s z' space z e
@@ -378,7 +378,7 @@ written_outer : (here : Scope) (outside : List Env) (x : Operand) (space d n z :
 unfolding blank_operand operand_right outer_numbers same_pair Check.found resolve_outer ◌then◌
 written_outer here outside (ref s at paths z') space d n z e t = no_ref s z' space z e
 written_outer here outside (outer s (Num d') (Num n') z') space d n z e t =
-    rw ((outers_same s space z' z e).0, (outers_same s space z' z e).1, eqb_true d' d (and_left (eqb d' d) _ t), eqb_true n' n (and_right (eqb d' d) _ t))
+    rw ((outers_same s space z' z e).0, (outers_same s space z' z e).1, eqb-true d' d (and_left (eqb d' d) _ t), eqb-true n' n (and_right (eqb d' d) _ t))
 written_outer here outside (outer s (Num d') (Id m) z') space d n z e t = false_not t
 written_outer here outside (outer s (Id m) at z') space d n z e t = false_not t
 written_outer here outside (case m z') space d n z e t = no_case' m z' space z e
@@ -416,7 +416,7 @@ Stays ls' f o u = (u' : Readings.Use) × (Readings.use_in ls' f o ≡ some u') �
 stays_here : {cs fs : Fields} {kind called : ℕ} {outside : List Env} (w : List ℕ) → Scoped cs fs kind called outside → (ins outs : List Level)
     → (f o : ℕ) (u : Readings.Use) → Readings.use_in (level w fs ∷ ins) f o ≡ some u → is_written u.operand ≡ true → Stays (level w cs ∷ outs) f o u
 stays_here {cs} {fs} {kind} {called} {outside} w S ins outs f o u e t =
-    let U = Agree.use-inv (level w fs) ins f o u e in
+    let U = Agree.use_inv (level w fs) ins f o u e in
     let P = pick (scope kind called cs) outside cs fs S.row f U.0 S.alike S.bare S.added S.low S.right U.1 in
     let H = head_not_right (scope kind called cs) outside P.row (head_of P.i) (head_of U.0) (item_operands_lem P.row P.i (scope kind called cs) outside U.0 P.right) in
     let O = operand_at_lem (scope kind called cs) outside H.0 (head_of P.i).operands (head_of U.0).operands o u.operand (same_operands _ _ (same_head P.i U.0 P.same)) H.1 U.2 in
@@ -449,9 +449,9 @@ claim_agrees (scope kind name fs) (scope kind' name' cs) p x T w =
     let D = descend p.way [] S nowhere s₂.0 s₂.1 in
     let A = agree_at D.2 p.field p.at s₁.0 x s₂.2 s₁.2 in (
       A.d,
-      Agree.outward-is [] [] (scope kind name fs) p s₁.0 x A.d s₁.1 s₁.2
-          (ap (λ (v : List Level). outward v x.0 x.1) (Agree.use-levels s₂.0 p.field p.at s₁.0 s₂.2) ∙ A.reads),
-      Agree.counting-is [] [] (scope kind' name' cs) p D.0 A.u A.d D.1 A.there A.counts,
+      Agree.outward_is [] [] (scope kind name fs) p s₁.0 x A.d s₁.1 s₁.2
+          (ap (λ (v : List Level). outward v x.0 x.1) (Agree.use_levels s₂.0 p.field p.at s₁.0 s₂.2) ∙ A.reads),
+      Agree.counting_is [] [] (scope kind' name' cs) p D.0 A.u A.d D.1 A.there A.counts,
     )
 
 -- An operand that holds numbers and no PATHs stands unchanged at the same place of the claim.
@@ -463,7 +463,7 @@ claim_stays (scope kind name fs) (scope kind' name' cs) p u T e t =
     let s₁ = then_some (Readings.around p.way (level [] fs) []) _ u e in
     let D = descend p.way [] S nowhere s₁.0 s₁.1 in
     let Z = stays_at D.2 p.field p.at u s₁.2 t in
-    (Z.0, Agree.use-is [] [] (scope kind' name' cs) p D.0 Z.0 D.1 Z.1, Z.2)
+    (Z.0, Agree.use_is [] [] (scope kind' name' cs) p D.0 Z.0 D.1 Z.1, Z.2)
 
 -- What a name finds in a scope of the claim, by counting the claim's declarations, is the declaration of that name in the input's scope: so
 -- condition 4 may look names up in the claim.

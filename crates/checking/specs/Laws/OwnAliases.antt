@@ -13,7 +13,7 @@ use Rattle.rules.specs.Rules.{ok, Env, Outside, at_root, onward, inward, find, f
 use Rattle.rules.specs.Readings.{is_inserted, fields_of}
 use Rattle.checking.specs.Check
 use Rattle.checking.specs.Check.{has_numbers, not_new, not_number, no_alias, scope_added, fields_added, item_added, condition3}
-use Rattle.rules.specs.Laws.ToolLaws.{eqb_false}
+use Rattle.rules.specs.Laws.ToolLaws.{eqb-false}
 use Rattle.rules.specs.Laws.Results.{OkR, bind_ok, bind_any, bind_eq, if_both, holds_of}
 use Rattle.rules.specs.Laws.Meaning.Names.{LowDecls, DeclScope, DeclFields, DeclItem}
 use Rattle.rules.specs.Laws.Meaning.Runs
@@ -50,13 +50,13 @@ abbrev Rises : {A : Type 0} → ℕ → Expanded A → Type 0
 Rises k e = Rising k e.inserted e.k
 
 found_rising : (space name z k : ℕ) (o : Option (ℕ × ℕ)) → OkR (Rises k) (Rules.found_at space name z k o)
-unfolding Rules.found_at Rules.through Rules.outer_alias Rules.as-it-is
+unfolding Rules.found_at Rules.through Rules.outer_alias Rules.as_it_is
 found_rising space name z k none = refl
 found_rising space name z k (some at) = if_both (OkR (Rises k)) _ _ _ (record { decl = _; alone = refl; named = refl }, refl) tt
 
 module _ (ds : List Declaration) (outside : Outside) where
   pub operand_rising : (k : ℕ) (o : Operand) → OkR (Rises k) (expand_operand ds outside k o)
-  unfolding expand_operand Rules.through Rules.as-it-is
+  unfolding expand_operand Rules.through Rules.as_it_is
   operand_rising k (ref space (Num n) [] z) = refl
   operand_rising k (ref space (Id name) [] z) = bind_any _ _ _ (λ u. if_both (OkR (Rises k)) _ _ _ refl (found_rising space name z k _))
   operand_rising k (ref space at (p ∷ ps) z) = if_both (OkR (Rises k)) _ _ _ tt (paths_rising space at p ps z k)
@@ -64,20 +64,20 @@ module _ (ds : List Declaration) (outside : Outside) where
   operand_rising k (case name z) = refl
 
   pub operands_rising : (k : ℕ) (os : List Operand) → OkR (Rises k) (expand_operands ds outside k os)
-  unfolding expand_operands Rules.as-it-is
+  unfolding expand_operands Rules.as_it_is
   operands_rising k [] = refl
   operands_rising k (o ∷ os) =
       bind_ok _ _ _ _ (operand_rising k o) (λ e p. bind_ok _ _ _ _ (operands_rising e.k os) (λ es q. rising_append k e.k es.k e.inserted es.inserted p q))
 
   pub head_rising : (k : ℕ) (h : Head) → OkR (Rises k) (expand_head ds outside k h)
-  unfolding expand_head Rules.as-it-is
+  unfolding expand_head Rules.as_it_is
   head_rising k h = if_both (OkR (Rises k)) _ _ _ refl (bind_ok _ _ _ _ (operands_rising k h.operands) (λ e p. p))
 
 pub inserted_rising : (here : Env) (outside : Outside) (lo hi : ℕ) (hs : List Head) → Rising lo hs hi → OkR (λ new. Rising lo new hi) (resolve_inserted here outside hs)
 unfolding resolve_inserted
 inserted_rising here outside lo hi [] p = p
 inserted_rising here outside lo hi (h ∷ hs) p =
-    bind_any _ _ _ (λ u. bind_ok _ _ _ _ (Runs.head-same here outside h) (λ h' s. bind_ok _ _ _ _ (inserted_rising here outside (suc lo) hi hs p.1)
+    bind_any _ _ _ (λ u. bind_ok _ _ _ _ (Runs.head_same here outside h) (λ h' s. bind_ok _ _ _ _ (inserted_rising here outside (suc lo) hi hs p.1)
     (λ hs' q. (record { decl = p.0.decl; alone = s.0 ∙ p.0.alone; named = p.0.named }, q))))
 
 -- ---- a scope whose inserted names rise
@@ -113,10 +113,10 @@ mutual
       bind_eq _ _ _ (λ e ee.
       bind_ok _ _ _ _ (inserted_rising here outside b e.k e.inserted (holds_of _ _ e (head_rising ds outside b (head_of i)) ee)) (λ news p.
       bind_eq _ _ _ (λ h eh.
-      let same : h.decls ≡ (head_of i).decls = (holds_of (Runs.SameDecls e.now) _ h (Runs.head-same here outside e.now) eh).0
-      ∙ (holds_of (λ (x : Expanded Head). Runs.SameDecls (head_of i) x.now) _ e (Runs.expanded-same ds outside b (head_of i)) ee).0 in
+      let same : h.decls ≡ (head_of i).decls = (holds_of (Runs.SameDecls e.now) _ h (Runs.head_same here outside e.now) eh).0
+      ∙ (holds_of (λ (x : Expanded Head). Runs.SameDecls (head_of i) x.now) _ e (Runs.expanded_same ds outside b (head_of i)) ee).0 in
       bind_eq _ _ _ (λ q eq.
-      let head : head_of q.0 ≡ h = holds_of _ _ q (Runs.item-head here outside i h k) eq in
+      let head : head_of q.0 ≡ h = holds_of _ _ q (Runs.item_head here outside i h k) eq in
       let lows : LowDecls (head_of q.0).decls = subst LowDecls (sym (ap (λ (x : Head). x.decls) head ∙ same)) low.0 in
       bind_ok _ _ _ _ (fields_fresh fs ds here (onward i outside) e.k q.1 low.2) (λ rs f.
       before_fresh b e.k news (q.0 ▸ rs.0) p (own lows (holds_of _ _ q (item_fresh i h here outside k low.1) eq) f))))))
@@ -155,7 +155,7 @@ below_new : (k : ℕ) (ds : List Declaration) (space : ℕ) → Below k ds → f
 unfolding find
 below_new k [] space p = refl
 below_new k (d ∷ ds) space p =
-    let other : eqb d.name (fresh k) ≡ false = eqb_false d.name (fresh k) (λ e. omega (arith, p.0)) in
+    let other : eqb d.name (fresh k) ≡ false = eqb-false d.name (fresh k) (λ e. omega (arith, p.0)) in
     rw other (not_found (eqb d.space space) (find ds space (fresh k)) (below_new k ds space p.1))
 
 numbers_pass : (n : ℕ) (os : List Operand) → AllNumbered os → not_number n os ≡ none
@@ -176,7 +176,7 @@ alias_passes n k ds h b m a o =
     rw (a.code, m.alone, m.named, below_new k ds m.decl.space b) (numbers_pass _ h.operands o)
 
 named_inserted : (k : ℕ) (h : Head) → Named k h → is_inserted h ≡ true
-named_inserted k h m = Lookups.new-inserted k (suc k) h (record { decl = m.decl; alone = m.alone; number = k; named = m.named; low = omega arith; high = omega arith })
+named_inserted k h m = Lookups.new_inserted k (suc k) h (record { decl = m.decl; alone = m.alone; number = k; named = m.named; low = omega arith; high = omega arith })
 
 added_next : (n : ℕ) (past : List Declaration) (i : Item) (fs : Fields) → (if is_inserted (head_of i) then no_alias n past (head_of i) else none) ≡ none
     → item_added (n + length (head_rows (head_of i))) i ≡ none → fields_added (n + length (item_rows i)) (past ++ (head_of i).decls) fs ≡ none → fields_added n past (i ▸ fs) ≡ none
@@ -229,7 +229,7 @@ mutual
       added_next n past (plain h) fs (if_true n past h t (alias_passes n lo past h b x (a.0 t) m.0)) (plain_passes _ h)
       (fields_pass (suc lo) _ (past ++ h.decls) fs f (below_append (suc lo) past h.decls (below_wider lo past b) (named_below lo h x)) a.2 m.1)
   fields_pass lo n past (i ▸ fs) (own l x f) b a m =
-      added_next n past i fs (if_false n past (head_of i) (Lookups.low-original (head_of i) l)) (item_passes _ i x a.1 m.0)
+      added_next n past i fs (if_false n past (head_of i) (Lookups.low_original (head_of i) l)) (item_passes _ i x a.1 m.0)
       (fields_pass lo _ (past ++ (head_of i).decls) fs f (below_append lo past (head_of i).decls b (low_below lo (head_of i).decls l)) a.2 m.1)
 
   item_passes : (n : ℕ) (i : Item) → FreshItem i → AliasesItem i → NumberedItem i → item_added n i ≡ none

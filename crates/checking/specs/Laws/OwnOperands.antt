@@ -23,7 +23,7 @@ use Rattle.rules.specs.Readings
 use Rattle.rules.specs.Readings.{is_inserted, level, Spot, inserted, standings, first_named, of_space}
 use Rattle.checking.specs.Check
 use Rattle.checking.specs.Check.{ref_number, outer_numbers, found, same, same_pair, reached, through_outer, through_export, through_paths, instance_space, table, name_right, ref_right, ref_now_right, operand_right, not_right, head_operands, scope_operands, fields_operands, item_operands, condition4}
-use Rattle.rules.specs.Laws.ToolLaws.{if_ok_lem, or_cases, eqb_same, eqb_false, leb_le, leb_false, All, done, ◌&◌, all_left, all_right}
+use Rattle.rules.specs.Laws.ToolLaws.{if_ok_lem, or_cases, eqb_same, eqb-false, leb_le, leb-false, All, done, ◌&◌, all_left, all_right}
 use Rattle.rules.specs.Laws.Results.{OkR, bind_any, bind_ok, if_both, holds_of, bind_inv, no_result, ok_same}
 use Rattle.rules.specs.Laws.Meaning.Names.{LowDecls, LowOperand, LowOperands, LowScope, LowFields, LowItem, DeclFields, low_fields}
 use Rattle.rules.specs.Laws.Meaning.Runs
@@ -93,7 +93,7 @@ found_any (some x) n z z' a e = e
 up_any : (es : List Env) (up : Index) (z z' d : ℕ) → Rules.up_number es up z ≡ ok d → Rules.up_number (map plain_of es) up z' ≡ ok d
 unfolding Rules.up_number
 up_any es (Num n) z z' d e = e
-up_any es (Id name) z z' d e = rw (plain_named es name) (found_any (Rules.named es name) Rules.no-scope z z' d e)
+up_any es (Id name) z z' d e = rw (plain_named es name) (found_any (Rules.named es name) Rules.no_such_scope z z' d e)
 
 far_any : (es : List Env) (n z z' : ℕ) (x : Env) → Rules.or_refused (Rules.nth es n) Rules.too_far z ≡ ok x → Rules.or_refused (Rules.nth (map plain_of es) n) Rules.too_far z' ≡ ok (plain_of x)
 far_any es n z z' x e = rw (plain_nth es n) (go (Rules.nth es n) e)
@@ -193,7 +193,7 @@ module _ {fs : Fields} {outside : Outside} {here : Env} {out' : Fields} (E : Clo
   -- its number reaches it
   first_reached : (space name n : ℕ) (h : Head) → first_named (standings 0 out') space name ≡ some (inserted h) → find (table_of here) space name ≡ some n → reached out' space n ≡ some h
   unfolding reached Check.if_added ◌then◌
-  first_reached space name n h e f = rw (Agree.counted-first (level [] out') here space name n (inserted h) E.table f e)
+  first_reached space name n h e f = rw (Agree.counted_first (level [] out') here space name n (inserted h) E.table f e)
 
   placed_reached : (space name n : ℕ) (h : Head) (P : Placed space name h) → find (table_of here) space name ≡ some n → reached out' space n ≡ some P.h'
   placed_reached space name n h P f = first_reached space name n P.h' P.first f
@@ -240,7 +240,7 @@ module _ {fs : Fields} {outside : Outside} {here : Env} {out' : Fields} (E : Clo
 
   high_instance : (space : ℕ) → leb 7 space ≡ true → instance_space space ≡ 10
   unfolding instance_space if◌then◌else◌
-  high_instance space t = let l = leb_le 7 space t in rw (leb_false space 6 (omega arith))
+  high_instance space t = let l = leb_le 7 space t in rw (leb-false space 6 (omega arith))
 
   paths_through : (space : ℕ) (at : Index) (q : ℕ) (ps : List ℕ) (z k n : ℕ) → paths_ok space (suc (length ps)) ≡ true → All PlacedHead (path_aliases space at q ps z k)
       → find (table_of here) space (fresh (k + length ps)) ≡ some n → Pathed space at q ps z n
@@ -285,10 +285,10 @@ module _ {fs : Fields} {outside : Outside} {here : Env} {out' : Fields} (E : Clo
     pub not_here : (space name : ℕ) → name ≤ top_name → find (declarations fs) space name ≡ none → find (table_of here) space name ≡ none
     not_here space name low e =
         go (find (table_of here) space name)
-        (rw (Lookups.standings-decls 0 out', E.table, first_none) at (Lookups.found (standings 0 out') space name))
+        (rw (Lookups.standings_decls 0 out', E.table, first_none) at (Lookups.found (standings 0 out') space name))
       where
         first_none : first_named (standings 0 out') space name ≡ none
-        first_none = E.same_first space name low ∙ spots (first_named (standings 0 fs) space name) (rw (Lookups.standings-decls 0 fs, e) at (Lookups.found (standings 0 fs) space name))
+        first_none = E.same_first space name low ∙ spots (first_named (standings 0 fs) space name) (rw (Lookups.standings_decls 0 fs, e) at (Lookups.found (standings 0 fs) space name))
           where
             spots : (o : Option Spot) → Found (of_space (standings 0 fs) space) none o → o ≡ none
             spots none f = refl
@@ -342,7 +342,7 @@ module _ {fs : Fields} {outside : Outside} {here : Env} {out' : Fields} (E : Clo
 
     found_right : (fz space name z k : ℕ) (o : Option (ℕ × ℕ)) → name ≤ top_name → find (declarations fs) space name ≡ none → walk outside.scopes 1 space name ≡ o
         → OkR (Right fz (ref space (Id name) [] z)) (Rules.found_at space name z k o)
-    unfolding Rules.found_at Rules.as-it-is Rules.through
+    unfolding Rules.found_at Rules.as_it_is Rules.through
     found_right fz space name z k none low e w = λ a now x. left_right fz (ref space (Id name) [] z) now tt x
     found_right fz space name z k (some at) low e w = if_both (OkR (Right fz (ref space (Id name) [] z))) _ _ _ (λ a now x. go a now x) tt
       where
@@ -350,15 +350,15 @@ module _ {fs : Fields} {outside : Outside} {here : Env} {out' : Fields} (E : Clo
         go (P & a) now (one_ref n f) = ref_right_lem space (Id name) (Id name) [] [] z n z (right_outer space name z z k n at low e w (placed_stands space k at z P) (named_number here.entries space (fresh k) z n f))
 
     same_right : (fz k : ℕ) (o : Operand) → LowOperand o → PathsOk o → OkR (Right fz o) (expand_operand (declarations fs) there k o)
-    unfolding expand_operand Rules.as-it-is Rules.through if◌then◌else◌
+    unfolding expand_operand Rules.as_it_is Rules.through if◌then◌else◌
     same_right fz k (ref space (Num n) [] z) l t = λ a now x. left_right fz (ref space (Num n) [] z) now tt x
     same_right fz k (ref space (Id name) [] z) l t = bind_any _ _ _ (λ u. go (find (declarations fs) space name) refl)
       where
         go : (o : Option ℕ) → find (declarations fs) space name ≡ o
-            → OkR (Right fz (ref space (Id name) [] z)) (if is_just o then ok (Rules.as-it-is (ref space (Id name) [] z) k) else Rules.found_at space name z k (walk outside.scopes 1 space name))
+            → OkR (Right fz (ref space (Id name) [] z)) (if is_just o then ok (Rules.as_it_is (ref space (Id name) [] z) k) else Rules.found_at space name z k (walk outside.scopes 1 space name))
         go none e = found_right fz space name z k (walk outside.scopes 1 space name) l.1 e refl
         go (some n) e = λ a now x. left_right fz (ref space (Id name) [] z) now tt x
-    same_right fz k (ref space at (q ∷ ps) z) l t = if_both (OkR (Right fz (ref space at (q ∷ ps) z))) (is_in space (4 ∷ 6 ∷ [])) (Result.refused Rules.not-exported z) (ok (Rules.through space z (k + length ps) (path_aliases space at q ps z k))) tt go
+    same_right fz k (ref space at (q ∷ ps) z) l t = if_both (OkR (Right fz (ref space at (q ∷ ps) z))) (is_in space (4 ∷ 6 ∷ [])) (Result.refused Rules.not_exported z) (ok (Rules.through space z (k + length ps) (path_aliases space at q ps z k))) tt go
       where
         go : All PlacedHead (path_aliases space at q ps z k) → (now : Operand) → One here there fz (ref space (Id (fresh (k + length ps))) [] z) now → operand_right c beyond (ref space at (q ∷ ps) z) now ≡ true
         go a now (one_ref n f) =
@@ -367,14 +367,14 @@ module _ {fs : Fields} {outside : Outside} {here : Env} {out' : Fields} (E : Clo
     same_right fz k (case name z) l t = λ a now x. left_right fz (case name z) now tt x
 
     operand_right_lem : (fz k : ℕ) (w o : Operand) → As E w o → PathsOk o → OkR (Right fz w) (expand_operand (declarations fs) there k o)
-    unfolding expand_operand Rules.as-it-is Rules.found_at if◌then◌else◌
+    unfolding expand_operand Rules.as_it_is Rules.found_at if◌then◌else◌
     operand_right_lem fz k w o (itself l) t = same_right fz k o l t
     operand_right_lem fz k w o (served {space} {name} {z} j z₀ at low e found-out new P) t = rw new (bind_any _ _ _ (λ u. go (is_just (find (declarations fs) space (fresh j)))))
       where
         right_now : All PlacedHead [] → (now : Operand) → One here there fz (ref space (Id (fresh j)) [] z) now → operand_right c beyond (ref space (Id name) [] z) now ≡ true
         right_now a now (one_ref n f) = ref_right_lem space (Id name) (Id name) [] [] z n z (right_outer space name z z₀ j n at low e found-out P (named_number here.entries space (fresh j) z n f))
 
-        go : (b : Bool) → OkR (Right fz (ref space (Id name) [] z)) (if b then ok (Rules.as-it-is (ref space (Id (fresh j)) [] z) k) else ok (Rules.as-it-is (ref space (Id (fresh j)) [] z) k))
+        go : (b : Bool) → OkR (Right fz (ref space (Id name) [] z)) (if b then ok (Rules.as_it_is (ref space (Id (fresh j)) [] z) k) else ok (Rules.as_it_is (ref space (Id (fresh j)) [] z) k))
         go true = right_now
         go false = right_now
 
@@ -403,7 +403,7 @@ module _ {fs : Fields} {outside : Outside} {here : Env} {out' : Fields} (E : Clo
     AllRight fz os e = All PlacedHead e.inserted → (seen : List ℕ) (os' : List Operand) (n : ℕ) → resolve_operands here there fz seen e.now ≡ ok os' → not_right c beyond n os' os ≡ none
 
     operands_right : (fz k : ℕ) (ws os : List Operand) → AllAs E ws os → All PathsOk os → OkR (AllRight fz ws) (expand_operands (declarations fs) there k os)
-    unfolding expand_operands Rules.as-it-is
+    unfolding expand_operands Rules.as_it_is
     operands_right fz k [] [] no_more t = λ a seen os' n e. kept_right fz seen [] os' n tt e
     operands_right fz k (w ∷ ws) (o ∷ os) (also x xs) (t & ts) =
         bind_ok _ _ _ _ (operand_right_lem fz k w o x t) (λ e f. bind_ok _ _ _ _ (operands_right fz e.k ws os xs ts) (λ es g. λ a seen os' n q.
@@ -428,7 +428,7 @@ module _ {fs : Fields} {outside : Outside} {here : Env} {out' : Fields} (E : Clo
     -- here_only_lem operands are those of the input
     head_right : (rules : RuleSet) (of k : ℕ) (w h₀ : Head) → AllAs E w.operands h₀.operands → (here_only h₀.code ≡ true → w.operands ≡ h₀.operands) → GoodHead rules of h₀
         → OkR (HeadRight w) (expand_head (declarations fs) there k h₀)
-    unfolding expand_head Rules.as-it-is with_operands
+    unfolding expand_head Rules.as_it_is with_operands
     head_right rules of k w h₀ l s g =
         if_ok_lem (OkR (HeadRight w)) _ _ _
         (λ t a h n e. head_operands_lem 0 n h w (subst (λ (x : List Operand). not_right c beyond (suc n + length h.decls) h.operands x ≡ none) (sym (s t))
@@ -448,7 +448,7 @@ module _ {fs : Fields} {outside : Outside} {here : Env} {out' : Fields} (E : Clo
 
   has_other : (d : Declaration) (space name : ℕ) → ¬ (d.name ≡ name) → Lookups.has (d ∷ []) space name ≡ false
   unfolding Lookups.has
-  has_other d space name h = rw (eqb_false d.name name h) (go (eqb d.space space))
+  has_other d space name h = rw (eqb-false d.name name h) (go (eqb d.space space))
     where
       go : (b : Bool) → (b && false) || false ≡ false
       go true = refl
@@ -456,11 +456,11 @@ module _ {fs : Fields} {outside : Outside} {here : Env} {out' : Fields} (E : Clo
 
   first_own : (h : Head) (hs : List Head) (d : Declaration) → h.decls ≡ d ∷ [] → first_named (in_heads (h ∷ hs)) d.space d.name ≡ some (inserted h)
   unfolding if◌then◌else◌
-  first_own h hs d e = rw (Lookups.first-of-heads h hs d.space d.name, e, has_own d)
+  first_own h hs d e = rw (Lookups.first_of_heads h hs d.space d.name, e, has_own d)
 
   first_other : (h : Head) (hs : List Head) (d : Declaration) (space name : ℕ) → h.decls ≡ d ∷ [] → ¬ (d.name ≡ name) → first_named (in_heads (h ∷ hs)) space name ≡ first_named (in_heads hs) space name
   unfolding if◌then◌else◌
-  first_other h hs d space name e n = rw (Lookups.first-of-heads h hs space name, e, has_other d space name n)
+  first_other h hs d space name e n = rw (Lookups.first_of_heads h hs space name, e, has_other d space name n)
 
   placed_all : (lo hi : ℕ) (hs new : List Head) → Rising lo hs hi → resolve_inserted here there hs ≡ ok new → Lifts lo (in_heads new) → All PlacedHead hs
   unfolding resolve_inserted Shapes.first_name
@@ -470,7 +470,7 @@ module _ {fs : Fields} {outside : Outside} {here : Env} {out' : Fields} (E : Clo
       let s₁ = bind_inv (resolve_head here there h) _ new s₀.2 in
       let s₂ = bind_inv (resolve_inserted here there hs) _ new s₁.2 in
       let are : s₁.0 ∷ s₂.0 ≡ new = ok_same _ new s₂.2 in
-      let decls : s₁.0.decls ≡ h.decls = (holds_of (Runs.SameDecls h) _ s₁.0 (Runs.head-same here there h) s₁.1).0 in
+      let decls : s₁.0.decls ≡ h.decls = (holds_of (Runs.SameDecls h) _ s₁.0 (Runs.head_same here there h) s₁.1).0 in
       go s₁.0 s₂.0 s₁.1 decls (subst (λ (x : List Head). Lifts lo (in_heads x)) (sym are) f)
       & placed_all (suc lo) hi hs s₂.0 rise.1 s₂.1 (later s₁.0 s₂.0 decls (subst (λ (x : List Head). Lifts lo (in_heads x)) (sym are) f))
     where
@@ -499,10 +499,10 @@ module _ {fs : Fields} {outside : Outside} {here : Env} {out' : Fields} (E : Clo
       pub placed_new : All PlacedHead R.e.inserted
       placed_new =
           placed_all b R.e.k R.e.inserted R.new (holds_of _ _ R.e (head_rising (declarations fs) there b (head_of i)) R.expands) R.adds
-          (λ space j s l q. f space j s l (ap (λ (ss : List Readings.Standing). first_named ss space (fresh j)) (Agree.ran-standings R low m) ∙ Lookups.first-within (in_heads R.new) _ space (fresh j) s q))
+          (λ space j s l q. f space j s l (ap (λ (ss : List Readings.Standing). first_named ss space (fresh j)) (Agree.ran_standings R low m) ∙ Lookups.first_within (in_heads R.new) _ space (fresh j) s q))
 
       pub lifts_on : Lifts R.e.k (standings (suc m) R.rs.0)
-      lifts_on space j s l q = f space j s (omega (arith, Runs.ran-grows R)) (Agree.past-field R low m space j l ∙ q)
+      lifts_on space j s l q = f space j s (omega (arith, Runs.ran_grows R)) (Agree.past_field R low m space j l ∙ q)
 
       pub ran_right : (n : ℕ) (w : Head) → AllAs E w.operands (head_of i).operands → (here_only (head_of i).code ≡ true → w.operands ≡ (head_of i).operands) → GoodHead rules kind (head_of i)
           → head_operands (c kind) beyond n R.h w ≡ none
@@ -513,7 +513,7 @@ module _ {fs : Fields} {outside : Outside} {here : Env} {out' : Fields} (E : Clo
         → (n : ℕ) → fields_operands n (◌before◌ hs gs) (c kind) beyond (w ▸ was) ≡ none
     unfolding ◌before◌ scope_operands if◌then◌else◌ head_of
     skip lo hi [] gs w was a g n = g n
-    skip lo hi (h ∷ hs) gs w was a g n = rw (Lookups.new-inserted lo hi h a.0) (skip lo hi hs gs w was a.1 g (n + length (item_rows (plain h))))
+    skip lo hi (h ∷ hs) gs w was a g n = rw (Lookups.new_inserted lo hi h a.0) (skip lo hi hs gs w was a.1 g (n + length (item_rows (plain h))))
 
     own_next : (n : ℕ) (i w : Item) (now was : Fields) → is_inserted (head_of i) ≡ false → item_operands n i (c kind) beyond w ≡ none
         → fields_operands (n + length (item_rows i)) now (c kind) beyond was ≡ none → fields_operands n (i ▸ now) (c kind) beyond (w ▸ was) ≡ none
@@ -526,8 +526,8 @@ module _ {fs : Fields} {outside : Outside} {here : Env} {out' : Fields} (E : Clo
         → (n : ℕ) → fields_operands n res.0 (c kind) beyond (w ▸ was) ≡ none
     field_right {i} {gs} {b} {k} {res} R low w was p q n =
         subst (λ (x : Fields × ℕ). fields_operands n x.0 (c kind) beyond (w ▸ was) ≡ none) R.result
-        (skip b R.e.k R.new (R.q.0 ▸ R.rs.0) w was (Runs.ran-new R)
-        (λ m. own_next m R.q.0 w R.rs.0 was (Agree.stays-original R low) (p m) (q _)) n)
+        (skip b R.e.k R.new (R.q.0 ▸ R.rs.0) w was (Runs.ran_new R)
+        (λ m. own_next m R.q.0 w R.rs.0 was (Agree.stays_original R low) (p m) (q _)) n)
 
     pub plain_item : (n : ℕ) (h h₀ : Head) → head_operands (c kind) beyond n h h₀ ≡ none → item_operands n (plain h) (c kind) beyond (plain h₀) ≡ none
     unfolding scope_operands head_of
@@ -588,8 +588,8 @@ entered kind name fs outside k q low eq =
       resolves = s₂.1;
       closed =
           record {
-            table = Runs.table-is-output fs (declarations fs) s₁.0.0 outside k s₁.0.1 s₂.0 P.0 s₂.1 P.1 ∙ ap decls_in (sym P.2);
-            same_first = λ space n l. Agree.first-same fs (declarations fs) s₁.0.0 outside k s₁.0.1 0 s₂.0 space n low l s₂.1;
+            table = Runs.table_is_output fs (declarations fs) s₁.0.0 outside k s₁.0.1 s₂.0 P.0 s₂.1 P.1 ∙ ap decls_in (sym P.2);
+            same_first = λ space n l. Agree.first_same fs (declarations fs) s₁.0.0 outside k s₁.0.1 0 s₂.0 space n low l s₂.1;
           };
       named = named_same name fs outside k s₁.0 s₁.1;
       is = ap (λ (n : ℕ). scope kind n s₂.0.0) (named_same name fs outside k s₁.0 s₁.1) ∙ ap (λ (x : Scope × ℕ). x.0) (ok_same _ q s₂.2);

@@ -5,7 +5,7 @@ use Rattle.rules.specs.Tools.{is_in}
 use Rattle.rules.specs.Tree.{Operand, ref, outer, case}
 use Rattle.rules.specs.Shapes.{paths_ok, Want, r, p, out, cas, Part, one, opt, any, cases, variants, typed, fits_ref, next}
 use Rattle.rules.specs.Good.{after_operand, after_operands}
-use Rattle.rules.specs.Laws.ToolLaws.{Ok, ok_at, only_ok, if_ok_lem, false_not, and_right, or_true, eqb_true, then_some, All, done, ◌&◌}
+use Rattle.rules.specs.Laws.ToolLaws.{Ok, ok_at, only_ok, if_ok_lem, false_not, and_right, or-true, eqb-true, then_some, All, done, ◌&◌}
 
 abbrev pub PathsOk : Operand → Type 0
 PathsOk (ref space at paths z) = paths_ok space (length paths) ≡ true
@@ -26,7 +26,7 @@ fits_somewhere fits P f (typed s ∷ ps) = if_ok_lem (Ok _) _ _ _ (λ t. f (p (9
 fits_paths : (space count : ℕ) (w : Want) → fits_ref w space count ≡ true → paths_ok space count ≡ true
 unfolding fits_ref paths_ok
 fits_paths space count (r spaces) t = and_right (is_in space spaces) _ t
-fits_paths space count (p spaces) t = rw (eqb_true count 0 (and_right (is_in space spaces) _ t)) (or_true (leb 7 space))
+fits_paths space count (p spaces) t = rw (eqb-true count 0 (and_right (is_in space spaces) _ t)) (or-true (leb 7 space))
 fits_paths space count (out s) t = false_not t
 fits_paths space count cas t = false_not t
 

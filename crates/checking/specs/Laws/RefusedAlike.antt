@@ -15,7 +15,7 @@ use Rattle.rules.specs.Answer.{AnswerOf, accepted, map_answer, Answer, has_heade
 use Rattle.read_form.specs.ReadForm.{as_answer, read_form}
 use Rattle.checking.specs.Check
 use Rattle.checking.specs.Check.{Verdict, no, yes, verdict}
-use Rattle.rules.specs.Laws.ToolLaws.{leb_false}
+use Rattle.rules.specs.Laws.ToolLaws.{leb-false}
 use Rattle.read_form.specs.Laws.ReadFormLaws.{asks_header}
 
 -- both refuse with the same number, place and what is carried, or neither refuses
@@ -66,7 +66,7 @@ module _ (rules : RuleSet) where
   sized_alike false r x = reading_alike r x
 
 enough_room : (room need : ℕ) → need ≤ room → ltb room need ≡ false
-enough_room room need h = leb_false (suc room) need (omega arith)
+enough_room room need h = leb-false (suc room) need (omega arith)
 
 setting_alike : (v : Setting) (input : List ℕ) (room : ℕ) (x : AnswerOf Scope) → has_header v input ≡ true → v.version.header + 64 * row_count v.version input ≤ room
     → Alike (Answer.answer_in [] v input room) (Check.of_input v.rules (read_form v input) x)

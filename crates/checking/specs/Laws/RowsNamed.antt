@@ -433,7 +433,7 @@ mutual
       (λ f. in_head n h c r (own_row here outside n h w r b.0 (same_head (holds h c) (holds w t) s) f))
       (λ f. in_held n h c r (scope_right_row (n + length (head_rows h)) c (table here ∷ outside) t r b.1 (same_inner h w c t s) f))
 
--- of a claim that passed condition 2 (`SameFields.same-fields`)
+-- of a claim that passed condition 2 (`SameFields.same_fields`)
 pub row_4 : (s c : Scope) (r : ℕ) → BareScope c → blank (without c) ≡ blank s → condition4 s c ≡ some r → RowIs IsOwn c r
 unfolding condition4
 row_4 s c r b e t = row_is IsOwn c r (scope_right_row 0 c [] s r b e t)

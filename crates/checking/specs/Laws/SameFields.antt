@@ -13,7 +13,7 @@ use Rattle.rules.specs.Good.{after_operand, after_operands, kind_of, name_of, Go
 use Rattle.rules.specs.Reader.{start, on}
 use Rattle.rules.specs.Readings.{is_inserted}
 use Rattle.checking.specs.Check.{Claimed, own, added, is_path, kept, same_parts, without_paths, scope_claimed, fields_claimed, item_claimed, differs, condition2}
-use Rattle.rules.specs.Laws.ToolLaws.{false_not, and_left, and_right, eqb_true, eqb_same, All, done, ◌&◌, all_append, all_left, all_right, then_some}
+use Rattle.rules.specs.Laws.ToolLaws.{false_not, and_left, and_right, eqb-true, eqb_same, All, done, ◌&◌, all_append, all_left, all_right, then_some}
 use Rattle.read_form.specs.Laws.Parting.{no_cons, cons_head, cons_tail}
 use Rattle.rules.specs.Laws.RowLaws.{Legal, decode_again}
 use Rattle.rules.specs.Laws.Results.{no_option, some_same}
@@ -89,12 +89,12 @@ same_parts_lem (raw code b e x y z) (raw code' b' e' x' y' z') t =
     let t₃ = and_right (eqb e e') _ t₂ in
     let t₄ = and_right (eqb x x') _ t₃ in
     rw (
-      eqb_true code code' (and_left (eqb code code') _ t),
-      eqb_true b b' (and_left (eqb b b') _ t₁),
-      eqb_true e e' (and_left (eqb e e') _ t₂),
-      eqb_true x x' (and_left (eqb x x') _ t₃),
-      eqb_true y y' (and_left (eqb y y') _ t₄),
-      eqb_true z z' (and_right (eqb y y') _ t₄),
+      eqb-true code code' (and_left (eqb code code') _ t),
+      eqb-true b b' (and_left (eqb b b') _ t₁),
+      eqb-true e e' (and_left (eqb e e') _ t₂),
+      eqb-true x x' (and_left (eqb x x') _ t₃),
+      eqb-true y y' (and_left (eqb y y') _ t₄),
+      eqb-true z z' (and_right (eqb y y') _ t₄),
     )
 
 parts_same : (a : Raw) → same_parts a a ≡ true

@@ -3,7 +3,7 @@ use Rattle.std.specs.Prelude.{◌≡◌, Bool, drop}
 use Rattle.std.proofs.Math.Path.{refl, ap, ap₂, sym}
 use Rattle.std.proofs.Common.{◌∙◌, take-append-drop}
 use Rattle.std.proofs.Math.Bool.{true, false}
-use mathlib.Core.List.{List, [], ◌∷◌, ◌++◌, map, map_append, reverse, reverse-cons, reverse-append, reverse-reverse, append_assoc, append-nil, head-eq_of_cons-eq, tail-eq_of_cons-eq, cons≢nil}
+use mathlib.Core.List.{List, [], ◌∷◌, ◌++◌, map, map-append, reverse, reverse-cons, reverse-append, reverse-reverse, append_assoc, append-nil, head-eq_of_cons-eq, tail-eq_of_cons-eq, cons≢nil}
 use Prim.Native.Nat.{ℕ, zero, suc, ◌+◌, ◌-◌, ◌≤◌}
 use native.Mathlib.Omega.{arith}
 use Rattle.std.proofs.Math.Dec.{leb}
@@ -14,7 +14,7 @@ use Rattle.rules.specs.Tools.{if◌then◌else◌}
 use Rattle.rules.specs.Rows.{Row}
 use Rattle.rules.specs.Tree.{Item, item_rows}
 use Rattle.comparing.specs.Compare.{Choice, blur, same}
-use Rattle.rules.specs.Laws.ToolLaws.{leb_true, leb_false, leb_le}
+use Rattle.rules.specs.Laws.ToolLaws.{leb-true, leb-false, leb_le}
 use Rattle.comparing.specs.Laws.SameRows.{same_equal, equal_same}
 use Rattle.comparing.specs.Laws.FieldsFromRows.{items_rows, last_field}
 use Rattle.comparing.specs.Laws.Sides.{item_filled}
@@ -69,7 +69,7 @@ module _ (c : Choice) where
 
   map_reverse : {A B : Type 0} (f : A → B) (xs : List A) → map f (reverse xs) ≡ reverse (map f xs)
   map_reverse f [] = refl
-  map_reverse f (x ∷ xs) = ap (map f) (reverse-cons x xs) ∙ map_append f (reverse xs) (x ∷ []) ∙ ap (λ (l : List _). l ++ (f x ∷ [])) (map_reverse f xs) ∙ sym (reverse-cons (f x) (map f xs))
+  map_reverse f (x ∷ xs) = ap (map f) (reverse-cons x xs) ∙ map-append f (reverse xs) (x ∷ []) ∙ ap (λ (l : List _). l ++ (f x ∷ [])) (map_reverse f xs) ∙ sym (reverse-cons (f x) (map f xs))
 
   items_append : (is js : List Item) → items_rows (is ++ js) ≡ items_rows is ++ items_rows js
   unfolding items_rows
@@ -93,7 +93,7 @@ module _ (c : Choice) where
       let theirs = map (blur c) (back_rows (r ∷ rs)) in
       let size : length mine ≡ n = length-map (reverse (item_rows l)) (blur c) ∙ length-reverse (item_rows l) in
       let first : mine ≡ take n theirs =
-      sym (take-append_seam mine (map (blur c) more)) ∙ ap (λ (k : ℕ). take k (mine ++ map (blur c) more)) size ∙ ap (take n) (sym (map_append (blur c) (reverse (item_rows l)) more))
+      sym (take-append_seam mine (map (blur c) more)) ∙ ap (λ (k : ℕ). take k (mine ++ map (blur c) more)) size ∙ ap (take n) (sym (map-append (blur c) (reverse (item_rows l)) more))
       ∙ common_equal n (reverse (item_rows l) ++ more) (back_rows (r ∷ rs)) h in
       let split : theirs ≡ mine ++ drop n theirs = sym (take-append-drop n theirs) ∙ ap (λ (x : List Row). x ++ drop n theirs) (sym first) in
       let turned : reverse mine ≡ map (blur c) (item_rows l) = ap reverse (map_reverse (blur c) (item_rows l)) ∙ reverse-reverse (map (blur c) (item_rows l)) in
@@ -136,7 +136,7 @@ module _ (c : Choice) where
   pub backward : (ls rs : List Item) → alikes c ls rs ≡ fitting (common c (back_rows ls) (back_rows rs)) ls
   unfolding alikes fitting if◌then◌else◌
   backward [] rs = refl
-  backward (l ∷ ls) [] = unfold back_rows in rw (common_none (reverse (item_rows l) ++ back_rows ls), leb_false (length (item_rows l)) 0 (item_filled l))
+  backward (l ∷ ls) [] = unfold back_rows in rw (common_none (reverse (item_rows l) ++ back_rows ls), leb-false (length (item_rows l)) 0 (item_filled l))
   backward (l ∷ ls) (r ∷ rs) = go (same c (item_rows l) (item_rows r)) refl (backward ls rs)
     where
       go : (b : Bool) → same c (item_rows l) (item_rows r) ≡ b → alikes c ls rs ≡ fitting (common c (back_rows ls) (back_rows rs)) ls
@@ -145,7 +145,7 @@ module _ (c : Choice) where
           let n = length (item_rows l) in
           let k = common c (back_rows ls) (back_rows rs) in
           let low : n ≤ n + k = omega arith in
-          let fits : leb n (n + k) ≡ true = leb_true low in
+          let fits : leb n (n + k) ≡ true = leb-true low in
           let others : n + k - n ≡ k = omega arith in
           rw (same_long l r ls rs s, fits, others) (ap suc rec)
       go false s rec =

@@ -11,7 +11,7 @@ use Rattle.rules.specs.Tree.{Scope, flatten}
 use Rattle.rules.specs.Answer.{accepted, mark, has_header, setting_of, row_count, rows_in, form_bytes}
 use Rattle.read_form.specs.ReadForm.{◌and_then◌, read_form}
 use Rattle.comparing.specs.Compare.{Choice, blur_place, blur_name, blur_index, blur, form_pairs, Entry, differences, apply, both_read, compared}
-use Rattle.rules.specs.Laws.ToolLaws.{ok_at, eqb_true, All}
+use Rattle.rules.specs.Laws.ToolLaws.{ok_at, eqb-true, All}
 use Rattle.rules.specs.Laws.RowLaws.{Bytes}
 use Rattle.rules.specs.Laws.Read.Reached.{unsome}
 use Rattle.comparing.specs.Laws.Sides.{form_sides, forms_alike}
@@ -151,7 +151,7 @@ own_header s input e = e
 -- a form's rows, with its header, are its bytes
 read_bytes : (s : Setting) (input : List ℕ) (t : Scope) → Usual s → Bytes input → ReadAs (as_claimed s) input t → form_bytes s (flatten t) ≡ input
 unfolding row_count
-read_bytes s input t u p k = form_bytes_lem s input p u.header (own_header s input k.headed) _ (flatten t) (eqb_true _ _ k.long) k.is_form.of_tree
+read_bytes s input t u p k = form_bytes_lem s input p u.header (own_header s input k.headed) _ (flatten t) (eqb-true _ _ k.long) k.is_form.of_tree
 
 -- the setting of both headers, the left's rows, and what holds of the list
 pub record Exact (left right : List ℕ) (es : List Entry) : Type 0 where

@@ -8,7 +8,7 @@ use Rattle.std.proofs.Math.Seq.{take-append_seam}
 use Rattle.rules.specs.Rows.{Row, Open, Close}
 use Rattle.rules.specs.Tree.{Scope, scope, Item, head_of, flatten, item_rows}
 use Rattle.comparing.specs.Compare.{Choice, blur, same, Kind, opening, left_only, right_only, differing, Pair, alike, differs, items, only_left, only_right, rest, front, mirrored, field_pairs, open_pair, form_pairs, Entry, entries, differences}
-use Rattle.rules.specs.Laws.ToolLaws.{if_ok_lem, eqb_true, All, done, ◌&◌, all_append}
+use Rattle.rules.specs.Laws.ToolLaws.{if_ok_lem, eqb-true, All, done, ◌&◌, all_append}
 use Rattle.comparing.specs.Laws.SameRows.{equal_same}
 use Rattle.comparing.specs.Laws.Sides.{lefts, form_sides}
 
@@ -82,7 +82,7 @@ module _ (c : Choice) where
       if_ok_lem (All (Told c)) (eqb (head_of l).code (head_of r).code) _ _
       (λ e.
       let two : TwoFields c (item_rows l) (item_rows r) =
-      record { before = l; after = r; left_is = refl; right_is = refl; codes = eqb_true _ _ e; differ = unequal _ _ (h l r refl refl) } in
+      record { before = l; after = r; left_is = refl; right_is = refl; codes = eqb-true _ _ e; differ = unequal _ _ (h l r refl refl) } in
       two & done)
       (λ e. left_told l & right_told r & done)
   rest_told (l ∷ []) (r ∷ r' ∷ rs) h = left_told l & rights_told (r ∷ r' ∷ rs)

@@ -85,8 +85,8 @@ same_entry e e' more more' bs f f' b b' =
     let right : e.right ≡ e'.right = sym b.right_is ∙ b'.right_is in
     record {
       entry = λ i. record { kind = kinds i; left = left i; count = count i; right = right i; rows = rows i };
-      others = sym (drop_at (rows_bytes e.rows) more (16 * length e.rows) (OutputLength.rows-length e.rows))
-          ∙ ap₂ (λ (k : ℕ) (l : List ℕ). drop (16 * k) l) n tail ∙ drop_at (rows_bytes e'.rows) more' (16 * length e'.rows) (OutputLength.rows-length e'.rows);
+      others = sym (drop_at (rows_bytes e.rows) more (16 * length e.rows) (OutputLength.rows_length e.rows))
+          ∙ ap₂ (λ (k : ℕ) (l : List ℕ). drop (16 * k) l) n tail ∙ drop_at (rows_bytes e'.rows) more' (16 * length e'.rows) (OutputLength.rows_length e'.rows);
     }
 
 some_bytes : {X : Type 0} (e : Entry) (more : List ℕ) → entry_bytes e ++ more ≡ [] → X

@@ -1,7 +1,7 @@
 -- The list that pairs give: whatever they are, its entries are in order, it carries the right's rows, and applied to the left it gives the right.
 use Rattle.std.specs.Prelude.{◌≡◌, refl, ℕ, ◌+◌, ◌-◌, ◌≤◌, length, take, drop}
 use Rattle.std.proofs.Common.{ap, ap₂, sym, ◌∙◌, arith, length-append}
-use mathlib.Core.List.{List, [], ◌∷◌, ◌++◌, map, map_append, append_assoc, cons≢nil}
+use mathlib.Core.List.{List, [], ◌∷◌, ◌++◌, map, map-append, append_assoc, cons≢nil}
 use Rattle.std.proofs.Math.Seq.{take-append-add, drop-append-add, take-append_seam, drop-append_seam}
 use Rattle.rules.specs.Rows.{Row}
 use Rattle.comparing.specs.Compare.{Choice, blur, Pair, alike, differs, Entry, entries, apply}
@@ -50,12 +50,12 @@ applied c i j [] done = refl
 applied c i j (alike l r ∷ ps) (h & a) =
     let o = in_order (i + length l) (j + length r) _ _ ps refl refl in
     ap (map (blur c)) (past i (j + length r) _ _ l (lefts ps) (entries (i + length l) (j + length r) ps) o)
-    ∙ map_append (blur c) l _ ∙ ap₂ (λ (x y : List Row). x ++ y) h (applied c (i + length l) (j + length r) ps a) ∙ sym (map_append (blur c) r (rights ps))
+    ∙ map-append (blur c) l _ ∙ ap₂ (λ (x y : List Row). x ++ y) h (applied c (i + length l) (j + length r) ps a) ∙ sym (map-append (blur c) r (rights ps))
 applied c i j (differs k l r ∷ ps) (h & a) =
     let p : i - i ≡ 0 = omega arith in
     let q : i + length l - i ≡ length l = omega arith in
     rw (p, q, drop-append_seam l (lefts ps)) (
-    map_append (blur c) r _ ∙ ap (λ (y : List Row). map (blur c) r ++ y) (applied c (i + length l) (j + length r) ps a) ∙ sym (map_append (blur c) r (rights ps)))
+    map-append (blur c) r _ ∙ ap (λ (y : List Row). map (blur c) r ++ y) (applied c (i + length l) (j + length r) ps a) ∙ sym (map-append (blur c) r (rights ps)))
 
 -- ---- empty
 
@@ -63,7 +63,7 @@ pub none_differ : (c : Choice) (i j : ℕ) (ps : List Pair) → All (Equal c) ps
 unfolding entries lefts rights
 none_differ c i j [] done e = refl
 none_differ c i j (alike l r ∷ ps) (h & a) e =
-    map_append (blur c) l (lefts ps) ∙ ap₂ (λ (x y : List Row). x ++ y) h (none_differ c (i + length l) (j + length r) ps a e) ∙ sym (map_append (blur c) r (rights ps))
+    map-append (blur c) l (lefts ps) ∙ ap₂ (λ (x y : List Row). x ++ y) h (none_differ c (i + length l) (j + length r) ps a e) ∙ sym (map-append (blur c) r (rights ps))
 none_differ c i j (differs k l r ∷ ps) (h & a) e = absurd (cons≢nil e)
 
 pub none_listed : (i j : ℕ) (ps : List Pair) → All Alike ps → entries i j ps ≡ []

@@ -2,7 +2,7 @@
 use Rattle.std.specs.Prelude.{◌≡◌, true, ◌+◌, ◌≤◌, eqb, length}
 use Rattle.std.proofs.Math.Path.{refl, sym}
 use Rattle.std.proofs.Common.{ap, ap₂, ◌∙◌, arith}
-use mathlib.Core.List.{List, [], ◌∷◌, ◌++◌, map, map_append, reverse, reverse_aux, reverse-reverse, append_assoc, append_cancel_right, cons≢nil, head-eq_of_cons-eq, tail-eq_of_cons-eq}
+use mathlib.Core.List.{List, [], ◌∷◌, ◌++◌, map, map-append, reverse, reverse_aux, reverse-reverse, append_assoc, append_cancel_right, cons≢nil, head-eq_of_cons-eq, tail-eq_of_cons-eq}
 use Rattle.rules.specs.Tools.{if◌then◌else◌}
 use Rattle.rules.specs.Rows.{Row, Open, Close}
 use Rattle.rules.specs.Tree.{Scope, scope, Fields, Item, plain, holds, head_of, head_rows, flatten, fields_rows, item_rows}
@@ -198,7 +198,7 @@ module _ (c : Choice) where
   forms_alike (scope kind name fs) (scope kind' name' fs') e =
       let same-open : blur c (Open kind name) ≡ blur c (Open kind' name') = head-eq_of_cons-eq e in
       let inner : map (blur c) (fields_rows fs) ++ (Close ∷ []) ≡ map (blur c) (fields_rows fs') ++ (Close ∷ []) =
-      sym (map_append (blur c) (fields_rows fs) (Close ∷ [])) ∙ tail-eq_of_cons-eq e ∙ map_append (blur c) (fields_rows fs') (Close ∷ []) in
+      sym (map-append (blur c) (fields_rows fs) (Close ∷ [])) ∙ tail-eq_of_cons-eq e ∙ map-append (blur c) (fields_rows fs') (Close ∷ []) in
       open_alike (Open kind name ∷ []) (Open kind' name' ∷ []) (ap (λ (x : Row). x ∷ []) same-open)
       & all_append (field_pairs c (items fs) (items fs')) (alike (Close ∷ []) (Close ∷ []) ∷ [])
       (fields_alike (items fs) (items fs') (fields_equal c fs fs' (append_cancel_right _ _ (Close ∷ []) inner))) (tt & done)

@@ -1,7 +1,7 @@
 -- The rows that bytes are read as, written again, are these bytes: header and all.
 use Rattle.std.specs.Prelude.{◌≡◌, refl, true, ℕ, zero, suc, ◌+◌, ◌*◌, ◌≤◌, take, drop}
 use Rattle.std.proofs.Math.Path.{ap, sym}
-use Rattle.std.proofs.Common.{ap₂, ◌∙◌, arith, take-append-drop, take-add, drop_drop}
+use Rattle.std.proofs.Common.{ap₂, ◌∙◌, arith, take-append-drop, take-add, drop-drop}
 use Rattle.std.proofs.Math.Option.{some}
 use mathlib.Core.List.{List, [], ◌∷◌, ◌++◌, map, cons≢nil, head-eq_of_cons-eq, tail-eq_of_cons-eq}
 use Rattle.std.proofs.Math.ListN.{length, length-drop}
@@ -22,7 +22,7 @@ raw_bytes_lem bs p h =
     let part : (k n : ℕ) → k + n ≤ 16 → bytes n (value (take n (drop k bs))) ≡ take n (drop k bs) =
     λ k n l. bytes_value n (drop k bs) (bytes_drop k bs p) (omega (arith, length-drop k bs)) in
     let cut : (k n m : ℕ) → take (n + m) (drop k bs) ≡ take n (drop k bs) ++ take m (drop (k + n) bs) =
-    λ k n m. take-add n m (drop k bs) ∙ ap (λ (l : List ℕ). take n (drop k bs) ++ take m l) (drop_drop n k bs) in
+    λ k n m. take-add n m (drop k bs) ∙ ap (λ (l : List ℕ). take n (drop k bs) ++ take m l) (drop-drop n k bs) in
     rw (part 0 1 (omega arith), part 1 1 (omega arith), part 2 2 (omega arith), part 4 4 (omega arith), part 8 4 (omega arith), part 12 4 (omega arith))
     (sym (cut 0 1 15 ∙ ap (λ (l : List ℕ). take 1 bs ++ l) (cut 1 1 14 ∙ ap (λ (l : List ℕ). take 1 (drop 1 bs) ++ l) (cut 2 2 12
     ∙ ap (λ (l : List ℕ). take 2 (drop 2 bs) ++ l) (cut 4 4 8 ∙ ap (λ (l : List ℕ). take 4 (drop 4 bs) ++ l) (cut 8 4 4))))))

@@ -17,7 +17,7 @@ use Rattle.rules.specs.Reader.{read}
 use Rattle.rules.specs.Rules.{resolve_inside}
 use Rattle.rules.specs.Answer
 use Rattle.rules.specs.Answer.{AnswerOf, refused, accepted, map_answer, has_header, setting_of, row_count, rows_of, rows_in, answer, header_bytes}
-use Rattle.rules.specs.Laws.ToolLaws.{and_left, and_right, eqb_true, eqb_same, leb_true, leb_le, leb_lt, leb_false}
+use Rattle.rules.specs.Laws.ToolLaws.{and_left, and_right, eqb-true, eqb_same, leb-true, leb_le, leb_lt, leb-false}
 use Rattle.rules.specs.Laws.RowLaws.{Bytes}
 use Rattle.rules.specs.Laws.Read.ReadRight.{read_right, reads_form}
 use Rattle.rules.specs.Laws.AnswerLaws.{Sized, answer_resolved}
@@ -97,8 +97,8 @@ module _ (settings : List Setting) (w : Coherent settings) where
       ap (setting_with settings t.version.number) (sym same) ∙ with_is settings t w.in_force a in
       let again : read t.rules t.version.scopes (rows_in s input) ≡ form tree =
       ap (λ (r : RuleSet). read r t.version.scopes (rows_in s input)) rules ∙ reads_form s.rules t.version.scopes (rows_in s input) tree r.is_form low in
-      let fits : ltb room (t.version.header + 16 * row_count s.version input) ≡ false = leb_false (suc room) (t.version.header + 16 * row_count s.version input) (omega (arith, roomy)) in
-      let within : ltb t.version.rows (row_count s.version input) ≡ false = leb_false (suc t.version.rows) (row_count s.version input) (omega (arith, few)) in
+      let fits : ltb room (t.version.header + 16 * row_count s.version input) ≡ false = leb-false (suc room) (t.version.header + 16 * row_count s.version input) (omega (arith, roomy)) in
+      let within : ltb t.version.rows (row_count s.version input) ≡ false = leb-false (suc t.version.rows) (row_count s.version input) (omega (arith, few)) in
       rw (asks_own s input tree among-s g, version_is settings t w a, get, r.counted, r.long, fits, read_read s input tree g, within, again)
 
   -- What was converted: a form within the limits of both versions, which has the rules of the version asked for.
@@ -231,10 +231,10 @@ module _ (settings : List Setting) (w : Coherent settings) where
         let c = row_count s.version input in
         let positive : 1 ≤ c = leb_le 1 c (and_left (leb 1 c) (leb c s.version.rows) as_read.counted) in
         let size : length new ≡ t.version.header + 16 * c =
-        ap length (sym x.is_new) ∙ recast_length s t plain_from plain_to input x.few (eqb_true (length input) (s.version.header + 16 * c) as_read.long) in
+        ap length (sym x.is_new) ∙ recast_length s t plain_from plain_to input x.few (eqb-true (length input) (s.version.header + 16 * c) as_read.long) in
         (read_exactly t new x.tree).1 (record {
           headed = header_new;
-          counted = rw (count_new, leb_true positive, leb_true x.few);
+          counted = rw (count_new, leb-true positive, leb-true x.few);
           long = rw (count_new, size) (eqb_same (t.version.header + 16 * c));
           is_form = form_again;
           low = x.low;
@@ -248,9 +248,9 @@ module _ (settings : List Setting) (w : Coherent settings) where
         let c = row_count s.version input in
         let again = (read_exactly t new x.tree).0 reads_new in
         let sized : Sized [] s input room₁ =
-        record { counted = as_read.counted; long = as_read.long; roomy = leb_false (suc room₁) (s.version.header + 64 * c) (omega (arith, a)) } in
+        record { counted = as_read.counted; long = as_read.long; roomy = leb-false (suc room₁) (s.version.header + 64 * c) (omega (arith, a)) } in
         let sized_new : Sized [] t new room₂ =
-        record { counted = again.counted; long = again.long; roomy = leb_false (suc room₂) (t.version.header + 64 * row_count t.version new) (omega (arith, b, count_new)) } in
+        record { counted = again.counted; long = again.long; roomy = leb-false (suc room₂) (t.version.header + 64 * row_count t.version new) (omega (arith, b, count_new)) } in
         rw (asks_new, asks_own s input x.tree x.among_from x.reads)
         (answer_resolved [] t new room₂ sized_new x.tree form_again x.low
         ∙ (ap (λ (r : RuleSet). map_answer flatten (Answer.resolved (resolve_inside r [] x.tree))) x.same_rules
@@ -260,7 +260,7 @@ module _ (settings : List Setting) (w : Coherent settings) where
     pub there_and_back : Bytes input → (room' : ℕ) → length input ≤ room' → converted settings s.version.number new room' ≡ accepted input
     there_and_back b room' roomy =
         let c = row_count s.version input in
-        let size = eqb_true (length input) (s.version.header + 16 * c) as_read.long in
+        let size = eqb-true (length input) (s.version.header + 16 * c) as_read.long in
         let few : c ≤ s.version.rows = leb_le c s.version.rows (and_right (leb 1 c) (leb c s.version.rows) as_read.counted) in
         let back = converts t s new x.tree x.among_to x.among_from (ap (λ (r : RuleSet). r.number) (sym x.same_rules)) reads_new (rw count_new few) as_read.low room' (rw count_new (omega (arith, size, roomy))) in
         let same : recast t s new ≡ input =
@@ -273,7 +273,7 @@ module _ (settings : List Setting) (w : Coherent settings) where
   given_back s input tree b a g room roomy =
       let r = (read_exactly s input tree).0 g in
       let c = row_count s.version input in
-      let size = eqb_true (length input) (s.version.header + 16 * c) r.long in
+      let size = eqb-true (length input) (s.version.header + 16 * c) r.long in
       let few : c ≤ s.version.rows = leb_le c s.version.rows (and_right (leb 1 c) (leb c s.version.rows) r.counted) in
       let plain = among_plain settings s w.in_force a in
       let same : recast s s input ≡ input =
@@ -297,7 +297,7 @@ module _ (settings : List Setting) (w : Coherent settings) where
         → (room : ℕ) → v.header + 16 * row_count s.version input ≤ room → converted settings version input room ≡ refused 1 0 []
     unfolding converted converted_for converted_in if_form within_limits if◌then◌else◌
     other_rules version v a b room roomy =
-        let fits : ltb room (v.header + 16 * row_count s.version input) ≡ false = leb_false (suc room) (v.header + 16 * row_count s.version input) (omega (arith, roomy)) in
+        let fits : ltb room (v.header + 16 * row_count s.version input) ≡ false = leb-false (suc room) (v.header + 16 * row_count s.version input) (omega (arith, roomy)) in
         rw (own, a, b, sound.counted, sound.long, fits, tree_read)
 
     module _ (t : Setting) (a : Among t settings) (same : t.rules.number ≡ s.rules.number) (room : ℕ) where
@@ -309,16 +309,16 @@ module _ (settings : List Setting) (w : Coherent settings) where
           → converted settings t.version.number input room ≡ refused 2 0 []
       unfolding converted converted_for converted_in if_form within_limits if◌then◌else◌
       too_many many roomy =
-          let fits : ltb room (t.version.header + 16 * row_count s.version input) ≡ false = leb_false (suc room) (t.version.header + 16 * row_count s.version input) (omega (arith, roomy)) in
-          rw (own, version_is settings t w a, get, sound.counted, sound.long, fits, tree_read, leb_true many)
+          let fits : ltb room (t.version.header + 16 * row_count s.version input) ≡ false = leb-false (suc room) (t.version.header + 16 * row_count s.version input) (omega (arith, roomy)) in
+          rw (own, version_is settings t w a, get, sound.counted, sound.long, fits, tree_read, leb-true many)
 
       -- what the reading by its limits says
       pub limited : row_count s.version input ≤ t.version.rows → t.version.header + 16 * row_count s.version input ≤ room
           → converted settings t.version.number input room ≡ within_scopes s t input (read t.rules t.version.scopes (rows_in s input))
       unfolding converted converted_for converted_in if_form within_limits if◌then◌else◌
       limited few roomy =
-          let fits : ltb room (t.version.header + 16 * row_count s.version input) ≡ false = leb_false (suc room) (t.version.header + 16 * row_count s.version input) (omega (arith, roomy)) in
-          let within : ltb t.version.rows (row_count s.version input) ≡ false = leb_false (suc t.version.rows) (row_count s.version input) (omega (arith, few)) in
+          let fits : ltb room (t.version.header + 16 * row_count s.version input) ≡ false = leb-false (suc room) (t.version.header + 16 * row_count s.version input) (omega (arith, roomy)) in
+          let within : ltb t.version.rows (row_count s.version input) ≡ false = leb-false (suc t.version.rows) (row_count s.version input) (omega (arith, few)) in
           rw (own, version_is settings t w a, get, sound.counted, sound.long, fits, tree_read, within)
 
       -- 5: at the OPEN while all scopes of that version are open, and only there
@@ -350,7 +350,7 @@ module _ (settings : List Setting) (w : Coherent settings) where
       → converted settings version input room ≡ refused number place []
   unfolding converted converted_for converted_in read_form if◌then◌else◌
   refused_alike s input number place e g version v a room roomy =
-      let fits : ltb room (v.header + 16 * row_count s.version input) ≡ false = leb_false (suc room) (v.header + 16 * row_count s.version input) (omega (arith, roomy)) in
+      let fits : ltb room (v.header + 16 * row_count s.version input) ≡ false = leb-false (suc room) (v.header + 16 * row_count s.version input) (omega (arith, roomy)) in
       rw (e, a) (go (not (between 1 s.version.rows (row_count s.version input)) || not (eqb (length input) (s.version.header + 16 * row_count s.version input))) fits (rw (found_in settings input s w.in_force e).has at g))
     where
       at_rows : (r : RowsRead) → as_answer r ≡ refused number place [] → if_form s (setting_with settings version s.rules.number) input r ≡ refused number place []

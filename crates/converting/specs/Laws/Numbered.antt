@@ -6,7 +6,7 @@ use mathlib.Core.List.{List, [], ◌∷◌}
 use Rattle.rules.specs.Tools.{only, ◌or_else◌}
 use Rattle.rules.specs.Versions.{Setting, all}
 use Rattle.rules.specs.Answer.{mark, same_numbers}
-use Rattle.rules.specs.Laws.ToolLaws.{false_not, and_left, and_right, eqb_true, eqb_same}
+use Rattle.rules.specs.Laws.ToolLaws.{false_not, and_left, and_right, eqb-true, eqb_same}
 use Rattle.headers.specs.Laws.Written.{numbers_same}
 use Rattle.headers.specs.Laws.Settings.{InForce, all_in_force, Among, here, there, among_apart}
 use Rattle.converting.specs.Convert.{version_of, setting_with}
@@ -29,7 +29,7 @@ with_numbers (s ∷ ss) version rules t e = go (eqb s.version.number version && 
     go true q e rec =
         let same : s ≡ t = cc in
         let n = both_true (eqb s.version.number version) (eqb s.rules.number rules) q in
-        rw (← same) (record { among = here; is_version = eqb_true s.version.number version n.0; is_rules = eqb_true s.rules.number rules n.1 })
+        rw (← same) (record { among = here; is_version = eqb-true s.version.number version n.0; is_rules = eqb-true s.rules.number rules n.1 })
     go false q e rec = let r = rec e in record { among = there r.among; is_version = r.is_version; is_rules = r.is_rules }
 
 -- other marks are other numbers
@@ -42,7 +42,7 @@ apart_numbers s t h = go (eqb s.version.number t.version.number && eqb s.rules.n
     go true q =
         let n = both_true (eqb s.version.number t.version.number) (eqb s.rules.number t.rules.number) q in
         let same : mark t ≡ mark s =
-        unfold mark in rw (eqb_true s.version.number t.version.number n.0, eqb_true s.rules.number t.rules.number n.1) in
+        unfold mark in rw (eqb-true s.version.number t.version.number n.0, eqb-true s.rules.number t.rules.number n.1) in
         false_not (sym h ∙ (ap (λ (m : List ℕ). same_numbers m (mark s)) same ∙ numbers_same (mark s)))
 
 pub with_is : (settings : List Setting) (t : Setting) → InForce settings → Among t settings → setting_with settings t.version.number t.rules.number ≡ some t
@@ -69,7 +69,7 @@ first_of settings s here = record { setting = s; among = here; is_number_lem = r
 first_of settings s (there {s' = s'} {ss = ss} a) = go (eqb s'.version.number s.version.number) refl (first_of ss s a)
   where
     go : (b : Bool) → eqb s'.version.number s.version.number ≡ b → FirstOf ss s.version.number → FirstOf (s' ∷ ss) s.version.number
-    go true q r = record { setting = s'; among = here; is_number_lem = eqb_true s'.version.number s.version.number q; is_version = rw q }
+    go true q r = record { setting = s'; among = here; is_number_lem = eqb-true s'.version.number s.version.number q; is_version = rw q }
     go false q r = record { setting = r.setting; among = there r.among; is_number_lem = r.is_number_lem; is_version = rw q r.is_version }
 
 pub version_is : (settings : List Setting) (s : Setting) → Coherent settings → Among s settings → version_of settings s.version.number ≡ some s.version

@@ -10,7 +10,7 @@ use Rattle.rules.specs.Tools.{zeros}
 use Rattle.rules.specs.Versions.{Setting}
 use Rattle.rules.specs.Rows.{value, bytes}
 use Rattle.rules.specs.Answer.{mark, same_numbers, has_header, row_count, header_bytes}
-use Rattle.rules.specs.Laws.ToolLaws.{false_not, and_left, and_right, eqb_true, eqb_same, leb_true, leb_le, ◌&◌}
+use Rattle.rules.specs.Laws.ToolLaws.{false_not, and_left, and_right, eqb-true, eqb_same, leb-true, leb_le, ◌&◌}
 use Rattle.rules.specs.Laws.RowLaws.{Bytes, bytes_drop}
 use Rattle.rules.specs.Laws.Output.OutBytes.{bytes_length, header_length, mark_length}
 
@@ -27,7 +27,7 @@ numbers_equal [] [] e = refl
 numbers_equal [] (y ∷ b) e = false_not e
 numbers_equal (x ∷ a) [] e = false_not e
 numbers_equal (x ∷ a) (y ∷ b) e =
-    ap₂ (λ (n : ℕ) (l : List ℕ). n ∷ l) (eqb_true x y (and_left (eqb x y) (same_numbers a b) e)) (numbers_equal a b (and_right (eqb x y) (same_numbers a b) e))
+    ap₂ (λ (n : ℕ) (l : List ℕ). n ∷ l) (eqb-true x y (and_left (eqb x y) (same_numbers a b) e)) (numbers_equal a b (and_right (eqb x y) (same_numbers a b) e))
 
 zeros_zero : (n : ℕ) → zeros (replicate n 0) ≡ true
 zeros_zero zero = refl
@@ -36,7 +36,7 @@ zeros_zero (suc n) = zeros_zero n
 zeros_bytes : (ns : List ℕ) → zeros ns ≡ true → replicate (length ns) 0 ≡ ns
 zeros_bytes [] e = refl
 zeros_bytes (n ∷ ns) e =
-    ap₂ (λ (m : ℕ) (l : List ℕ). m ∷ l) (sym (eqb_true n 0 (and_left (eqb n 0) (zeros ns) e))) (zeros_bytes ns (and_right (eqb n 0) (zeros ns) e))
+    ap₂ (λ (m : ℕ) (l : List ℕ). m ∷ l) (sym (eqb-true n 0 (and_left (eqb n 0) (zeros ns) e))) (zeros_bytes ns (and_right (eqb n 0) (zeros ns) e))
 
 pub bytes_value : (n : ℕ) (bs : List ℕ) → Bytes bs → n ≤ length bs → bytes n (value (take n bs)) ≡ take n bs
 unfolding value bytes
@@ -72,7 +72,7 @@ module _ (s : Setting) (n : ℕ) (rest : List ℕ) (fits : 6 + s.version.countin
       let size : length (mark s ++ bytes c n) ≡ 6 + c = omega (arith, length-append (mark s) (bytes c n), mark_length s n rest, bytes_length c n) in
       let padded : drop (6 + c) (take s.version.header bs) ≡ pad =
       ap (drop (6 + c)) (header_read ∙ sym (append_assoc (mark s) (bytes c n) pad)) ∙ drop_at (mark s ++ bytes c n) pad (6 + c) size in
-      and_both _ _ (and_both _ _ (leb_true long) (rw marked (numbers_same (mark s)))) (rw padded (zeros_zero (s.version.header - (6 + c))))
+      and_both _ _ (and_both _ _ (leb-true long) (rw marked (numbers_same (mark s)))) (rw padded (zeros_zero (s.version.header - (6 + c))))
 
 -- ---- read
 

@@ -14,7 +14,7 @@ use Rattle.rules.specs.Answer.{accepted, has_header, setting_of, same_numbers}
 use Rattle.read_form.specs.ReadForm.{read_form}
 use Rattle.mending.specs.Mend
 use Rattle.mending.specs.Mend.{Change, undo, Mending, mended, mend_in, asks_for, setting_for, mend}
-use Rattle.rules.specs.Laws.ToolLaws.{Ok, ok_at, false_not, leb_le, or_true, All, done, ◌&◌}
+use Rattle.rules.specs.Laws.ToolLaws.{Ok, ok_at, false_not, leb_le, or-true, All, done, ◌&◌}
 use Rattle.rules.specs.Laws.RowLaws.{Bytes}
 use Rattle.rules.specs.Laws.Results.{some_same}
 use Rattle.rules.specs.Laws.InputLaws.{Usual, AllUsual, setting_usual}
@@ -38,7 +38,7 @@ first_five s input h a e =
 headed_asks : (s : Setting) (input : List ℕ) → 6 + s.version.counting ≤ s.version.header → Bytes input → has_header s input ≡ true → asks_for s input ≡ true
 unfolding asks_for
 headed_asks s input h a e =
-    rw ((SoundStays.parted s input h a e).0, first_five s input h a e, lists_same (take 5 (Answer.mark s)), SoundStays.byte-5 s input h a e, lists_same (bytes 1 s.rules.number)) (or_true (eqb s.version.number 1))
+    rw ((SoundStays.parted s input h a e).0, first_five s input h a e, lists_same (take 5 (Answer.mark s)), SoundStays.byte_5 s input h a e, lists_same (bytes 1 s.rules.number)) (or-true (eqb s.version.number 1))
 
 -- does a header of `b` ask for `a`?
 unfoldable pub asks_like : (a b : Setting) → Bool
@@ -68,7 +68,7 @@ asks_apart v w input h a e f = go (asks_for v input) refl
     go true q =
         let T = three (leb v.version.header (length input)) (same_numbers (take 5 input) (take 5 (Answer.mark v))) (eqb v.version.number 1 || same_numbers (take 1 (drop 5 input)) (bytes 1 v.rules.number)) (unfold asks_for in q) in
         let one = subst (λ (l : List ℕ). same_numbers l (take 5 (Answer.mark v)) ≡ true) (first_five w input h a e) T.1 in
-        let two = subst (λ (l : List ℕ). eqb v.version.number 1 || same_numbers l (bytes 1 v.rules.number) ≡ true) (SoundStays.byte-5 w input h a e) T.2 in
+        let two = subst (λ (l : List ℕ). eqb v.version.number 1 || same_numbers l (bytes 1 v.rules.number) ≡ true) (SoundStays.byte_5 w input h a e) T.2 in
         false_not (sym f ∙ both _ _ one two)
 
 setting_all : (P : Setting → Type 0) (vs : List Setting) (input : List ℕ) → All P vs → Ok P (setting_of vs input)
@@ -157,7 +157,7 @@ module _ (settings : List Setting) (l : AllUsual settings) where
       → (room space : ℕ) → length input ≤ room → mend settings input room space ≡ mended input []
   sound_form_stays d input a s asks tree e room space fits =
       let u = ok_at Usual (setting_of settings input) s (setting_usual settings input l) asks in
-      mends_in settings input room space s (chooses settings l d input a s asks) ∙ SoundStays.sound-stays s input tree u.header a e room space fits
+      mends_in settings input room space s (chooses settings l d input a s asks) ∙ SoundStays.sound_stays s input tree u.header a e room space fits
 
   module _ (input : List ℕ) (room space : ℕ) (new : List ℕ) (list : List Change) (e : mend settings input room space ≡ mended new list) where
     abbrev W : (s : Setting) × (setting_for settings input ≡ some s) × (mend_in s input room space ≡ mended new list)
@@ -170,7 +170,7 @@ module _ (settings : List Setting) (l : AllUsual settings) where
     pub mended_form_reads : Apart settings → Bytes input → (s : Setting) × (setting_of settings new ≡ some s) × (tree : Scope) × (read_form s new ≡ accepted tree)
     mended_form_reads d a =
         let M = mended_is W.0 input room space new list W.2 in
-        let few : Bytes new = subst Bytes M.is_form (SoundStays.form-few W.0 input a) in
+        let few : Bytes new = subst Bytes M.is_form (SoundStays.form_few W.0 input a) in
         (W.0, chosen_again settings l d input new few W.0 W.1 ((read_exactly W.0 new M.tree).0 M.reads).headed, M.tree, M.reads)
 
     -- Mending again changes nothing.
@@ -178,7 +178,7 @@ module _ (settings : List Setting) (l : AllUsual settings) where
     mended_form_stays d a room' space' fits =
         let M = mended_is W.0 input room space new list W.2 in
         let R = mended_form_reads d a in
-        sound_form_stays d new (subst Bytes M.is_form (SoundStays.form-few W.0 input a)) R.0 R.1 R.2 R.3 room' space' fits
+        sound_form_stays d new (subst Bytes M.is_form (SoundStays.form_few W.0 input a)) R.0 R.1 R.2 R.3 room' space' fits
 
     -- Undoing the list gives the bytes back.
     pub mended_form_undone : undo 0 list new ≡ input

@@ -6,7 +6,7 @@ use Rattle.std.proofs.Math.ListN.{get_or-append}
 use Rattle.rules.specs.Tools.{if◌then◌else◌}
 use Rattle.rules.specs.Answer.{same_numbers}
 use Rattle.mending.specs.Mend.{Piece, befores, afters, Change, changes, undo}
-use Rattle.rules.specs.Laws.ToolLaws.{false_not, and_left, and_right, eqb_true, eqb_same, leb_le, leb_lt, All, done, ◌&◌}
+use Rattle.rules.specs.Laws.ToolLaws.{false_not, and_left, and_right, eqb-true, eqb_same, leb_le, leb_lt, All, done, ◌&◌}
 
 -- ---- lists
 
@@ -15,7 +15,7 @@ unfolding same_numbers
 same_lists [] [] e = refl
 same_lists [] (y ∷ b) e = false_not e
 same_lists (x ∷ a) [] e = false_not e
-same_lists (x ∷ a) (y ∷ b) e = ap₂ (λ (z : ℕ) (l : List ℕ). z ∷ l) (eqb_true x y (and_left (eqb x y) _ e)) (same_lists a b (and_right (eqb x y) _ e))
+same_lists (x ∷ a) (y ∷ b) e = ap₂ (λ (z : ℕ) (l : List ℕ). z ∷ l) (eqb-true x y (and_left (eqb x y) _ e)) (same_lists a b (and_right (eqb x y) _ e))
 
 pub lists_same : (a : List ℕ) → same_numbers a a ≡ true
 unfolding same_numbers

@@ -10,10 +10,10 @@ use Rattle.rules.specs.Shapes.{builtin_ok}
 use Rattle.rules.specs.Good.{GoodScope, GoodFields, GoodItem}
 use Rattle.rules.specs.Answer.{rows_of}
 use Rattle.mending.specs.Mend.{Fate, stays, zeroed, two_bits, fates, fated, parts, row_pieces, closes_root, depth_after, all_rows}
-use Rattle.rules.specs.Laws.ToolLaws.{ok_at, eqb_true, leb_false, All, done, ◌&◌, all_append}
+use Rattle.rules.specs.Laws.ToolLaws.{ok_at, eqb-true, leb-false, All, done, ◌&◌, all_append}
 use Rattle.rules.specs.Laws.RowLaws.{Bytes, bytes_drop, decode_parts}
 use Rattle.mending.specs.Laws.Pieces.{Stays}
-use Rattle.mending.specs.Laws.Undone.{drop_drop}
+use Rattle.mending.specs.Laws.Undone.{drop-drop}
 
 -- ---- lists of bytes
 
@@ -103,7 +103,7 @@ builtin_zero b p e = go (eqb b 19) (eqb b 22) e
     go : (t u : Bool) → (if t then leb (value p) 47 else if u then leb (value p) 1 else eqb (value p) 0) ≡ true → FineAt (if t then stays else if u then stays else zeroed) p
     go true u q = tt
     go false true q = tt
-    go false false q = eqb_true (value p) 0 q
+    go false false q = eqb-true (value p) 0 q
 
 five_fine : (r : Row) (code : ℕ) (b e x y z : List ℕ) → Bytes e → FieldOk r → encode r ≡ raw code (value b) (value e) (value x) (value y) (value z) → Five (fates code (value b)) b e x y z
 unfolding encode fates
@@ -141,20 +141,20 @@ module _ (bs : List ℕ) where
   row = take 16 bs
 
   part_e : take 2 (drop 1 (drop 1 row)) ≡ take 2 (drop 2 bs)
-  part_e = ap (λ (l : List ℕ). take 2 l) (drop_drop row 1 1 2 refl) ∙ take_within bs 2 2 16 (omega arith)
+  part_e = ap (λ (l : List ℕ). take 2 l) (drop-drop row 1 1 2 refl) ∙ take_within bs 2 2 16 (omega arith)
 
   part_x : take 4 (drop 2 (drop 1 (drop 1 row))) ≡ take 4 (drop 4 bs)
-  part_x = ap (λ (l : List ℕ). take 4 l) (ap (λ (l : List ℕ). drop 2 l) (drop_drop row 1 1 2 refl) ∙ drop_drop row 2 2 4 refl) ∙ take_within bs 4 4 16 (omega arith)
+  part_x = ap (λ (l : List ℕ). take 4 l) (ap (λ (l : List ℕ). drop 2 l) (drop-drop row 1 1 2 refl) ∙ drop-drop row 2 2 4 refl) ∙ take_within bs 4 4 16 (omega arith)
 
   part_y : take 4 (drop 4 (drop 2 (drop 1 (drop 1 row)))) ≡ take 4 (drop 8 bs)
   part_y =
-      ap (λ (l : List ℕ). take 4 l) (ap (λ (l : List ℕ). drop 4 l) (ap (λ (l : List ℕ). drop 2 l) (drop_drop row 1 1 2 refl) ∙ drop_drop row 2 2 4 refl) ∙ drop_drop row 4 4 8 refl)
+      ap (λ (l : List ℕ). take 4 l) (ap (λ (l : List ℕ). drop 4 l) (ap (λ (l : List ℕ). drop 2 l) (drop-drop row 1 1 2 refl) ∙ drop-drop row 2 2 4 refl) ∙ drop-drop row 4 4 8 refl)
       ∙ take_within bs 8 4 16 (omega arith)
 
   part_z : take 4 (drop 4 (drop 4 (drop 2 (drop 1 (drop 1 row))))) ≡ take 4 (drop 12 bs)
   part_z =
       ap (λ (l : List ℕ). take 4 l)
-      (ap (λ (l : List ℕ). drop 4 l) (ap (λ (l : List ℕ). drop 4 l) (ap (λ (l : List ℕ). drop 2 l) (drop_drop row 1 1 2 refl) ∙ drop_drop row 2 2 4 refl) ∙ drop_drop row 4 4 8 refl) ∙ drop_drop row 8 4 12 refl)
+      (ap (λ (l : List ℕ). drop 4 l) (ap (λ (l : List ℕ). drop 4 l) (ap (λ (l : List ℕ). drop 2 l) (drop-drop row 1 1 2 refl) ∙ drop-drop row 2 2 4 refl) ∙ drop-drop row 4 4 8 refl) ∙ drop-drop row 8 4 12 refl)
       ∙ take_within bs 12 4 16 (omega arith)
 
   row_parts_lem : raw_at bs
@@ -251,7 +251,7 @@ close_next : (depth : ℕ) (rs : List Row) → 1 ≤ depth → Ends depth rs →
 unfolding code_of closes_root depth_after if◌then◌else◌
 close_next depth rs h e =
     let same : suc depth - 1 ≡ depth = omega arith in
-    more (leb_false (suc depth) 1 (omega arith)) (subst (λ (d : ℕ). Ends d rs) (sym same) e)
+    more (leb-false (suc depth) 1 (omega arith)) (subst (λ (d : ℕ). Ends d rs) (sym same) e)
 
 close_last : Ends 1 (Close ∷ [])
 unfolding code_of closes_root

@@ -14,12 +14,12 @@ use Rattle.rules.specs.Answer.{accepted, has_header, row_count, rows_in, same_nu
 use Rattle.read_form.specs.ReadForm.{read_form}
 use Rattle.mending.specs.Mend
 use Rattle.mending.specs.Mend.{Piece, piece, afters, Change, list_bytes, Fate, stays, zeroed, two_bits, fated, parts, row_pieces, closes_root, depth_after, close_rows, all_rows, behind_header, header_pieces, form_pieces, mended, sized, mend_in}
-use Rattle.rules.specs.Laws.ToolLaws.{false_not, and_left, and_right, eqb_true, leb_le, leb_false, All, done, ◌&◌, all_append}
+use Rattle.rules.specs.Laws.ToolLaws.{false_not, and_left, and_right, eqb-true, leb_le, leb-false, All, done, ◌&◌, all_append}
 use Rattle.rules.specs.Laws.RowLaws.{Bytes, bytes_drop}
 use Rattle.rules.specs.Laws.Read.ReadRight.{read_right}
 use Rattle.read_form.specs.Laws.ReadFormLaws.{read_exactly, read_read}
 use Rattle.mending.specs.Laws.Pieces.{Stays, same_lists, stays_afters, stays_changes}
-use Rattle.mending.specs.Laws.Undone.{mended_is, drop_drop, length_first, behind_bytes, form_bytes_lem}
+use Rattle.mending.specs.Laws.Undone.{mended_is, drop-drop, length_first, behind_bytes, form_bytes_lem}
 use Rattle.mending.specs.Laws.SoundRows.{bytes_again, bytes_take, scope_field, form_ends, rows_stay}
 
 -- ---- what 01 says of a form that it reads
@@ -53,7 +53,7 @@ drop_take (x ∷ xs) (suc a) (suc n) k e = drop_take xs a n k (omega arith)
 
 zero_list : (xs : List ℕ) → zeros xs ≡ true → xs ≡ replicate (length xs) 0
 zero_list [] e = refl
-zero_list (x ∷ xs) e = ap₂ (λ (y : ℕ) (l : List ℕ). y ∷ l) (eqb_true x 0 (and_left (eqb x 0) (zeros xs) e)) (zero_list xs (and_right (eqb x 0) (zeros xs) e))
+zero_list (x ∷ xs) e = ap₂ (λ (y : ℕ) (l : List ℕ). y ∷ l) (eqb-true x 0 (and_left (eqb x 0) (zeros xs) e)) (zero_list xs (and_right (eqb x 0) (zeros xs) e))
 
 mark_end : (s : Setting) → drop 5 (Answer.mark s) ≡ bytes 1 s.rules.number
 unfolding Answer.mark bytes
@@ -70,7 +70,7 @@ three false false true e = false_not e
 three false false false e = false_not e
 
 not_less : (m n : ℕ) → n ≤ m → ltb m n ≡ false
-not_less m n h = leb_false (suc m) n (omega arith)
+not_less m n h = leb-false (suc m) n (omega arith)
 
 module _ (s : Setting) (input : List ℕ) (h : 6 + s.version.counting ≤ s.version.header) (a : Bytes input) (e : has_header s input ≡ true) where
   abbrev pub c : ℕ
@@ -90,7 +90,7 @@ module _ (s : Setting) (input : List ℕ) (h : 6 + s.version.counting ≤ s.vers
 
   ends_zero : take rest (drop c (drop 6 input)) ≡ replicate rest 0
   ends_zero =
-      let cut : drop (6 + c) (take s.version.header input) ≡ take rest (drop c (drop 6 input)) = drop_take input (6 + c) s.version.header rest (omega arith) ∙ ap (λ (l : List ℕ). take rest l) (sym (drop_drop input 6 c (6 + c) refl)) in
+      let cut : drop (6 + c) (take s.version.header input) ≡ take rest (drop c (drop 6 input)) = drop_take input (6 + c) s.version.header rest (omega arith) ∙ ap (λ (l : List ℕ). take rest l) (sym (drop-drop input 6 c (6 + c) refl)) in
       let room : rest ≤ length (drop c (drop 6 input)) = omega (arith, long, length-drop 6 input, length-drop c (drop 6 input)) in
       zero_list (take rest (drop c (drop 6 input))) (subst (λ (l : List ℕ). zeros l ≡ true) cut parted.2) ∙ ap (λ (n : ℕ). replicate n 0) (length_first rest (drop c (drop 6 input)) room)
 
@@ -117,7 +117,7 @@ module _ (s : Setting) (input : List ℕ) (t : Scope) (h : 6 + s.version.countin
   sizes = or_left_false (between 1 s.version.rows rows) (eqb (length input) (s.version.header + 16 * rows)) S.fits
 
   size : length input ≡ s.version.header + 16 * rows
-  size = eqb_true _ _ (and_right (between 1 s.version.rows rows) _ sizes)
+  size = eqb-true _ _ (and_right (between 1 s.version.rows rows) _ sizes)
 
   behind : length (drop s.version.header input) ≡ 16 * rows
   behind = omega (arith, length-drop s.version.header input, size)

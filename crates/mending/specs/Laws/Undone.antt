@@ -16,12 +16,12 @@ use Rattle.mending.specs.Laws.Pieces.{befores_append, undo_changes, Even, last, 
 
 -- ---- lists
 
-pub drop_drop : (xs : List ℕ) (a b n : ℕ) → n ≡ a + b → drop b (drop a xs) ≡ drop n xs
-drop_drop xs zero b n e = let q : b ≡ n = omega arith in rw q
-drop_drop xs (suc a) b zero e = absurd (omega arith)
-drop_drop [] (suc a) zero (suc n) e = refl
-drop_drop [] (suc a) (suc b) (suc n) e = refl
-drop_drop (x ∷ xs) (suc a) b (suc n) e = drop_drop xs a b n (omega arith)
+pub drop-drop : (xs : List ℕ) (a b n : ℕ) → n ≡ a + b → drop b (drop a xs) ≡ drop n xs
+drop-drop xs zero b n e = let q : b ≡ n = omega arith in rw q
+drop-drop xs (suc a) b zero e = absurd (omega arith)
+drop-drop [] (suc a) zero (suc n) e = refl
+drop-drop [] (suc a) (suc b) (suc n) e = refl
+drop-drop (x ∷ xs) (suc a) b (suc n) e = drop-drop xs a b n (omega arith)
 
 pub bytes_length : (c n : ℕ) → length (bytes c n) ≡ c
 unfolding bytes
@@ -75,11 +75,11 @@ header_bytes_lem s count input h =
     let c = s.version.counting in
     let e = s.version.header - (6 + c) in
     let tail = drop c (drop 6 input) in
-    let last-drop : drop s.version.header input ≡ drop e tail = sym (drop_drop (drop 6 input) c e (c + e) (omega arith) ∙ drop_drop input 6 (c + e) s.version.header (omega arith)) in
+    let last-drop : drop s.version.header input ≡ drop e tail = sym (drop-drop (drop 6 input) c e (c + e) (omega arith) ∙ drop-drop input 6 (c + e) s.version.header (omega arith)) in
     let four : take e tail ++ drop s.version.header input ≡ tail = ap (λ (l : List ℕ). take e tail ++ l) last-drop ∙ take-append-drop e tail in
     let three : take c (drop 6 input) ++ (take e tail ++ drop s.version.header input) ≡ drop 6 input = ap (λ (l : List ℕ). take c (drop 6 input) ++ l) four ∙ take-append-drop c (drop 6 input) in
     let two : take 1 (drop 5 input) ++ (take c (drop 6 input) ++ (take e tail ++ drop s.version.header input)) ≡ drop 5 input =
-    ap (λ (l : List ℕ). take 1 (drop 5 input) ++ l) (three ∙ sym (drop_drop input 5 1 6 (omega arith))) ∙ take-append-drop 1 (drop 5 input) in
+    ap (λ (l : List ℕ). take 1 (drop 5 input) ++ l) (three ∙ sym (drop-drop input 5 1 6 (omega arith))) ∙ take-append-drop 1 (drop 5 input) in
     join (take 5 input) (take 1 (drop 5 input)) (take c (drop 6 input)) (take e tail) (drop s.version.header input) ∙ (ap (λ (l : List ℕ). take 5 input ++ l) two ∙ take-append-drop 5 input)
 
 pub form_bytes_lem : (s : Setting) (input : List ℕ) → 6 + s.version.counting ≤ s.version.header → befores (form_pieces s input) ≡ input

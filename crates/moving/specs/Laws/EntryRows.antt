@@ -15,7 +15,7 @@ use Rattle.places.specs.PlaceRows.{Floor, floors_at, Located, located_of, counte
 use Rattle.moving.specs.Moved.{Written, counted_in, Denoted, denoted, MovedNumber}
 use Rattle.moving.specs.MovedAnswer
 use Rattle.moving.specs.MovedAnswer.{MovedAnswer, Rooms, moved_in, plainly}
-use Rattle.rules.specs.Laws.ToolLaws.{eqb_true, then_some, All, done, ◌&◌}
+use Rattle.rules.specs.Laws.ToolLaws.{eqb-true, then_some, All, done, ◌&◌}
 use Rattle.rules.specs.Laws.Results.{some_same}
 use Rattle.places.specs.RowAt.{all_at, decl_row_of, counted_row_is}
 use Rattle.moving.specs.Laws.Lists.{Moves}
@@ -29,7 +29,7 @@ of_that_space (x ∷ xs) space = go (eqb x.standing.decl.space space) refl (of_t
   where
     go : (b : Bool) → eqb x.standing.decl.space space ≡ b → All (λ (x : Located). x.standing.decl.space ≡ space) (located_of xs space)
         → All (λ (x : Located). x.standing.decl.space ≡ space) (if b then x ∷ located_of xs space else located_of xs space)
-    go true e a = eqb_true _ space e & a
+    go true e a = eqb-true _ space e & a
     go false e a = a
 
 -- a DECL of that space at that row

@@ -26,7 +26,7 @@ mutual
 
   low_fields : (fs : Fields) → LowFields fs → NoneInFields fs
   low_fields end low = tt
-  low_fields (i ▸ fs) low = (Lookups.low-original (head_of i) low.0.decls, low_item i low.1, low_fields fs low.2)
+  low_fields (i ▸ fs) low = (Lookups.low_original (head_of i) low.0.decls, low_item i low.1, low_fields fs low.2)
 
   low_item : (i : Item) → LowItem i → NoneInItem i
   low_item (plain h) low = tt

@@ -11,7 +11,7 @@ use Rattle.rules.specs.Rules.{ok, table_of, Env, Outside, onward, at_root, find,
 use Rattle.rules.specs.Readings
 use Rattle.rules.specs.Readings.{originals, Place, Level, level, Use, use_at, Standing, Spot, original, inserted, in_inserted, in_original, standings, of_space, place, counted, counted_out, meant, counting_reading}
 use Rattle.moving.specs.Moved.{names_to, Written, written, written_at, Denoted, same_place}
-use Rattle.rules.specs.Laws.ToolLaws.{eqb_true, then_some, All, done, ◌&◌, all_append, all_map}
+use Rattle.rules.specs.Laws.ToolLaws.{eqb-true, then_some, All, done, ◌&◌, all_append, all_map}
 use Rattle.rules.specs.Laws.Results.{holds_of, some_same, no_option}
 use Rattle.places.specs.RowAt.{all_at}
 use Rattle.moving.specs.Laws.Lists.{Counts, scope_of, floor_level, denoted_counted, same_place_lem, place_same, OnOriginal, own_spots, not_both}
@@ -46,7 +46,7 @@ counted_spot P l space n x a e = all_at {P = P} (of_space (standings 0 l.fields)
 low_spots : (n : ℕ) (fs : Fields) → LowFields fs → All (λ (x : Standing). OnOriginal x.spot) (standings n fs)
 unfolding standings
 low_spots n end low = done
-low_spots n (i ▸ fs) low = rw (Lookups.standings-original n i fs (Lookups.low-original (head_of i) low.0.decls)) (all_append _ _ (own_spots n 0 (head_of i).decls) (low_spots (suc n) fs low.2))
+low_spots n (i ▸ fs) low = rw (Lookups.standings_original n i fs (Lookups.low_original (head_of i) low.0.decls)) (all_append _ _ (own_spots n 0 (head_of i).decls) (low_spots (suc n) fs low.2))
 
 -- ---- an inserted outer alias leads at least one scope out
 
@@ -92,7 +92,7 @@ unfolding standings
 fields_spots end ds here outside b k n r low eq = rw (← ran_end ds here outside b k r eq) done
 fields_spots (i ▸ fs) ds here outside b k n r low eq =
     let R = ran i fs ds here outside b k r eq in
-    subst (All (λ (x : Standing). OutSpot x.spot)) (sym (Agree.ran-standings R low.0.decls n))
+    subst (All (λ (x : Standing). OutSpot x.spot)) (sym (Agree.ran_standings R low.0.decls n))
     (all_append _ _ (heads_spots R.new (new_lead_out R)) (all_append _ _ (original_spots n 0 (head_of i).decls) (fields_spots fs ds here (onward i outside) R.e.k R.q.1 (suc n) R.rs low.2 R.goes_on_lem)))
 
 -- ---- a scope further out is another one
@@ -205,7 +205,7 @@ both ls' l l' (original f a) (inserted h) was now nested e way on out ew en =
         leads_elsewhere l₀ ls h d n (out c) e (w ∙ (sym way ∙ ap (λ (x : Level). x.way) (sym same)))
 
     leads : (b : Bool) → eqb h.code 11 ≡ b → ¬ ((if b then counted_out ls' h.operands else none) ≡ some (record { way = l.way; field = f; at = a }))
-    leads true q r = front ls' nested e (eqb_true h.code 11 q) _ refl r
+    leads true q r = front ls' nested e (eqb-true h.code 11 q) _ refl r
     leads false q r = no_option _ r
 
 -- the meaning of an original spot does not depend on the scopes around

@@ -12,7 +12,7 @@ use Rattle.rules.specs.Readings
 use Rattle.rules.specs.Readings.{is_inserted, originals, Place, Level, level, fields_of, Use, use_at, Standing, Spot, original, inserted, in_original, in_inserted, standings, of_space, place, counted}
 use Rattle.places.specs.PlaceRows.{Floor, floors_at, Located, counted_row}
 use Rattle.moving.specs.Moved.{places_at, places_in, places_inside, places, Written, written_at, counted_in, Denoted, denoted, same_place, MovedNumber, NoItem, moved_at, apart_at, if_any, collect, moved, apart}
-use Rattle.rules.specs.Laws.ToolLaws.{false_not, and_left, and_right, eqb_true, eqb_same, then_some, snoc_append, not_true, All, done, ◌&◌, all_append}
+use Rattle.rules.specs.Laws.ToolLaws.{false_not, and_left, and_right, eqb-true, eqb_same, then_some, snoc_append, not-true, All, done, ◌&◌, all_append}
 use Rattle.rules.specs.Laws.Results.{some_same, no_option, just_none}
 use Rattle.places.specs.Counting.{levels, floors_at_lem, spot_of, counted_row_lem, elem_map}
 use Rattle.places.specs.RowAt.{all_at}
@@ -128,7 +128,7 @@ places_found : (way w : List ℕ) (fs : Fields) (outside ls : List Level) (f o :
 unfolding Readings.around
 places_found [] w fs outside ls f o u e q =
     let q₁ : Readings.use_in (level w fs ∷ outside) f o ≡ some u = ap (λ (x : List Level). Readings.use_in x f o) (some_same _ ls e) ∙ q in
-    let U = Agree.use-inv (level w fs) outside f o u q₁ in
+    let U = Agree.use_inv (level w fs) outside f o u q₁ in
     let here : In (record { way = w ++ []; field = f; at = o }) (places_at w (0 + f) 0 (head_of U.0).operands) =
     subst (λ (p : Place). In p (places_at w (0 + f) 0 (head_of U.0).operands)) (same_parts_lem (sym (append-nil w)) (omega arith) (omega arith)) (places_has w (0 + f) 0 (head_of U.0).operands o u.operand U.2) in
     of_field w 0 fs f U.0 _ U.1 (in_left (places_inside (w ++ ((0 + f) ∷ [])) U.0) here)
@@ -196,7 +196,7 @@ moved_at_lem before after p m e =
       was = s₃.0;
       now = s₅.0;
       counts = record { number = s₁.1; scope_was = s₂.0; in_was = s₂.1; counted_was = s₃.1; scope_now = s₄.0; in_now = s₄.1; counted_now = s₅.1 };
-      differ = not_true _ o.0;
+      differ = not-true _ o.0;
       is_entry = o.1;
     }
 
@@ -236,7 +236,7 @@ listed_apart before a i =
     let s₁ = then_some (written_at before c.0) _ a c.2 in
     let s₂ = then_some (counted_in before c.0 s₁.0) _ a s₁.2 in
     let o = only_some (not (is_just (denoted s₂.0 s₁.0))) _ a s₂.2 in
-    record { p = c.0; w = s₁.0; number = s₁.1; floor = s₂.0; in_scope_lem = s₂.1; nothing = just_none _ (not_true _ o.0); is_entry = o.1 }
+    record { p = c.0; w = s₁.0; number = s₁.1; floor = s₂.0; in_scope_lem = s₂.1; nothing = just_none _ (not-true _ o.0); is_entry = o.1 }
 
 pub apart_listed : (before : Scope) (a : NoItem) → CountsToNothing before a → In a (apart before)
 unfolding apart apart_at ◌then◌ only
@@ -279,7 +279,7 @@ unfolding same_numbers
 same_lists [] [] e = refl
 same_lists [] (y ∷ b) e = false_not e
 same_lists (x ∷ a) [] e = false_not e
-same_lists (x ∷ a) (y ∷ b) e = rw (eqb_true x y (and_left (eqb x y) (same_numbers a b) e), same_lists a b (and_right (eqb x y) (same_numbers a b) e))
+same_lists (x ∷ a) (y ∷ b) e = rw (eqb-true x y (and_left (eqb x y) (same_numbers a b) e), same_lists a b (and_right (eqb x y) (same_numbers a b) e))
 
 lists_same : (a : List ℕ) → same_numbers a a ≡ true
 unfolding same_numbers
@@ -292,8 +292,8 @@ unfolding same_place
 same_place_lem a none e = false_not e
 same_place_lem a (some b) e =
     ap {B = Option Place} some
-    (sym (same_parts_lem (same_lists a.way b.way (and_left _ _ e)) (eqb_true a.field b.field (and_left _ _ (and_right (same_numbers a.way b.way) _ e)))
-    (eqb_true a.at b.at (and_right (eqb a.field b.field) _ (and_right (same_numbers a.way b.way) _ e)))))
+    (sym (same_parts_lem (same_lists a.way b.way (and_left _ _ e)) (eqb-true a.field b.field (and_left _ _ (and_right (same_numbers a.way b.way) _ e)))
+    (eqb-true a.at b.at (and_right (eqb a.field b.field) _ (and_right (same_numbers a.way b.way) _ e)))))
 
 pub place_same : (a : Place) → same_place (some a) (some a) ≡ true
 unfolding same_place
@@ -328,8 +328,8 @@ kin_fields end ds here outside b k n r low eq = rw (← ran_end ds here outside 
 kin_fields (i ▸ fs) ds here outside b k n r low eq =
     let R = ran i fs ds here outside b k r eq in
     let below = kin_fields fs ds here (onward i outside) R.e.k R.q.1 (suc n) R.rs low.2 R.goes_on_lem in
-    let new = Agree.ran-standings R low.0.decls n in
-    let old = Lookups.standings-original n i fs (Lookups.low-original (head_of i) low.0.decls) in
+    let new = Agree.ran_standings R low.0.decls n in
+    let old = Lookups.standings_original n i fs (Lookups.low_original (head_of i) low.0.decls) in
     subst (λ (x : List Standing). Kin x (standings n r.0)) (sym old)
     (subst (Kin (in_original n 0 (head_of i).decls ++ standings (suc n) fs)) (sym new) (kin_heads R.new (kin_stay (in_original n 0 (head_of i).decls) below)))
 

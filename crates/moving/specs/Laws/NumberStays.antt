@@ -41,7 +41,7 @@ some_of (some m) why z d e = ap {B = Option ℕ} some (ok_same m d e)
 module _ (space name n z : ℕ) where
   module _ (ds : List Declaration) (outside : Outside) where
     passed_over : (k : ℕ) → OkR (λ e. e.now ≡ outer space (Id name) (Num n) z) (expand_operand ds outside k (outer space (Id name) (Num n) z))
-    unfolding expand_operand Rules.as-it-is
+    unfolding expand_operand Rules.as_it_is
     passed_over k = refl
 
     expanded_outer : (k : ℕ) (os : List Operand) (o : ℕ) → get_elem? os o ≡ some (outer space (Id name) (Num n) z)
@@ -53,7 +53,7 @@ module _ (space name n z : ℕ) where
 
     head_outer : (k : ℕ) (h : Head) (o : ℕ) → get_elem? h.operands o ≡ some (outer space (Id name) (Num n) z)
         → OkR (λ e. get_elem? e.now.operands o ≡ some (outer space (Id name) (Num n) z)) (expand_head ds outside k h)
-    unfolding expand_head Rules.as-it-is with_operands
+    unfolding expand_head Rules.as_it_is with_operands
     head_outer k h o e = if_both (OkR _) _ _ _ e (bind_ok _ _ _ _ (expanded_outer k h.operands o e) (λ es p. p))
 
   module _ (here : Env) (outside : Outside) where
@@ -61,7 +61,7 @@ module _ (space name n z : ℕ) where
     unfolding resolve_outer outer_numbers Rules.up_number Rules.number_in
     one_outer fz =
         bind_eq _ _ _ (λ d p. bind_any _ _ _ (λ e. bind_any _ _ _ (λ u. bind_eq _ _ _ (λ m q.
-        (d, some_of (Rules.named (opened here outside) name) Rules.no-scope fz d p, ap (λ (v : ℕ). outer space (Num d) (Num v) z) (sym (ok_same n m q)))))))
+        (d, some_of (Rules.named (opened here outside) name) Rules.no_such_scope fz d p, ap (λ (v : ℕ). outer space (Num d) (Num v) z) (sym (ok_same n m q)))))))
 
     abbrev BecomesAt : ℕ → List Operand → Type 0
     BecomesAt o os = (x : Operand) × (get_elem? os o ≡ some x) × Becomes (opened here outside) space name n z x
@@ -144,7 +144,7 @@ outer_along : (way : List ℕ) (t : Scope) (outside : Outside) (k : ℕ) (q : Sc
 unfolding names_to Readings.around
 outer_along [] (scope kind nm fs) outside k q w ins outs names ls f o u space name n z low eq en ea eu ew =
     let E = ended_named kind nm fs outside k q low eq in
-    let U = Agree.use-inv (level w fs) ins f o u (ap (λ (v : List Level). Readings.use_in v f o) (some_same _ ls ea) ∙ eu) in
+    let U = Agree.use_inv (level w fs) ins f o u (ap (λ (v : List Level). Readings.use_in v f o) (some_same _ ls ea) ∙ eu) in
     let A = Agree.at_ended E.2 f U.0 U.1 in
     let now = holds_of _ _ A.e (head_outer space name n z (declarations fs) (seeing outside A.seen) A.b (head_of U.0) o (U.2 ∙ ap {B = Option Operand} some ew)) A.expands in
     let B = holds_of _ _ A.h (head_resolved space name n z E.0 (seeing outside A.seen) A.e.now o now) A.resolves in
@@ -173,7 +173,7 @@ outer_along (m ∷ way) (scope kind nm fs) outside k q w ins outs names ls f o u
     let around-in = subst (λ (x : Fields). Readings.around way (level (w ++ (m ∷ [])) x) (level w fs ∷ ins) ≡ some ls) same_fields a₂.2 in
     let R = outer_along way n₂.0 (inward (head_of n₁.0) E.0 (seeing outside A.seen)) I.k I.q (w ++ (m ∷ [])) (level w fs ∷ ins) (level w E.1 ∷ outs) names ls f o u space name n z I.low I.resolves names_in around-in eu ew in (
       R.0,
-      ap (λ (t : Scope). Readings.around (m ∷ way) (level w (fields_of t)) outs) E.3 ∙ Agree.around-step m way (level w E.1) outs A.q.0 (fields_of I.q.0) R.0 A.there I.holding R.1,
+      ap (λ (t : Scope). Readings.around (m ∷ way) (level w (fields_of t)) outs) E.3 ∙ Agree.around_step m way (level w E.1) outs A.q.0 (fields_of I.q.0) R.0 A.there I.holding R.1,
       R.2,
     )
 
@@ -214,7 +214,7 @@ number_stays rules s r p u w low eq eu ew none_there =
         let a₁ = then_some (Readings.around p.way (Readings.root s) []) _ u eu in
         let R = outer_along p.way s (at_root rules []) 0 r [] [] [] names a₁.0 p.field p.at u space name n z low eq en a₁.1 a₁.2 e in
         let same : R.2.0 ≡ d = some_same _ d (sym R.2.1 ∙ ed) in
-        (R.2.2, Agree.use-is [] [] r.0 p R.0 R.2.2 R.1 R.2.3, R.2.4 ∙ ap (λ (x : ℕ). outer space (Num x) (Num n) z) same)
+        (R.2.2, Agree.use_is [] [] r.0 p R.0 R.2.2 R.1 R.2.3, R.2.4 ∙ ap (λ (x : ℕ). outer space (Num x) (Num n) z) same)
 
     go : (o : Operand) → u.operand ≡ o → without_paths o ≡ true → (names : List ℕ) → names_to p.way s [] ≡ some names → written names o ≡ some w → Stands r.0 p (as_numbers w o)
     go (ref space (Num n) [] z) e t names en q = subst (λ (x : Written). Stands r.0 p (as_numbers x (ref space (Num n) [] z))) (some_same _ w q) (unchanged (ref space (Num n) [] z) e refl)
@@ -234,7 +234,7 @@ pub use_around : (t : Scope) (p : Place) (u : Use) → use_at t p ≡ some u →
 unfolding Readings.use_inside Readings.root
 use_around t p u e =
     let s₁ = then_some (Readings.around p.way (Readings.root t) []) _ u e in
-    s₁.1 ∙ ap {B = Option (List Level)} some (sym (Agree.use-levels s₁.0 p.field p.at u s₁.2))
+    s₁.1 ∙ ap {B = Option (List Level)} some (sym (Agree.use_levels s₁.0 p.field p.at u s₁.2))
 
 -- of an OUTER of two numbers: what these count to
 pub reads_outer : (t : Scope) (p : Place) (u : Use) (w : Written) → use_at t p ≡ some u → u.operand ≡ outer w.space (Num w.out) (Num w.number) w.z

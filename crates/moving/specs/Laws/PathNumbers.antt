@@ -44,7 +44,7 @@ module _ (space n q z : ℕ) where
   alone : (k code from : ℕ) (item : ℕ) (rest : List Head)
       → first_named (in_heads (export_alias code item (fresh k) from (Num n) q z ∷ rest)) item (fresh k) ≡ some (inserted (export_alias code item (fresh k) from (Num n) q z))
   unfolding Lookups.has export_alias if◌then◌else◌
-  alone k code from item rest = rw (Lookups.first-of-heads (export_alias code item (fresh k) from (Num n) q z) rest item (fresh k), eqb_same item, eqb_same (fresh k))
+  alone k code from item rest = rw (Lookups.first_of_heads (export_alias code item (fresh k) from (Num n) q z) rest item (fresh k), eqb_same item, eqb_same (fresh k))
 
   -- one PATH, or a space that may have several
   made : (qs : List ℕ) (k : ℕ) → (¬ (qs ≡ []) → leb space 6 ≡ false) → FirstMade space n q z k (path_aliases space (Num n) q qs z k)
@@ -60,7 +60,7 @@ module _ (space n q z : ℕ) where
 
   made_before : (b : ℕ) (xs ys : List Head) → FirstMade space n q z b xs → FirstMade space n q z b (xs ++ ys)
   made_before b xs ys M =
-      record { j = M.j; later = M.later; code = M.code; item = M.item; found = rw (Lookups.heads-append xs ys) (first_within (in_heads xs) (in_heads ys) M.item (fresh M.j) _ M.found) }
+      record { j = M.j; later = M.later; code = M.code; item = M.item; found = rw (Lookups.heads_append xs ys) (first_within (in_heads xs) (in_heads ys) M.item (fresh M.j) _ M.found) }
 
   made_after : (b b' : ℕ) (xs ys : List Head) → b ≤ b' → AllNew b b' xs → FirstMade space n q z b' ys → FirstMade space n q z b (xs ++ ys)
   unfolding fresh
@@ -71,8 +71,8 @@ module _ (space n q z : ℕ) where
         later = omega (arith, g, l);
         code = M.code;
         item = M.item;
-        found = rw (Lookups.heads-append xs ys)
-            (first_past (in_heads xs) (in_heads ys) M.item (fresh M.j) (Lookups.first-in-heads b b' xs M.item (fresh M.j) new (λ t p r. omega (arith, l, p, r))) ∙ M.found);
+        found = rw (Lookups.heads_append xs ys)
+            (first_past (in_heads xs) (in_heads ys) M.item (fresh M.j) (Lookups.first_in_heads b b' xs M.item (fresh M.j) new (λ t p r. omega (arith, l, p, r))) ∙ M.found);
       }
 
   module _ (qs : List ℕ) (few : ¬ (qs ≡ []) → leb space 6 ≡ false) (ds : List Declaration) (outside : Outside) where
@@ -122,7 +122,7 @@ path_number rules (scope kind name fs) r p u space n q qs z low eq eu eo code fe
     there : (t : Scope) {ls : List Level} (ls' : List Level) → Readings.around p.way (Readings.root t) [] ≡ some ls' → Arrived ls ls' → Readings.use_in ls p.field p.at ≡ some u
         → (l'' : Level) × (ls'' : List Level) × (Readings.around p.way (Readings.root t) [] ≡ some (l'' ∷ ls'')) × FirstAlias l'' space n q z
     there t {ls} ls' e D eu =
-        let U = Agree.use-inv (level D.w D.fs) D.ins p.field p.at u (ap (λ (v : List Level). Readings.use_in v p.field p.at) D.was ∙ eu) in
+        let U = Agree.use_inv (level D.w D.fs) D.ins p.field p.at u (ap (λ (v : List Level). Readings.use_in v p.field p.at) D.was ∙ eu) in
         let A = Agree.at_ended D.ends p.field U.0 U.1 in
         let c : here_only (head_of U.0).code ≡ false = ap (λ (h : Head). here_only h.code) U.3 ∙ code in
         let M = holds_of _ _ A.e (head_made space n q z qs few (declarations D.fs) (seeing D.outside A.seen) A.b (head_of U.0) p.at c (U.2 ∙ ap {B = Option Operand} some eo)) A.expands in

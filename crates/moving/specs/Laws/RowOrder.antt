@@ -12,7 +12,7 @@ use Rattle.places.specs.PlaceRows
 use Rattle.places.specs.PlaceRows.{Placed, originals_from, Floor, floor, floors, floors_at, field_at, row_of_operand, operand_row_at}
 use Rattle.moving.specs.Moved.{places_at, places_in, places_inside, places_of, places}
 use Rattle.rules.specs.Laws.Results.{some_same, no_option}
-use Rattle.places.specs.Counting.{map_append}
+use Rattle.places.specs.Counting.{map-append}
 use Rattle.places.specs.RowAt.{decls_length}
 use Rattle.places.specs.RowsApart.{one_row, item_length, own_length}
 use Rattle.places.specs.LocatedAt.{AtItsWay, field_is, floors_on}
@@ -53,7 +53,7 @@ order_append : {s : Scope} {lo mid hi : ℕ} {ps qs : List Place} → InOrder s 
 order_append {s} {ps = ps} {qs = qs} P Q =
     record {
       rows = P.rows ++ Q.rows;
-      are = map_append (row_of_operand s) ps qs ∙ (ap₂ (λ (a b : List (Option ℕ)). a ++ b) P.are Q.are ∙ sym (map_append some P.rows Q.rows));
+      are = map-append (row_of_operand s) ps qs ∙ (ap₂ (λ (a b : List (Option ℕ)). a ++ b) P.are Q.are ∙ sym (map-append some P.rows Q.rows));
       rising = rising_append P.rising Q.rising;
     }
 

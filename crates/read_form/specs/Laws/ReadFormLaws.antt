@@ -15,7 +15,7 @@ use Rattle.rules.specs.Reader.{read}
 use Rattle.rules.specs.Answer.{AnswerOf, refused, accepted, mark, has_header, setting_of, row_count, rows_in, form_in, rows_bytes, form_bytes}
 use Rattle.headers.specs.Laws.Written.{written_header}
 use Rattle.read_form.specs.ReadForm.{◌and_then◌, as_answer, read_form}
-use Rattle.rules.specs.Laws.ToolLaws.{Ok, false_not, eqb_same, leb_true, All, all_map}
+use Rattle.rules.specs.Laws.ToolLaws.{Ok, false_not, eqb_same, leb-true, All, all_map}
 use Rattle.rules.specs.Laws.RowLaws.{Written, legal_wider, Bytes, bytes_drop}
 use Rattle.rules.specs.Laws.Results.{no_option, some_same}
 use Rattle.rules.specs.Laws.Read.ReadRight.{read_right}
@@ -47,9 +47,9 @@ unfolding if◌then◌else◌
 past true n z c m a e = no_answer n z c a e
 past false n z c m a e = (refl, e)
 
-not_true : (b : Bool) → not b ≡ false → b ≡ true
-not_true true e = refl
-not_true false e = false_not (sym e)
+not-true : (b : Bool) → not b ≡ false → b ≡ true
+not-true true e = refl
+not-true false e = false_not (sym e)
 
 pub neither : (p q : Bool) → not p || not q ≡ false → (p ≡ true) × (q ≡ true)
 neither true true e = (refl, refl)
@@ -101,7 +101,7 @@ module _ (s : Setting) (input : List ℕ) where
         let p₂ = past (not (between 1 s.version.rows (row_count s.version input)) || not (eqb (length input) (s.version.header + 16 * row_count s.version input))) 2 0 [] _ t p₁.1 in
         let sized = neither _ _ p₂.0 in
         let r = (read_right s.rules s.version.scopes (rows_in s input) (form t)).0 (as_form _ t p₂.1) in
-        record { headed = not_true _ p₁.0; counted = sized.0; long = sized.1; is_form = r.0; low = r.1 },
+        record { headed = not-true _ p₁.0; counted = sized.0; long = sized.1; is_form = r.0; low = r.1 },
     λ h. unfold as_answer in (read_is h.headed h.counted h.long ∙ ap as_answer ((read_right s.rules s.version.scopes (rows_in s input) (form t)).1 (h.is_form, h.low))),
   )
 
@@ -188,7 +188,7 @@ written_read v c u four-rows fit reads_rows =
     let is_form = (read_right v.rules v.version.scopes (rows_in (as_claimed v) bytes-out) (form c)).0 reads in
     (read_exactly (as_claimed v) bytes-out c).1 (record {
       headed = claimed_header v bytes-out (written_header v (length out) (rows_bytes out) u.header);
-      counted = subst (λ (k : ℕ). between 1 (4 * v.version.rows) k ≡ true) (sym count) (and_both _ _ (leb_true (rows_some c)) (leb_true four-rows));
+      counted = subst (λ (k : ℕ). between 1 (4 * v.version.rows) k ≡ true) (sym count) (and_both _ _ (leb-true (rows_some c)) (leb-true four-rows));
       long = subst (λ (k : ℕ). eqb (length bytes-out) (v.version.header + 16 * k) ≡ true) (sym count)
           (subst (λ (k : ℕ). eqb k (v.version.header + 16 * length out) ≡ true) (sym long) (eqb_same (v.version.header + 16 * length out)));
       is_form = is_form.0;

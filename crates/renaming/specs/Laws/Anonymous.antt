@@ -13,7 +13,7 @@ use Rattle.rules.specs.Rows.{Row}
 use Rattle.rules.specs.Tree.{Scope, RowsRead, bad, deep, form}
 use Rattle.rules.specs.Reader.{read}
 use Rattle.rules.specs.Answer.{AnswerOf, refused, accepted, map_answer, setting_of, row_count, rows_in, answer, output_after, output}
-use Rattle.rules.specs.Laws.ToolLaws.{and_right, eqb_true, leb_le}
+use Rattle.rules.specs.Laws.ToolLaws.{and_right, eqb-true, leb_le}
 use Rattle.rules.specs.Laws.RowLaws.{Bytes}
 use Rattle.renaming.specs.Renaming.{KeepsOn, renamed_row, renamed_rows, renamed, renamed_in, renamed_for, renamed_bytes, names_of, firsts, place_of, by_first}
 use Rattle.renaming.specs.Anonymous.{key_in, after_reading, anonymous_in, anonymous_for, anonymous, anonymous_after, anonymous_output}
@@ -54,7 +54,7 @@ taken_in s input key room e =
         let same : accepted (key_in s input) ≡ accepted key = e in
         record {
           few = leb_le (row_count s.version input) s.version.rows (and_right (leb 1 (row_count s.version input)) (leb (row_count s.version input) s.version.rows) both.0);
-          long = eqb_true (length input) (s.version.header + 16 * row_count s.version input) both.1;
+          long = eqb-true (length input) (s.version.header + 16 * row_count s.version input) both.1;
           tree = t;
           reads = q;
           is_key = cc;

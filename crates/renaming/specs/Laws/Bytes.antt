@@ -19,7 +19,7 @@ use Rattle.rules.specs.Rules.{fresh, Result, ok, Env, resolve_inside}
 use Rattle.rules.specs.Answer
 use Rattle.rules.specs.Answer.{AnswerOf, refused, accepted, map_answer, Answer, mark, same_numbers, has_header, setting_of, row_count, rows_of, rows_in, resolved, scopes_left, after_reading, form_in, answer_in, answer_for, answer_inside, answer, form_bytes, written, output_after, output_for, output_inside, output}
 use Rattle.renaming.specs.Renaming.{Keeps, renamed_index, renamed_row, renamed_part, renamed_rows, renamed, renamed_in, renamed_for, renamed_bytes}
-use Rattle.rules.specs.Laws.ToolLaws.{Ok, All, done, ◌&◌, if_ok_lem, and_left, and_right, or_true, eqb_true, eqb_same, leb_true, leb_le, leb_lt}
+use Rattle.rules.specs.Laws.ToolLaws.{Ok, All, done, ◌&◌, if_ok_lem, and_left, and_right, or-true, eqb-true, eqb_same, leb-true, leb_le, leb_lt}
 use Rattle.rules.specs.Laws.RowLaws.{RawFits, FitsRaw, LegalIndex, Legal, Written, Bytes, bytes_drop, decode_written, row_again, drop_row}
 use Rattle.headers.specs.Laws.Settings.{part_same, headed, Plain, InForce, found_in, setting_stays}
 use Rattle.renaming.specs.Laws.Trees.{ren_scope, ren_env, map_r, if_ren, scope_rows, Faithful, renaming}
@@ -71,7 +71,7 @@ module _ (f : ℕ → ℕ) where
           apart = renamed_apart;
           none_stays = by_range (λ x. x ≡ 0) 0 (λ l h. absurd (omega (arith, l))) (λ out. refl);
           fresh_stays = λ k. by_range (λ x. x ≡ fresh k) (fresh k) (λ l h. absurd (omega (arith, h))) (λ out. refl);
-          range_stays = λ n. by_range (λ x. leb x top_name ≡ leb n top_name) n (λ l h. leb_true (w.within n l h).1 ∙ sym (leb_true h)) (λ out. refl);
+          range_stays = λ n. by_range (λ x. leb x top_name ≡ leb n top_name) n (λ l h. leb-true (w.within n l h).1 ∙ sym (leb-true h)) (λ out. refl);
         }
 
 -- ---- one row
@@ -260,7 +260,7 @@ module _ (f : ℕ → ℕ) (w : Keeps f) where
         ∙ (part_same j k (take h input) new (drop h input) (omega (arith, front_long)) ∙ ap (λ (x : List ℕ). take k (drop j x)) (take-append-drop h input))
 
     rest_long : 16 * count ≤ length (drop h input)
-    rest_long = omega (arith, length-drop h input, eqb_true (length input) (h + 16 * count) as_long)
+    rest_long = omega (arith, length-drop h input, eqb-true (length input) (h + 16 * count) as_long)
 
     same_length : length (renamed_in f s input) ≡ length input
     same_length =
@@ -310,7 +310,7 @@ module _ (f : ℕ → ℕ) (w : Keeps f) where
   short_ren : (around around' : List Env) (s : Setting) (input : List ℕ) (room : ℕ) → eqb (length input) (s.version.header + 16 * row_count s.version input) ≡ false
       → form_in around' s input room ≡ map_answer (ren_scope g) (form_in around s input room)
   unfolding form_in map_answer if◌then◌else◌
-  short_ren around around' s input room e = rw (e, or_true (not (between 1 s.version.rows (row_count s.version input))))
+  short_ren around around' s input room e = rw (e, or-true (not (between 1 s.version.rows (row_count s.version input))))
 
   -- the resolved form, under one setting
   pub form_renamed : (around : List Env) (s : Setting) (input : List ℕ) (room : ℕ) → Bytes input → Plain s → has_header s input ≡ true

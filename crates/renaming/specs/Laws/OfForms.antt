@@ -15,7 +15,7 @@ use Rattle.rules.specs.Rules.{fresh}
 use Rattle.rules.specs.Answer
 use Rattle.rules.specs.Answer.{AnswerOf, refused, accepted, map_answer, setting_of, row_count, rows_of, rows_in, form_in, answer_in, answer, output_after, output}
 use Rattle.renaming.specs.Renaming.{KeepsOn, renamed_index, renamed_row, renamed_rows, renamed, renamed_in, renamed_for, renamed_bytes, name_in, index_names, row_names, names_of, by_first}
-use Rattle.rules.specs.Laws.ToolLaws.{All, done, ◌&◌, false_not, and_left, and_right, eqb_same, eqb_false, leb_le}
+use Rattle.rules.specs.Laws.ToolLaws.{All, done, ◌&◌, false_not, and_left, and_right, eqb_same, eqb-false, leb_le}
 use Rattle.rules.specs.Laws.RowLaws.{Bytes}
 use Rattle.rules.specs.Laws.Read.ReadRight.{read_right}
 use Rattle.rules.specs.Laws.Read.BeginsWritten.{rows_length}
@@ -41,7 +41,7 @@ module _ (ns : List ℕ) where
 
   own_name : (n : ℕ) → ¬ (n ≡ 0) → is_in n (name_in n) ≡ true
   unfolding name_in if◌then◌else◌
-  own_name n h = rw (eqb_false n 0 h, eqb_same n)
+  own_name n h = rw (eqb-false n 0 h, eqb_same n)
 
   name_known : (n : ℕ) → ((m : ℕ) → is_in m (name_in n) ≡ true → is_in m ns ≡ true) → Known n
   name_known n a l h = a n (own_name n (λ e. omega (arith, l, e)))

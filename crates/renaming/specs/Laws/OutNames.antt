@@ -165,13 +165,13 @@ module _ (P : ℕ → Type 0) where
     paths_has space at p (q ∷ ps) z k h = export_has 9 10 k 10 at p z h & paths_has space (Id (fresh k)) q ps z (suc k) (new k)
 
     found_has : (space name z k : ℕ) (o : Option (ℕ × ℕ)) → P name → OkR (Both Operand OperandHas) (Rules.found_at space name z k o)
-    unfolding Rules.found_at Rules.through Rules.as-it-is
+    unfolding Rules.found_at Rules.through Rules.as_it_is
     found_has space name z k none h = record { now = h; inserted = done }
     found_has space name z k (some at) h = if_both (OkR (Both Operand OperandHas)) _ _ _ (record { now = new k; inserted = outer_has space k at.0 at.1 z & done }) tt
 
     module _ (ds : List Declaration) (outside : Outside) where
       operand_has : (k : ℕ) (o : Operand) → OperandHas o → OkR (Both Operand OperandHas) (expand_operand ds outside k o)
-      unfolding expand_operand Rules.through Rules.as-it-is
+      unfolding expand_operand Rules.through Rules.as_it_is
       operand_has k (ref space (Num n) [] z) h = record { now = tt; inserted = done }
       operand_has k (ref space (Id name) [] z) h =
           bind_any _ _ _ (λ u. if_both (OkR (Both Operand OperandHas)) _ _ _ (record { now = h; inserted = done }) (found_has space name z k _ h))
@@ -180,14 +180,14 @@ module _ (P : ℕ → Type 0) where
       operand_has k (case name z) h = record { now = h; inserted = done }
 
       operands_has : (k : ℕ) (os : List Operand) → All OperandHas os → OkR (Both (List Operand) (All OperandHas)) (expand_operands ds outside k os)
-      unfolding expand_operands Rules.as-it-is
+      unfolding expand_operands Rules.as_it_is
       operands_has k [] a = record { now = done; inserted = done }
       operands_has k (o ∷ os) (h & a) =
           bind_ok _ _ _ _ (operand_has k o h)
           (λ e p. bind_ok _ _ _ _ (operands_has e.k os a) (λ es q. record { now = p.now & q.now; inserted = all_append e.inserted es.inserted p.inserted q.inserted }))
 
       head_has : (k : ℕ) (h : Head) → HeadHas h → OkR (Both Head HeadHas) (expand_head ds outside k h)
-      unfolding expand_head Rules.as-it-is with_operands
+      unfolding expand_head Rules.as_it_is with_operands
       head_has k h a =
           if_both (OkR (Both Head HeadHas)) _ _ _ (record { now = a; inserted = done })
           (bind_ok _ _ _ _ (operands_has k h.operands a.operands) (λ e p. record { now = record { decls = a.decls; operands = p.now }; inserted = p.inserted }))

@@ -13,7 +13,7 @@ use Rattle.rules.specs.Versions.{top_name}
 use Rattle.rules.specs.Rows.{Index, Num, Id, Row, Field, Decl, Ref, Path, Outer, Case, Open, Close, Export, decode_row}
 use Rattle.rules.specs.Answer.{rows_of}
 use Rattle.renaming.specs.Renaming.{Keeps, KeepsOn, renamed_index, renamed_row, renamed_part, renamed_rows, renamed, name_in, index_names, row_names, names_of, firsts, place_of, by_first}
-use Rattle.rules.specs.Laws.ToolLaws.{Ok, All, done, ◌&◌, if_ok_lem, false_not, or_cases, or_true, eqb_true, eqb_same, eqb_false}
+use Rattle.rules.specs.Laws.ToolLaws.{Ok, All, done, ◌&◌, if_ok_lem, false_not, or_cases, or-true, eqb-true, eqb_same, eqb-false}
 use Rattle.rules.specs.Laws.RowLaws.{LegalIndex, Legal, decode_legal}
 use Rattle.renaming.specs.Laws.Bytes.{by_range}
 
@@ -28,8 +28,8 @@ not_same x y e q = false_not (sym e ∙ (ap (eqb x) (sym q) ∙ eqb_same x))
 swap_cases : (P : ℕ → Type 0) (a b x : ℕ) → (x ≡ a → P b) → (x ≡ b → P a) → (¬ (x ≡ a) → ¬ (x ≡ b) → P x) → P (swap a b x)
 unfolding swap
 swap_cases P a b x p q r =
-    if_ok_lem P (eqb x a) b _ (λ e. p (eqb_true x a e))
-    (λ e. if_ok_lem P (eqb x b) a x (λ e'. q (eqb_true x b e')) (λ e'. r (not_same x a e) (not_same x b e')))
+    if_ok_lem P (eqb x a) b _ (λ e. p (eqb-true x a e))
+    (λ e. if_ok_lem P (eqb x b) a x (λ e'. q (eqb-true x b e')) (λ e'. r (not_same x a e) (not_same x b e')))
 
 swap_apart : (a b x y : ℕ) → swap a b x ≡ swap a b y → x ≡ y
 swap_apart a b x y =
@@ -49,7 +49,7 @@ pub record Extended (ns : List ℕ) (f : ℕ → ℕ) : Type 0 where
   pub agrees : (n : ℕ) → is_in n ns ≡ true → whole n ≡ f n
 
 in_tail : (n m : ℕ) (ns : List ℕ) → is_in n ns ≡ true → is_in n (m ∷ ns) ≡ true
-in_tail n m ns e = rw e (or_true (eqb n m))
+in_tail n m ns e = rw e (or-true (eqb n m))
 
 in_head : (n : ℕ) (ns : List ℕ) → is_in n (n ∷ ns) ≡ true
 in_head n ns = rw (eqb_same n)
@@ -71,7 +71,7 @@ extend (n ∷ ns) f k r =
         apart = λ a b l h l' h' q. e.keeps.apart a b l h l' h' (swap_apart (g n) (f n) (g a) (g b) q);
       };
       agrees = λ m i. or_cases (eqb m n) (is_in m ns) i
-          (λ q. let is-n : m ≡ n = eqb_true m n q in
+          (λ q. let is-n : m ≡ n = eqb-true m n q in
           rw is-n (swap_cases (λ v. v ≡ f n) (g n) (f n) (g n) (λ p. refl) (λ p. p) (λ p q. absurd (p refl))))
           (λ q. swap_cases (λ v. v ≡ f m) (g n) (f n) (g m)
           (λ p. ap f (sym (same m i p)))
@@ -85,17 +85,17 @@ extend (n ∷ ns) f k r =
 
 pub in_left : (n : ℕ) (xs ys : List ℕ) → is_in n xs ≡ true → is_in n (xs ++ ys) ≡ true
 in_left n [] ys e = false_not e
-in_left n (x ∷ xs) ys e = or_cases (eqb n x) (is_in n xs) e (λ q. rw q) (λ q. rw (in_left n xs ys q) (or_true (eqb n x)))
+in_left n (x ∷ xs) ys e = or_cases (eqb n x) (is_in n xs) e (λ q. rw q) (λ q. rw (in_left n xs ys q) (or-true (eqb n x)))
 
 pub in_right : (n : ℕ) (xs ys : List ℕ) → is_in n ys ≡ true → is_in n (xs ++ ys) ≡ true
 in_right n [] ys e = e
-in_right n (x ∷ xs) ys e = rw (in_right n xs ys e) (or_true (eqb n x))
+in_right n (x ∷ xs) ys e = rw (in_right n xs ys e) (or-true (eqb n x))
 
 in_either : {P : Type 0} (n : ℕ) (xs ys : List ℕ) → is_in n (xs ++ ys) ≡ true → (is_in n xs ≡ true → P) → (is_in n ys ≡ true → P) → P
 in_either n [] ys e f g = g e
 in_either n (x ∷ xs) ys e f g =
     or_cases (eqb n x) (is_in n (xs ++ ys)) e (λ q. f (rw q))
-    (λ q. in_either n xs ys q (λ i. f (rw i (or_true (eqb n x)))) g)
+    (λ q. in_either n xs ys q (λ i. f (rw i (or-true (eqb n x)))) g)
 
 -- two mappings agree on these names
 abbrev Agree : (f g : ℕ → ℕ) → List ℕ → Type 0
@@ -115,7 +115,7 @@ module _ (f g : ℕ → ℕ) where
   name_agree n a = by_zero (eqb n 0) refl
     where
       by_zero : (b : Bool) → eqb n 0 ≡ b → renamed f n ≡ renamed g n
-      by_zero true e = zero_agree n (eqb_true n 0 e)
+      by_zero true e = zero_agree n (eqb-true n 0 e)
       by_zero false e = one_agree n (a n (unfold name_in if◌then◌else◌ in rw (e, eqb_same n)))
 
   index_agree : (i : Index) → Agree f g (index_names i) → renamed_index (renamed f) i ≡ renamed_index (renamed g) i
@@ -161,7 +161,7 @@ name_range m h n i = go (eqb m 0) refl i
     go : (b : Bool) → eqb m 0 ≡ b → is_in n (if b then [] else m ∷ []) ≡ true → (1 ≤ n) × (n ≤ top_name)
     go true e i = false_not (unfold if◌then◌else◌ in i)
     go false e i =
-        let is_m : n ≡ m = or_cases (eqb n m) false (unfold if◌then◌else◌ in i) (λ q. eqb_true n m q) (λ q. false_not q) in
+        let is_m : n ≡ m = or_cases (eqb n m) false (unfold if◌then◌else◌ in i) (λ q. eqb-true n m q) (λ q. false_not q) in
         let not_zero : ¬ (m ≡ 0) = not_same m 0 e in
         (omega (arith, is_m, not_zero), omega (arith, is_m, h))
 
@@ -205,7 +205,7 @@ place_apart (m ∷ ms) a b i e = go (eqb a m) refl (eqb b m) refl i e (λ j q. p
 
     go : (x : Bool) → eqb a m ≡ x → (y : Bool) → eqb b m ≡ y → x || is_in a ms ≡ true → (if x then 1 else suc (place_of ms a)) ≡ (if y then 1 else suc (place_of ms b))
         → (is_in a ms ≡ true → place_of ms a ≡ place_of ms b → a ≡ b) → a ≡ b
-    go true p true q i e rec = eqb_true a m p ∙ sym (eqb_true b m q)
+    go true p true q i e rec = eqb-true a m p ∙ sym (eqb-true b m q)
     go true p false q i e rec = let same : 1 ≡ suc (place_of ms b) = e in absurd (omega (arith, positive ms b, same))
     go false p true q i e rec = let same : suc (place_of ms a) ≡ 1 = e in absurd (omega (arith, positive ms a, same))
     go false p false q i e rec = let same : suc (place_of ms a) ≡ suc (place_of ms b) = e in rec i (omega (arith, same))
@@ -224,11 +224,11 @@ firsts_has seen [] n i = or_cases (is_in n seen) false i (λ q. q) (λ q. false_
 firsts_has seen (m ∷ ns) n i =
     if_ok_lem (λ l. is_in n l ≡ true) (is_in m seen) (firsts seen ns) (firsts (seen ++ (m ∷ [])) ns)
     (λ e. firsts_has seen ns n (or_cases (is_in n seen) (eqb n m || is_in n ns) i (λ q. rw q)
-    (λ q. or_cases (eqb n m) (is_in n ns) q (λ r. let is_m : n ≡ m = eqb_true n m r in let s : is_in n seen ≡ true = rw is_m e in rw s) (λ r. rw r (or_true (is_in n seen))))))
+    (λ q. or_cases (eqb n m) (is_in n ns) q (λ r. let is_m : n ≡ m = eqb-true n m r in let s : is_in n seen ≡ true = rw is_m e in rw s) (λ r. rw r (or-true (is_in n seen))))))
     (λ e. firsts_has (seen ++ (m ∷ [])) ns n (or_cases (is_in n seen) (eqb n m || is_in n ns) i (λ q. rw (in_left n seen (m ∷ []) q))
     (λ q. or_cases (eqb n m) (is_in n ns) q
     (λ r. let one : is_in n (m ∷ []) ≡ true = rw r in rw (in_right n seen (m ∷ []) one))
-    (λ r. rw r (or_true (is_in n (seen ++ (m ∷ []))))))))
+    (λ r. rw r (or-true (is_in n (seen ++ (m ∷ []))))))))
 
 firsts_long : (seen ns : List ℕ) → length (firsts seen ns) ≤ length seen + length ns
 unfolding firsts
@@ -285,7 +285,7 @@ neither_one true b e = false_not (sym e)
 neither_one false b e = (refl, e)
 
 not_in_snoc : (m n : ℕ) (ns : List ℕ) → is_in m ns ≡ false → ¬ (m ≡ n) → is_in m (ns ++ (n ∷ [])) ≡ false
-not_in_snoc m n [] e h = rw (eqb_false m n h)
+not_in_snoc m n [] e h = rw (eqb-false m n h)
 not_in_snoc m n (x ∷ ns) e h = let r = neither_one (eqb m x) (is_in m ns) e in rw r.0 (not_in_snoc m n ns r.1 h)
 
 different_snoc : (ns : List ℕ) (n : ℕ) → Different ns → is_in n ns ≡ false → Different (ns ++ (n ∷ []))
@@ -316,7 +316,7 @@ unfolding place_of if◌then◌else◌
 places_behind m ms [] e = refl
 places_behind m ms (x ∷ xs) e =
     let r = neither_one (eqb m x) (is_in m xs) e in
-    rw (eqb_false x m (λ q. not_same m x r.0 (sym q)), places_behind m ms xs r.1)
+    rw (eqb-false x m (λ q. not_same m x r.0 (sym q)), places_behind m ms xs r.1)
 
 places : (ms : List ℕ) → Different ms → map (place_of ms) ms ≡ counting 1 (length ms)
 unfolding place_of if◌then◌else◌

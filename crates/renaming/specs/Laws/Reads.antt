@@ -15,7 +15,7 @@ use Rattle.rules.specs.Shapes.{Want, Part, declares, parts, declared, is_empty, 
 use Rattle.rules.specs.Reader
 use Rattle.rules.specs.Reader.{Stage, declaring, wanting, pathing, exported, Current, between_fields, within, Around, root, inside, State, start, state, Next, wrong, on, whole, ◌◂◌, wanted, settled, up_to, step, run, read}
 use Rattle.renaming.specs.Renaming.{renamed_index, renamed_row}
-use Rattle.renaming.specs.Laws.Trees.{ren_decl, ren_operand, ren_head, ren_scope, ren_fields, ren_item, if_ren, map_append, Faithful, eqb_ren}
+use Rattle.renaming.specs.Laws.Trees.{ren_decl, ren_operand, ren_head, ren_scope, ren_fields, ren_item, if_ren, map-append, Faithful, eqb_ren}
 
 -- ---- where a reading stands
 
@@ -90,7 +90,7 @@ module _ (f : ℕ → ℕ) (w : Faithful f) where
 
   more_ren : (h : Head) (o : Operand) → Reader.more (ren_head f h) (ren_operand f o) ≡ ren_head f (Reader.more h o)
   unfolding Reader.more with_operands
-  more_ren h o = rw (map_append (ren_operand f) h.operands (o ∷ []))
+  more_ren h o = rw (map-append (ren_operand f) h.operands (o ∷ []))
 
   pathed_ren : (h : Head) (space : ℕ) (at : Index) (paths : List ℕ) (z left : ℕ) (ps : List Part)
       → Reader.pathed (ren_head f h) space (renamed_index f at) paths z left ps ≡ ren_current f (Reader.pathed h space at paths z left ps)
@@ -102,7 +102,7 @@ module _ (f : ℕ → ℕ) (w : Faithful f) where
       → Reader.declaration (ren_head f h) (ren_stage f stage) (ren_decl f d) ≡ Option.map (ren_current f) (Reader.declaration h stage d)
   unfolding Reader.declaration Reader.with_decl
   declaration_ren h declaring d =
-      rw (length-map h.decls (ren_decl f), ← map_append (ren_decl f) h.decls (d ∷ [])) (only_ren (ren_current f) _ _)
+      rw (length-map h.decls (ren_decl f), ← map-append (ren_decl f) h.decls (d ∷ [])) (only_ren (ren_current f) _ _)
   declaration_ren h (wanting ps) d = refl
   declaration_ren h (pathing space at paths z left ps) d = refl
   declaration_ren h exported d = refl

@@ -15,7 +15,7 @@ use Rattle.rules.specs.Tree.{Declaration, Operand, ref, outer, case, Head, Scope
 use Rattle.rules.specs.Rules
 use Rattle.rules.specs.Rules.{Refusal, Result, refused, ok, ◌>>=◌, Entry, decls_in, Env, table_of, Before, Outside, at_root, onward, opened, inward, find, distinct, walk, Expanded, expand_operand, expand_operands, expand_head, expand_fields, fresh, path_aliases, resolve_operands, resolve_head, resolve_inserted, prepare, resolve_scope, resolve_fields, resolve_item, declarations, entered, stand_in, inserted_entries, resolve_inside, Lookup, found, absent}
 use Rattle.renaming.specs.Renaming.{renamed_index, renamed_row}
-use Rattle.rules.specs.Laws.ToolLaws.{eqb_true, eqb_same}
+use Rattle.rules.specs.Laws.ToolLaws.{eqb-true, eqb_same}
 
 -- ---- a renaming of each thing
 
@@ -75,9 +75,9 @@ same_bool true b p q = sym (p refl)
 same_bool false true p q = q refl
 same_bool false false p q = refl
 
-pub map_append : {A B : Type 0} (g : A → B) (xs ys : List A) → map g (xs ++ ys) ≡ map g xs ++ map g ys
-map_append g [] ys = refl
-map_append g (x ∷ xs) ys = ap (λ (l : List _). g x ∷ l) (map_append g xs ys)
+pub map-append : {A B : Type 0} (g : A → B) (xs ys : List A) → map g (xs ++ ys) ≡ map g xs ++ map g ys
+map-append g [] ys = refl
+map-append g (x ∷ xs) ys = ap (λ (l : List _). g x ∷ l) (map-append g xs ys)
 
 -- ---- the rows of a renamed tree are the renamed rows
 
@@ -104,7 +104,7 @@ module _ (f : ℕ → ℕ) where
   operands_rows : (os : List Operand) → operand_rows (map (ren_operand f) os) ≡ R (operand_rows os)
   unfolding operand_rows
   operands_rows [] = refl
-  operands_rows (o ∷ os) = ap₂ ◌++◌ (operand_rows_lem o) (operands_rows os) ∙ sym (map_append (renamed_row f) (operand_row o) (operand_rows os))
+  operands_rows (o ∷ os) = ap₂ ◌++◌ (operand_rows_lem o) (operands_rows os) ∙ sym (map-append (renamed_row f) (operand_row o) (operand_rows os))
 
   export_rows_lem : (e : Option ℕ) → export_rows e ≡ R (export_rows e)
   unfolding export_rows renamed_row
@@ -116,8 +116,8 @@ module _ (f : ℕ → ℕ) where
   head_rows_lem h =
       ap (λ (l : List Row). Field h.code h.builtin h.z ∷ l)
       (ap₂ ◌++◌ (decls_rows h.decls)
-      (ap₂ ◌++◌ (operands_rows h.operands) (export_rows_lem h.export) ∙ sym (map_append (renamed_row f) (operand_rows h.operands) (export_rows h.export)))
-      ∙ sym (map_append (renamed_row f) (decl_rows h.decls) (operand_rows h.operands ++ export_rows h.export)))
+      (ap₂ ◌++◌ (operands_rows h.operands) (export_rows_lem h.export) ∙ sym (map-append (renamed_row f) (operand_rows h.operands) (export_rows h.export)))
+      ∙ sym (map-append (renamed_row f) (decl_rows h.decls) (operand_rows h.operands ++ export_rows h.export)))
 
   mutual
     unfolding flatten renamed_row
@@ -125,15 +125,15 @@ module _ (f : ℕ → ℕ) where
     pub scope_rows : (s : Scope) → flatten (ren_scope f s) ≡ R (flatten s)
     scope_rows (scope kind name fs) =
         ap (λ (l : List Row). Open kind (f name) ∷ l)
-        (ap (λ (l : List Row). l ++ (Close ∷ [])) (fields_rows_lem fs) ∙ sym (map_append (renamed_row f) (fields_rows fs) (Close ∷ [])))
+        (ap (λ (l : List Row). l ++ (Close ∷ [])) (fields_rows_lem fs) ∙ sym (map-append (renamed_row f) (fields_rows fs) (Close ∷ [])))
 
     fields_rows_lem : (fs : Fields) → fields_rows (ren_fields f fs) ≡ R (fields_rows fs)
     fields_rows_lem end = refl
-    fields_rows_lem (i ▸ fs) = ap₂ ◌++◌ (item_rows_lem i) (fields_rows_lem fs) ∙ sym (map_append (renamed_row f) (item_rows i) (fields_rows fs))
+    fields_rows_lem (i ▸ fs) = ap₂ ◌++◌ (item_rows_lem i) (fields_rows_lem fs) ∙ sym (map-append (renamed_row f) (item_rows i) (fields_rows fs))
 
     item_rows_lem : (i : Item) → item_rows (ren_item f i) ≡ R (item_rows i)
     item_rows_lem (plain h) = head_rows_lem h
-    item_rows_lem (holds h s) = ap₂ ◌++◌ (head_rows_lem h) (scope_rows s) ∙ sym (map_append (renamed_row f) (head_rows h) (flatten s))
+    item_rows_lem (holds h s) = ap₂ ◌++◌ (head_rows_lem h) (scope_rows s) ∙ sym (map-append (renamed_row f) (head_rows h) (flatten s))
 
   -- so there are as many
   operand_long_lem : (o : Operand) → length (operand_row (ren_operand f o)) ≡ length (operand_row o)
@@ -158,8 +158,8 @@ module _ (f : ℕ → ℕ) (w : Faithful f) where
   pub eqb_ren : (a b : ℕ) → eqb (f a) (f b) ≡ eqb a b
   eqb_ren a b =
       same_bool (eqb (f a) (f b)) (eqb a b)
-      (λ e. rw (w.apart a b (eqb_true (f a) (f b) e)) (eqb_same b))
-      (λ e. rw (eqb_true a b e) (eqb_same (f b)))
+      (λ e. rw (w.apart a b (eqb-true (f a) (f b) e)) (eqb_same b))
+      (λ e. rw (eqb-true a b e) (eqb_same (f b)))
 
   eqb_zero : (a : ℕ) → eqb (f a) 0 ≡ eqb a 0
   eqb_zero a = rw w.none_stays at (eqb_ren a 0)
@@ -226,7 +226,7 @@ module _ (f : ℕ → ℕ) (w : Faithful f) where
   distinct_ren before [] = refl
   distinct_ren before (d ∷ ds) =
       rw (eqb_zero d.name, find_ren before d.space d.name, first_ren before d.space d.name)
-      (if_ren (map_r D) _ _ _ _ _ refl (rw (map_append (ren_decl f) before (d ∷ [])) at (distinct_ren (before ++ (d ∷ [])) ds)))
+      (if_ren (map_r D) _ _ _ _ _ refl (rw (map-append (ren_decl f) before (d ∷ [])) at (distinct_ren (before ++ (d ∷ [])) ds)))
 
   -- ---- what comes later
 
@@ -292,7 +292,7 @@ module _ (f : ℕ → ℕ) (w : Faithful f) where
 
   found_at_ren : (space name z k : ℕ) (o : Option (ℕ × ℕ))
       → Rules.found_at space (f name) z k o ≡ map_r (ren_x (ren_operand f)) (Rules.found_at space name z k o)
-  unfolding Rules.found_at Rules.as-it-is
+  unfolding Rules.found_at Rules.as_it_is
   found_at_ren space name z k none = refl
   found_at_ren space name z k (some at) = if_ren (map_r (ren_x (ren_operand f))) _ _ _ _ _ (ap ok (rw (outer_ren space k at.0 at.1 z) at (through_ren space z k (Rules.outer_alias space (fresh k) at.0 at.1 z ∷ [])))) refl
 
@@ -305,7 +305,7 @@ module _ (f : ℕ → ℕ) (w : Faithful f) where
 
   expand_operand_ren : (here : List Declaration) (outside : Outside) (k : ℕ) (o : Operand)
       → expand_operand (D here) (U outside) k (ren_operand f o) ≡ map_r (ren_x (ren_operand f)) (expand_operand here outside k o)
-  unfolding expand_operand Rules.as-it-is
+  unfolding expand_operand Rules.as_it_is
   expand_operand_ren here outside k (ref space (Num n) [] z) = refl
   expand_operand_ren here outside k (ref space (Id name) [] z) =
       bind_ren (λ (u : Unit {0}). u) (ren_x (ren_operand f)) _ _ _ _ (in_time_ren _ _ z (late_name_ren here outside space name))
@@ -321,16 +321,16 @@ module _ (f : ℕ → ℕ) (w : Faithful f) where
 
   expand_operands_ren : (here : List Declaration) (outside : Outside) (k : ℕ) (os : List Operand)
       → expand_operands (D here) (U outside) k (O os) ≡ map_r (ren_x O) (expand_operands here outside k os)
-  unfolding expand_operands Rules.as-it-is O
+  unfolding expand_operands Rules.as_it_is O
   expand_operands_ren here outside k [] = refl
   expand_operands_ren here outside k (o ∷ os) =
       bind_ren (ren_x (ren_operand f)) (ren_x O) _ _ _ _ (expand_operand_ren here outside k o)
       (λ e. bind_ren (ren_x O) (ren_x O) _ _ _ _ (expand_operands_ren here outside e.k os)
-      (λ es. rw (map_append (ren_head f) e.inserted es.inserted, operand_long_lem f o)))
+      (λ es. rw (map-append (ren_head f) e.inserted es.inserted, operand_long_lem f o)))
 
   expand_head_ren : (here : List Declaration) (outside : Outside) (k : ℕ) (h : Head)
       → expand_head (D here) (U outside) k (ren_head f h) ≡ map_r (ren_x (ren_head f)) (expand_head here outside k h)
-  unfolding expand_head Rules.as-it-is with_operands O
+  unfolding expand_head Rules.as_it_is with_operands O
   expand_head_ren here outside k h =
       if_ren (map_r (ren_x (ren_head f))) _ _ _ _ _ refl
       (bind_ren (ren_x O) (ren_x (ren_head f)) _ _ _ _ (expand_operands_ren here outside k h.operands) (λ e. refl))
@@ -343,12 +343,12 @@ module _ (f : ℕ → ℕ) (w : Faithful f) where
   pub declarations_ren : (fs : Fields) → declarations (ren_fields f fs) ≡ D (declarations fs)
   unfolding declarations
   declarations_ren end = refl
-  declarations_ren (i ▸ fs) = rw (head_of_ren i, declarations_ren fs, map_append (ren_decl f) (head_of i).decls (declarations fs))
+  declarations_ren (i ▸ fs) = rw (head_of_ren i, declarations_ren fs, map-append (ren_decl f) (head_of i).decls (declarations fs))
 
   onward_ren : (i : Item) (o : Outside)
       → ◌≡◌ {A = Outside} (record { early = o.early; before = record { row = o.before.row + length (item_rows (ren_item f i)); decls = D o.before.decls ++ D (head_of i).decls }; scopes = E o.scopes })
       (U (onward i o))
-  onward_ren i o = rw (item_long_lem f i, map_append (ren_decl f) o.before.decls (head_of i).decls)
+  onward_ren i o = rw (item_long_lem f i, map-append (ren_decl f) o.before.decls (head_of i).decls)
 
   inward_ren : (h : Head) (here : Env) (o : Outside) → inward (ren_head f h) (ren_env f here) (U o) ≡ U (inward h here o)
   inward_ren h here o = rw (head_long_lem f h)
@@ -367,10 +367,10 @@ module _ (f : ℕ → ℕ) (w : Faithful f) where
   unfolding inserted_entries
   inserted_entries_ren row [] rows = refl
   inserted_entries_ren row (h ∷ hs) [] =
-      ap₂ ◌++◌ (stand_in_ren row h.decls) (inserted_entries_ren row hs []) ∙ sym (map_append (ren_entry f) (stand_in row h.decls) (inserted_entries row hs []))
+      ap₂ ◌++◌ (stand_in_ren row h.decls) (inserted_entries_ren row hs []) ∙ sym (map-append (ren_entry f) (stand_in row h.decls) (inserted_entries row hs []))
   inserted_entries_ren row (h ∷ hs) (n ∷ rows) =
       ap₂ ◌++◌ (stand_in_ren (row + n) h.decls) (inserted_entries_ren row hs rows)
-      ∙ sym (map_append (ren_entry f) (stand_in (row + n) h.decls) (inserted_entries row hs rows))
+      ∙ sym (map-append (ren_entry f) (stand_in (row + n) h.decls) (inserted_entries row hs rows))
 
   abbrev ren_p : {A : Type 0} → (A → A) → A × ℕ → A × ℕ
   ren_p g p = (g p.0, p.1)
@@ -379,8 +379,8 @@ module _ (f : ℕ → ℕ) (w : Faithful f) where
   added_ren : (row row' : ℕ) (hs : List Head) (rows : List ℕ) (ds : List Declaration) (es : List Entry)
       → inserted_entries row (H hs) rows ++ (entered row' (D ds) ++ N es) ≡ N (inserted_entries row hs rows ++ (entered row' ds ++ es))
   added_ren row row' hs rows ds es =
-      ap₂ ◌++◌ (inserted_entries_ren row hs rows) (ap (λ (l : List Entry). l ++ N es) (entered_ren row' ds) ∙ sym (map_append (ren_entry f) (entered row' ds) es))
-      ∙ sym (map_append (ren_entry f) (inserted_entries row hs rows) (entered row' ds ++ es))
+      ap₂ ◌++◌ (inserted_entries_ren row hs rows) (ap (λ (l : List Entry). l ++ N es) (entered_ren row' ds) ∙ sym (map-append (ren_entry f) (entered row' ds) es))
+      ∙ sym (map-append (ren_entry f) (inserted_entries row hs rows) (entered row' ds ++ es))
 
   expand_fields_ren : (here : List Declaration) (outside : Outside) (k : ℕ) (fs : Fields)
       → expand_fields (D here) (U outside) k (ren_fields f fs) ≡ map_r (ren_p N) (expand_fields here outside k fs)

@@ -301,10 +301,10 @@ refuses rules outside s n z carried e = go (resolve_inside rules outside s) e
 is_unknown : (why : Refusal) (carried : List ℕ) → number_of why ≡ 9 → carried_by why ≡ carried → (space : ℕ) × (why ≡ Rules.unknown space) × (carried ≡ space ∷ [])
 unfolding number_of carried_by
 is_unknown (Rules.twice space first) carried e c = absurd (omega arith)
-is_unknown Rules.not-exported carried e c = absurd (omega arith)
+is_unknown Rules.not_exported carried e c = absurd (omega arith)
 is_unknown (Rules.not_outer space) carried e c = absurd (omega arith)
 is_unknown (Rules.unknown space) carried e c = (space, refl, sym c)
-is_unknown Rules.no-scope carried e c = absurd (omega arith)
+is_unknown Rules.no_such_scope carried e c = absurd (omega arith)
 is_unknown Rules.too_far carried e c = absurd (omega arith)
 is_unknown Rules.case_twice carried e c = absurd (omega arith)
 is_unknown Rules.not_earlier carried e c = absurd (omega arith)
@@ -312,10 +312,10 @@ is_unknown Rules.not_earlier carried e c = absurd (omega arith)
 is_late_lem : (why : Refusal) → number_of why ≡ 13 → why ≡ Rules.not_earlier
 unfolding number_of
 is_late_lem (Rules.twice space first) e = absurd (omega arith)
-is_late_lem Rules.not-exported e = absurd (omega arith)
+is_late_lem Rules.not_exported e = absurd (omega arith)
 is_late_lem (Rules.not_outer space) e = absurd (omega arith)
 is_late_lem (Rules.unknown space) e = absurd (omega arith)
-is_late_lem Rules.no-scope e = absurd (omega arith)
+is_late_lem Rules.no_such_scope e = absurd (omega arith)
 is_late_lem Rules.too_far e = absurd (omega arith)
 is_late_lem Rules.case_twice e = absurd (omega arith)
 is_late_lem Rules.not_earlier e = refl

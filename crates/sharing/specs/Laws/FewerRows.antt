@@ -76,29 +76,29 @@ module _ {fs : Fields} {outside : Outside} {here : Env} {out' : Fields} (E : Clo
   nowhere {X} fz space name z low e x = go x.0 x.1
     where
       go : (now : Operand) → One here there fz (ref space (Id name) [] z) now → X
-      go now (one_ref n f) = no_option n (sym (OwnOperands.not-here E past 0 space name low e) ∙ named_number here.entries space name z n f)
+      go now (one_ref n f) = no_option n (sym (OwnOperands.not_here E past 0 space name low e) ∙ named_number here.entries space name z n f)
 
   found_all : (fz space name z k : ℕ) (o : Option (ℕ × ℕ)) → name ≤ top_name → find ds space name ≡ none → OkR (λ e. Passed fz e.now → 4 ≤ Grown operand_row e) (Rules.found_at space name z k o)
-  unfolding Rules.found_at Rules.through Rules.as-it-is Rules.outer_alias sizes head_rows decl_rows operand_rows operand_row path_rows export_rows
+  unfolding Rules.found_at Rules.through Rules.as_it_is Rules.outer_alias sizes head_rows decl_rows operand_rows operand_row path_rows export_rows
   found_all fz space name z k none low e = λ x. nowhere fz space name z low e x
   found_all fz space name z k (some at) low e = if_both (OkR _) _ _ _ (λ x. omega arith) tt
 
   operand_all : (fz k : ℕ) (o : Operand) → LowOperand o → OkR (λ e. Passed fz e.now → length (operand_row o) + adds ds o ≤ Grown operand_row e) (expand_operand ds there k o)
-  unfolding expand_operand adds Rules.as-it-is Rules.through sizes operand_row path_rows
+  unfolding expand_operand adds Rules.as_it_is Rules.through sizes operand_row path_rows
   operand_all fz k (ref space (Num n) [] z) l = λ x. omega arith
   operand_all fz k (ref space (Id name) [] z) l = bind_any _ _ _ (λ u. go (find ds space name) refl)
     where
       go : (o : Option ℕ) → find ds space name ≡ o
-          → OkR (λ e. Passed fz e.now → 1 + (if is_just o then 0 else 3) ≤ Grown operand_row e) (if is_just o then ok (Rules.as-it-is (ref space (Id name) [] z) k) else Rules.found_at space name z k (walk outside.scopes 1 space name))
+          → OkR (λ e. Passed fz e.now → 1 + (if is_just o then 0 else 3) ≤ Grown operand_row e) (if is_just o then ok (Rules.as_it_is (ref space (Id name) [] z) k) else Rules.found_at space name z k (walk outside.scopes 1 space name))
       go none e = unfold if◌then◌else◌ in found_all fz space name z k (walk outside.scopes 1 space name) l.1 e
-      go (some n) e = unfold if◌then◌else◌ Rules.as-it-is sizes operand_row path_rows in λ x. omega arith
-  operand_all fz k (ref space at (p ∷ ps) z) l = if_both (OkR _) _ _ _ tt (λ x. omega (arith, FourTimes.aliases-size space at p ps z k, paths_length ps))
+      go (some n) e = unfold if◌then◌else◌ Rules.as_it_is sizes operand_row path_rows in λ x. omega arith
+  operand_all fz k (ref space at (p ∷ ps) z) l = if_both (OkR _) _ _ _ tt (λ x. omega (arith, FourTimes.aliases_size space at p ps z k, paths_length ps))
   operand_all fz k (outer space up at z) l = λ x. omega arith
   operand_all fz k (case name z) l = λ x. omega arith
 
   operands_all : (fz k : ℕ) (os : List Operand) → LowOperands os
       → OkR (λ e. (cases : List ℕ) (os' : List Operand) → resolve_operands here there fz cases e.now ≡ ok os' → length (operand_rows os) + adds_all ds os ≤ Grown operand_rows e) (expand_operands ds there k os)
-  unfolding expand_operands adds_all Rules.as-it-is sizes operand_rows
+  unfolding expand_operands adds_all Rules.as_it_is sizes operand_rows
   operands_all fz k [] l = λ cases os' q. omega arith
   operands_all fz k (o ∷ os) l =
       bind_ok _ _ _ _ (operand_all fz k o l.0) (λ e f. bind_ok _ _ _ _ (operands_all fz e.k os l.1) (λ es g. λ cases os' q.
@@ -111,9 +111,9 @@ module _ {fs : Fields} {outside : Outside} {here : Env} {out' : Fields} (E : Clo
   head_all k h l = go (here_only h.code) refl
     where
       go : (b : Bool) → here_only h.code ≡ b → OkR (λ e. (h' : Head) → resolve_head here there e.now ≡ ok h' → length (head_rows h) + adds_head ds h ≤ Grown head_rows e) (expand_head ds there k h)
-      go true t = unfold expand_head adds_head if◌then◌else◌ Rules.as-it-is sizes in rw t (λ h' q. omega arith)
+      go true t = unfold expand_head adds_head if◌then◌else◌ Rules.as_it_is sizes in rw t (λ h' q. omega arith)
       go false t = unfold expand_head adds_head if◌then◌else◌ with_operands in rw t (bind_ok _ _ _ _ (operands_all h.z k h.operands l) (λ es f. λ h' q.
-          let a = f [] h'.operands (OwnOperands.resolved-operands E past 0 _ h' q) in
+          let a = f [] h'.operands (OwnOperands.resolved_operands E past 0 _ h' q) in
           omega (arith, a, head_length h, head_length (with_operands h es.now))))
 
 -- ---- the planner adds at most all
@@ -121,7 +121,7 @@ module _ {fs : Fields} {outside : Outside} {here : Env} {out' : Fields} (E : Clo
 module _ (here : List Declaration) (outside : Outside) where
   -- a name, whichever it is
   name_most : (k space name z : ℕ) → OkR (λ e. Grown operand_row e ≤ 4) (expand_operand here outside k (ref space (Id name) [] z))
-  name_most k space name z = weaken (expand_operand here outside k (ref space (Id name) [] z)) (FourTimes.operand-fits here outside k (ref space (Id name) [] z))
+  name_most k space name z = weaken (expand_operand here outside k (ref space (Id name) [] z)) (FourTimes.operand_fits here outside k (ref space (Id name) [] z))
     where
       one : length (operand_row (ref space (Id name) [] z)) ≡ 1
       one = unfold operand_row path_rows in refl
@@ -136,7 +136,7 @@ module _ (here : List Declaration) (outside : Outside) where
   outer_most seen k k' space name z (some j) = name_most k space (Rules.fresh j) z
 
   operand_most : (seen : List Served) (k k' : ℕ) (o : Operand) → OkR (λ e. Grown operand_row e ≤ length (operand_row o) + adds here o) (expand_operand here outside k (mark_operand here seen k' o).now)
-  unfolding mark_operand expand_operand adds Rules.as-it-is Rules.through sizes operand_row path_rows
+  unfolding mark_operand expand_operand adds Rules.as_it_is Rules.through sizes operand_row path_rows
   operand_most seen k k' (ref space (Num n) [] z) = omega arith
   operand_most seen k k' (ref space (Id name) [] z) = go (find here space name) refl
     where
@@ -144,23 +144,23 @@ module _ (here : List Declaration) (outside : Outside) where
           → OkR (λ e. Grown operand_row e ≤ 1 + (if is_just o then 0 else 3))
           (expand_operand here outside k (if◌then◌else◌ {A = Marked Operand} (is_just o) (record { now = ref space (Id name) [] z; seen = seen; k = k' }) (mark_outer seen k' space name z (served_by seen space name))).now)
       go none e = unfold if◌then◌else◌ in outer_most seen k k' space name z (served_by seen space name)
-      go (some n) e = unfold if◌then◌else◌ expand_operand Rules.as-it-is sizes operand_row path_rows in bind_any _ _ _ (λ u. rw e (omega arith))
-  operand_most seen k k' (ref space at (p ∷ ps) z) = if_both (OkR _) _ _ _ tt (omega (arith, FourTimes.aliases-size space at p ps z k, paths_length ps))
+      go (some n) e = unfold if◌then◌else◌ expand_operand Rules.as_it_is sizes operand_row path_rows in bind_any _ _ _ (λ u. rw e (omega arith))
+  operand_most seen k k' (ref space at (p ∷ ps) z) = if_both (OkR _) _ _ _ tt (omega (arith, FourTimes.aliases_size space at p ps z k, paths_length ps))
   operand_most seen k k' (outer space up at z) = omega arith
   operand_most seen k k' (case name z) = omega arith
 
   operands_most : (seen : List Served) (k k' : ℕ) (os : List Operand) → OkR (λ e. Grown operand_rows e ≤ length (operand_rows os) + adds_all here os) (expand_operands here outside k (mark_operands here seen k' os).now)
-  unfolding mark_operands expand_operands adds_all Rules.as-it-is sizes operand_rows
+  unfolding mark_operands expand_operands adds_all Rules.as_it_is sizes operand_rows
   operands_most seen k k' [] = omega arith
   operands_most seen k k' (o ∷ os) =
       bind_ok _ _ _ _ (operand_most seen k k' o) (λ e a. bind_ok _ _ _ _ (operands_most (mark_operand here seen k' o).seen e.k (mark_operand here seen k' o).k os) (λ es b.
       omega (arith, a, b, sizes_append e.inserted es.inserted, length-append (operand_row e.now) (operand_rows es.now), length-append (operand_row o) (operand_rows os))))
 
   head_most : (seen : List Served) (k k' : ℕ) (h : Head) → OkR (λ e. Grown head_rows e ≤ length (head_rows h) + adds_head here h) (expand_head here outside k (mark_head here seen k' h).now)
-  head_most seen k k' h = subst (λ (m : Marked Head). OkR (λ (e : Expanded Head). Grown head_rows e ≤ length (head_rows h) + adds_head here h) (expand_head here outside k m.now)) (sym (Planned.head-by here seen k' h)) (go (here_only h.code) refl)
+  head_most seen k k' h = subst (λ (m : Marked Head). OkR (λ (e : Expanded Head). Grown head_rows e ≤ length (head_rows h) + adds_head here h) (expand_head here outside k m.now)) (sym (Planned.head_by_lem here seen k' h)) (go (here_only h.code) refl)
     where
       go : (b : Bool) → here_only h.code ≡ b → OkR (λ e. Grown head_rows e ≤ length (head_rows h) + adds_head here h) (expand_head here outside k (Planned.head_by b here seen k' h).now)
-      go true t = unfold expand_head adds_head if◌then◌else◌ Rules.as-it-is sizes in rw t (omega arith)
+      go true t = unfold expand_head adds_head if◌then◌else◌ Rules.as_it_is sizes in rw t (omega arith)
       go false t = unfold expand_head adds_head if◌then◌else◌ with_operands in rw t (bind_ok _ _ _ _ (operands_most seen k k' h.operands) (λ es a.
           omega (arith, a, head_length h, head_length (with_operands h es.now), head_length (with_operands h (mark_operands here seen k' h.operands).now))))
 
@@ -193,7 +193,7 @@ ran_rows {here = here} {outside = outside} R =
     let same : sizes R.new ≡ sizes R.e.inserted = holds_of (λ (x : List Head). sizes x ≡ sizes R.e.inserted) _ R.new (FourTimes.inserted_same here outside R.e.inserted) R.adds in
     let all = ap (λ (x : Fields × ℕ). length (fields_rows x.0)) (sym R.result) in (
       all ∙ omega (arith, same, before_size R.new (R.q.0 ▸ R.rs.0), fields_size R.q.0 R.rs.0),
-      holds_of (λ (x : Head). length (head_rows x) ≡ length (head_rows R.e.now)) _ R.h (FourTimes.head-same here outside R.e.now) R.resolves,
+      holds_of (λ (x : Head). length (head_rows x) ≡ length (head_rows R.e.now)) _ R.h (FourTimes.head_same here outside R.e.now) R.resolves,
     )
 
 mutual
@@ -242,8 +242,8 @@ mutual
   scope_most : (s : Scope) (outside : Outside) (k k' : ℕ) (q : Scope × ℕ) → LowScope s → resolve_scope (mark_scope s k').0 outside k ≡ ok q → length (flatten q.0) ≤ length (flatten s) + adds_scope s
   scope_most (scope kind name fs) outside k k' q low eq =
       let L = (subst (λ (x : Scope × ℕ). LikeScope (k' + length (flatten (scope kind name fs))) (scope kind name fs) x.0) (scope_marks_lem kind name fs k') (scope_like (scope kind name fs) k')).2 in
-      let X = entered kind name (marks fs k').0 outside k q (Marks.like-declared-fields _ fs (marks fs k').0 L (low_fields fs low.1)) (subst (λ (x : Scope × ℕ). resolve_scope x.0 outside k ≡ ok q) (scope_marks_lem kind name fs k') eq) in
-      let same : declarations (marks fs k').0 ≡ declarations fs = Marks.like-declarations _ fs (marks fs k').0 L in
+      let X = entered kind name (marks fs k').0 outside k q (Marks.like_declared_fields _ fs (marks fs k').0 L (low_fields fs low.1)) (subst (λ (x : Scope × ℕ). resolve_scope x.0 outside k ≡ ok q) (scope_marks_lem kind name fs k') eq) in
+      let same : declarations (marks fs k').0 ≡ declarations fs = Marks.like_declarations _ fs (marks fs k').0 L in
       let run : resolve_fields (marks fs k').0 (declarations fs) X.here outside k X.k' ≡ ok (X.out', X.k'') =
       subst (λ (ds : List Declaration). resolve_fields (marks fs k').0 ds X.here outside k X.k' ≡ ok (X.out', X.k'')) same X.resolves in
       let T = fields_most fs (declarations fs) [] X.here outside k k' X.k' (inside fs k') (X.out', X.k'') low.1 run in

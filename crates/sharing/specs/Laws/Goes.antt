@@ -19,7 +19,7 @@ use Rattle.rules.specs.Shapes.{FOUR, here_only, paths_ok}
 use Rattle.rules.specs.Rules
 use Rattle.rules.specs.Rules.{Refusal, Result, ok, ◌>>=◌, Entry, decls_in, Env, table_of, Before, Outside, at_root, onward, inward, opened, find, fresh, walk, declarations, heads_decls, Expanded, expand_operand, expand_operands, expand_head, expand_fields, path_aliases, export_alias, outer_alias, number_in, nth, named, resolve_outer, resolve_operands, resolve_head, resolve_inserted, resolve_scope, resolve_fields, resolve_item, resolve}
 use Rattle.sharing.specs.Sharing.{Served, served_by, Marked, mark_outer, mark_operand, mark_operands, mark_head, insertions, mark_scope, mark_fields, mark_item, mark, propose}
-use Rattle.rules.specs.Laws.ToolLaws.{Ok, ok_at, false_not, eqb_same, leb_le, leb_false, and_false, All, done, ◌&◌, all_append, or_true}
+use Rattle.rules.specs.Laws.ToolLaws.{Ok, ok_at, false_not, eqb_same, leb_le, leb-false, and-false, All, done, ◌&◌, all_append, or-true}
 use Rattle.rules.specs.Laws.RowLaws.{LegalIndex}
 use Rattle.rules.specs.Laws.Results.{OkR, bind_ok, bind_any, bind_eq, if_both, holds_of, bind_inv, bind_known, no_result, ok_same, no_option}
 use Rattle.rules.specs.Laws.Entries
@@ -152,11 +152,11 @@ nowhere_late (e ∷ es) d space n w = go (find (table_of e) space n) w (λ q. no
 
 fresh_late : (ds : List Declaration) (o : Outside) (space j : ℕ) → find ds space (fresh j) ≡ none → walk o.scopes 1 space (fresh j) ≡ none → Rules.late_name ds o space (fresh j) ≡ false
 unfolding Rules.late_name if◌then◌else◌
-fresh_late ds o space j e w = rw (e, nowhere_late o.scopes 1 space (fresh j) w) (and_false o.early)
+fresh_late ds o space j e w = rw (e, nowhere_late o.scopes 1 space (fresh j) w) (and-false o.early)
 
 -- a walked name that comes in time
 name_expands : (ds : List Declaration) (o : Outside) (k space n z : ℕ) → Rules.late_name ds o space n ≡ false
-    → expand_operand ds o k (ref space (Id n) [] z) ≡ (if is_just (find ds space n) then ok (Rules.as-it-is (ref space (Id n) [] z) k) else Rules.found_at space n z k (walk o.scopes 1 space n))
+    → expand_operand ds o k (ref space (Id n) [] z) ≡ (if is_just (find ds space n) then ok (Rules.as_it_is (ref space (Id n) [] z) k) else Rules.found_at space n z k (walk o.scopes 1 space n))
 unfolding expand_operand Rules.in_time ◌>>=◌ if◌then◌else◌
 name_expands ds o k space n z e = rw e
 
@@ -254,7 +254,7 @@ module _ (here₀ here : Env) (outside₀ outside : Outside) (likes : LikeOutsid
   sub_left xs ys s space n e = s space n (just_append xs ys space n ∙ rw e)
 
   sub_right : (xs ys : List Declaration) → SubIn (xs ++ ys) → SubIn ys
-  sub_right xs ys s space n e = s space n (just_append xs ys space n ∙ rw e (or_true (is_just (find xs space n))))
+  sub_right xs ys s space n e = s space n (just_append xs ys space n ∙ rw e (or-true (is_just (find xs space n))))
 
   abbrev Held : List Served → Type 0
   Held seen = All (λ m. Has m.space (fresh m.k)) seen
@@ -295,7 +295,7 @@ module _ (here₀ here : Env) (outside₀ outside : Outside) (likes : LikeOutsid
 
   fresh_instance : (from j z : ℕ) → Rules.late_instance here outside (ref from (Id (fresh j)) [] z ∷ []) ≡ false
   unfolding Rules.late_instance fresh
-  fresh_instance from j z = rw (leb_false (fresh j) top_name (omega arith)) (and_false outside.early)
+  fresh_instance from j z = rw (leb-false (fresh j) top_name (omega arith)) (and-false outside.early)
 
   -- aliases of exports
   alias_goes : (code space n from : ℕ) (at : Index) (p z : ℕ) → IsOk (number_in here.entries from at z) → IsOk (resolve_head here outside (export_alias code space n from at p z))
@@ -325,7 +325,7 @@ module _ (here₀ here : Env) (outside₀ outside : Outside) (likes : LikeOutsid
   alias_was code space n from at p z hs h =
       let s₀ = bind_inv (Rules.in_time (Rules.late_instance here₀ outside₀ (export_alias code space n from at p z).operands) (export_alias code space n from at p z).z) _ h.0 h.1 in
       let s₁ = bind_inv (resolve_head here₀ outside₀ (export_alias code space n from at p z)) _ h.0 s₀.2 in
-      let X = OwnOperands.export-resolved here₀ outside₀ code space n from at p z s₁.0 s₁.1 in
+      let X = OwnOperands.export_resolved here₀ outside₀ code space n from at p z s₁.0 s₁.1 in
       ((X.0, X.1), unfold export_alias in was_in_time _ _ s₀.0 s₀.1)
 
   paths_go : (space : ℕ) (at : Index) (p : ℕ) (ps : List ℕ) (z k : ℕ) → paths_ok space (suc (length ps)) ≡ true → IsOk (number_in here.entries (from_space space ps) at z)
@@ -338,15 +338,15 @@ module _ (here₀ here : Env) (outside₀ outside : Outside) (likes : LikeOutsid
       go true h late = unfold if◌then◌else◌ in alias_first 10 space (fresh k) 6 at p z [] late h none_inserted
       go false h late = unfold if◌then◌else◌ in alias_first 9 space (fresh k) 10 at p z [] late h none_inserted
   paths_go space at p (q ∷ ps) z k t h late s =
-      let high = OwnOperands.high-space space (length ps) t in
+      let high = OwnOperands.high_space space (length ps) t in
       let sub = subst SubIn (alias_decl 9 10 (fresh k) 10 at p z (path_aliases space (Id (fresh k)) q ps z (suc k))) s in
       let has : Has 10 (fresh k) = sub 10 (fresh k) (just_here 10 (fresh k) z _) in
       alias_first 9 10 (fresh k) 10 at p z (path_aliases space (Id (fresh k)) q ps z (suc k)) late h
-      (paths_go space (Id (fresh k)) q ps z (suc k) (OwnOperands.high-any space (suc (length ps)) high)
+      (paths_go space (Id (fresh k)) q ps z (suc k) (OwnOperands.high_any space (suc (length ps)) high)
       (subst (λ (y : ℕ). IsOk (number_in here.entries y (Id (fresh k)) z)) (sym (high_from space ps high)) (has_number 10 k z has)) (fresh_instance (from_space space ps) k z) (λ sp n e. sub sp n (just_later _ _ sp n e)))
     where
       high_from : (space : ℕ) (ps : List ℕ) → leb 7 space ≡ true → from_space space ps ≡ 10
-      high_from space [] t = let l = leb_le 7 space t in unfold from_space if◌then◌else◌ in rw (leb_false space 6 (omega arith))
+      high_from space [] t = let l = leb_le 7 space t in unfold from_space if◌then◌else◌ in rw (leb-false space 6 (omega arith))
       high_from space (q ∷ ps) t = unfold from_space in refl
 
   paths_first : (space : ℕ) (at : Index) (p : ℕ) (ps : List ℕ) (z k : ℕ) → IsOk (resolve_inserted here₀ outside₀ (path_aliases space at p ps z k))
@@ -375,8 +375,8 @@ module _ (here₀ here : Env) (outside₀ outside : Outside) (likes : LikeOutsid
 
   -- ---- step B of an operand
 
-  kept : (o : Operand) (seen : List Served) (k₀ k k' : ℕ) → LowOperand o → k ≡ k' → Sim seen (record { now = o; seen = seen; k = k' }) (Rules.as-it-is o k₀) (Rules.as-it-is o k)
-  unfolding Rules.as-it-is
+  kept : (o : Operand) (seen : List Served) (k₀ k k' : ℕ) → LowOperand o → k ≡ k' → Sim seen (record { now = o; seen = seen; k = k' }) (Rules.as_it_is o k₀) (Rules.as_it_is o k)
+  unfolding Rules.as_it_is
   kept o seen k₀ k k' l q = record { next = q; pair = λ s h. input l; goes = λ s h. none_inserted; held = λ s h. h }
 
   outer_decl : (space n d i z : ℕ) → heads_decls (outer_alias space n d i z ∷ []) ≡ record { space = space; name = n; z = z } ∷ []
@@ -411,9 +411,9 @@ module _ (here₀ here : Env) (outside₀ outside : Outside) (likes : LikeOutsid
   unfolding mark_outer
   later_go seen k k' space n z j e₀ at b f late q =
       let unseen : walk outside.scopes 1 space (fresh j) ≡ none = under 1 space j (ok_at (λ (x : ℕ). start ≤ x) _ j (served_holds (λ (m : Served). start ≤ m.k) seen space n late) f) in (
-        Rules.as-it-is (ref space (Id (fresh j)) [] z) k,
+        Rules.as_it_is (ref space (Id (fresh j)) [] z) k,
         name_expands ds outside k space (fresh j) z (fresh_late ds outside space j (unnamed space j) unseen) ∙ stays unseen,
-        unfold Rules.as-it-is in
+        unfold Rules.as_it_is in
             record {
               next = q;
               pair = λ s h. subst (λ (x : Operand). Pair x (ref space (Id (fresh j)) [] z)) (sym b) (new j (ok_at (λ (x : ℕ). Has space (fresh x)) _ j (served_holds (λ (m : Served). Has m.space (fresh m.k)) seen space n h) f));
@@ -423,7 +423,7 @@ module _ (here₀ here : Env) (outside₀ outside : Outside) (likes : LikeOutsid
       )
     where
       stays : walk outside.scopes 1 space (fresh j) ≡ none
-          → (if is_just (find ds space (fresh j)) then ok (Rules.as-it-is (ref space (Id (fresh j)) [] z) k) else Rules.found_at space (fresh j) z k (walk outside.scopes 1 space (fresh j))) ≡ ok (Rules.as-it-is (ref space (Id (fresh j)) [] z) k)
+          → (if is_just (find ds space (fresh j)) then ok (Rules.as_it_is (ref space (Id (fresh j)) [] z) k) else Rules.found_at space (fresh j) z k (walk outside.scopes 1 space (fresh j))) ≡ ok (Rules.as_it_is (ref space (Id (fresh j)) [] z) k)
       stays unseen = unfold Rules.found_at if◌then◌else◌ in rw (unnamed space j, unseen)
 
   outer_go : (seen : List Served) (k k' space n z : ℕ) (o : Option ℕ) (e₀ : Expanded Operand) (at : Index) → e₀.now ≡ ref space at [] z → is_in space FOUR ≡ true → is_just (walk outside.scopes 1 space n) ≡ true → find ds space n ≡ none
@@ -445,22 +445,22 @@ module _ (here₀ here : Env) (outside₀ outside : Outside) (likes : LikeOutsid
   name_go : (seen : List Served) (k₀ k k' space n z : ℕ) (o : Option ℕ) → LowOperand (ref space (Id n) [] z) → is_just (find ds space n) || is_just (walk outside₀.scopes 1 space n) ≡ true → find ds space n ≡ o
       → Rules.late_name ds outside space n ≡ false → Late start seen → k ≡ k'
       → OkR (Goes seen k (if is_just o then record { now = ref space (Id n) [] z; seen = seen; k = k' } else mark_outer seen k' space n z (served_by seen space n)))
-      (if is_just o then ok (Rules.as-it-is (ref space (Id n) [] z) k₀) else Rules.found_at space n z k₀ (walk outside₀.scopes 1 space n))
+      (if is_just o then ok (Rules.as_it_is (ref space (Id n) [] z) k₀) else Rules.found_at space n z k₀ (walk outside₀.scopes 1 space n))
   unfolding if◌then◌else◌
   name_go seen k₀ k k' space n z none l r e time late q =
       let far₀ : is_just (walk outside₀.scopes 1 space n) ≡ true = rw e at r in
       found_go seen k₀ k k' space n z (walk outside₀.scopes 1 space n) far₀ (walk_like outside₀.scopes outside.scopes 1 space n likes.scopes l.1 ∙ far₀) e time late q
   name_go seen k₀ k k' space n z (some m) l r e time late q =
-      (Rules.as-it-is (ref space (Id n) [] z) k, name_expands ds outside k space n z time ∙ (unfold if◌then◌else◌ in rw e), kept (ref space (Id n) [] z) seen k₀ k k' l q)
+      (Rules.as_it_is (ref space (Id n) [] z) k, name_expands ds outside k space n z time ∙ (unfold if◌then◌else◌ in rw e), kept (ref space (Id n) [] z) seen k₀ k k' l q)
 
   operand_go : (seen : List Served) (k₀ k k' : ℕ) (o : Operand) → LowOperand o → PathsOk o → Reaches o → Late start seen → k ≡ k' → OkR (Goes seen k (mark_operand ds seen k' o)) (expand_operand ds outside₀ k₀ o)
   unfolding expand_operand mark_operand
-  operand_go seen k₀ k k' (ref space (Num n) [] z) l t r late q = (Rules.as-it-is (ref space (Num n) [] z) k, refl, kept (ref space (Num n) [] z) seen k₀ k k' l q)
+  operand_go seen k₀ k k' (ref space (Num n) [] z) l t r late q = (Rules.as_it_is (ref space (Num n) [] z) k, refl, kept (ref space (Num n) [] z) seen k₀ k k' l q)
   operand_go seen k₀ k k' (ref space (Id n) [] z) l t r late q =
       bind_eq _ _ _ (λ u p. name_go seen k₀ k k' space n z (find ds space n) l r refl (late_like ds outside₀ outside space n likes l.1 ∙ was_in_time _ z u p) late q)
   operand_go seen k₀ k k' (ref space at (p ∷ ps) z) l t r late q = go (is_in space (4 ∷ 6 ∷ [])) refl
     where
-      go : (b : Bool) → is_in space (4 ∷ 6 ∷ []) ≡ b → OkR (Goes seen k (record { now = ref space at (p ∷ ps) z; seen = seen; k = suc (k' + length ps) })) (if b then Result.refused Rules.not-exported z else ok (Rules.through space z (k₀ + length ps) (path_aliases space at p ps z k₀)))
+      go : (b : Bool) → is_in space (4 ∷ 6 ∷ []) ≡ b → OkR (Goes seen k (record { now = ref space at (p ∷ ps) z; seen = seen; k = suc (k' + length ps) })) (if b then Result.refused Rules.not_exported z else ok (Rules.through space z (k₀ + length ps) (path_aliases space at p ps z k₀)))
       go true e = unfold if◌then◌else◌ in tt
       go false e = unfold if◌then◌else◌ expand_operand Rules.through in (
         Rules.through space z (k + length ps) (path_aliases space at p ps z k),
@@ -474,8 +474,8 @@ module _ (here₀ here : Env) (outside₀ outside : Outside) (likes : LikeOutsid
           held = λ s h. h;
         },
       )
-  operand_go seen k₀ k k' (outer space up at z) l t r late q = (Rules.as-it-is (outer space up at z) k, refl, kept (outer space up at z) seen k₀ k k' l q)
-  operand_go seen k₀ k k' (case n z) l t r late q = (Rules.as-it-is (case n z) k, refl, kept (case n z) seen k₀ k k' l q)
+  operand_go seen k₀ k k' (outer space up at z) l t r late q = (Rules.as_it_is (outer space up at z) k, refl, kept (outer space up at z) seen k₀ k k' l q)
+  operand_go seen k₀ k k' (case n z) l t r late q = (Rules.as_it_is (case n z) k, refl, kept (case n z) seen k₀ k k' l q)
 
   -- ---- the operands of a field
 
@@ -522,7 +522,7 @@ module _ (here₀ here : Env) (outside₀ outside : Outside) (likes : LikeOutsid
 
   operands_go : (seen : List Served) (k₀ k k' : ℕ) (os : List Operand) → LowOperands os → All PathsOk os → AllReach os → Late start seen → start ≤ k' → k ≡ k'
       → OkR (λ e₀. (e : Expanded (List Operand)) × (expand_operands ds outside k (mark_operands ds seen k' os).now ≡ ok e) × Sims Pairs seen (mark_operands ds seen k' os) e₀ e) (expand_operands ds outside₀ k₀ os)
-  unfolding expand_operands mark_operands Rules.as-it-is
+  unfolding expand_operands mark_operands Rules.as_it_is
   operands_go seen k₀ k k' [] l t r late h q = (record { inserted = []; rows = []; now = []; k = k }, refl, record { next = q; pairs = λ s g. no_pairs; goes = λ s g. none_inserted; held = λ s g. g })
   operands_go seen k₀ k k' (o ∷ os) l (t & ts) (r & rs) late h q =
       let m = mark_operand ds seen k' o in
@@ -580,11 +580,11 @@ module _ (here₀ here : Env) (outside₀ outside : Outside) (likes : LikeOutsid
   head_go : (seen : List Served) (k₀ k k' : ℕ) (h : Head) → LowOperands h.operands → All PathsOk h.operands → (here_only h.code ≡ false → AllReach h.operands) → Late start seen → start ≤ k' → k ≡ k'
       → OkR (λ e₀. (e : Expanded Head) × (expand_head ds outside k (mark_head ds seen k' h).now ≡ ok e) × Sims HeadGoes seen (mark_head ds seen k' h) e₀ e) (expand_head ds outside₀ k₀ h)
   head_go seen k₀ k k' h l t r late s q =
-      subst (λ (m : Marked Head). OkR (λ (e₀ : Expanded Head). (e : Expanded Head) × (expand_head ds outside k m.now ≡ ok e) × Sims HeadGoes seen m e₀ e) (expand_head ds outside₀ k₀ h)) (sym (Planned.head-by ds seen k' h)) (go (here_only h.code) refl)
+      subst (λ (m : Marked Head). OkR (λ (e₀ : Expanded Head). (e : Expanded Head) × (expand_head ds outside k m.now ≡ ok e) × Sims HeadGoes seen m e₀ e) (expand_head ds outside₀ k₀ h)) (sym (Planned.head_by_lem ds seen k' h)) (go (here_only h.code) refl)
     where
       go : (b : Bool) → here_only h.code ≡ b
           → OkR (λ e₀. (e : Expanded Head) × (expand_head ds outside k (Planned.head_by b ds seen k' h).now ≡ ok e) × Sims HeadGoes seen (Planned.head_by b ds seen k' h) e₀ e) (expand_head ds outside₀ k₀ h)
-      go true e = unfold expand_head if◌then◌else◌ Rules.as-it-is in rw e
+      go true e = unfold expand_head if◌then◌else◌ Rules.as_it_is in rw e
           (record { inserted = []; rows = []; now = h; k = k }, refl, record { next = q; pairs = λ s g. head_pairs h h refl (low_pairs h.operands l); goes = λ s g. none_inserted; held = λ s g. g })
       go false e = unfold expand_head if◌then◌else◌ with_operands in rw e (bind_ok _ _ _ _ (operands_go seen k₀ k k' h.operands l t (r e) late s q) (λ e₀ G. (
         record { inserted = G.0.inserted; rows = G.0.rows; now = with_operands (with_operands h (mark_operands ds seen k' h.operands).now) G.0.now; k = G.0.k },
@@ -609,11 +609,11 @@ module _ {fs : Fields} {outside : Outside} {here : Env} {out' : Fields} (E : Clo
   Passed fz o = (now : Operand) × One here there fz o now
 
   found_reach : (fz space n z k : ℕ) (o : Option (ℕ × ℕ)) → n ≤ top_name → find table space n ≡ none → OkR (λ e. Passed fz e.now → is_just o ≡ true) (Rules.found_at space n z k o)
-  unfolding Rules.found_at Rules.as-it-is
+  unfolding Rules.found_at Rules.as_it_is
   found_reach fz space n z k none l e = λ x. go x.0 x.1
     where
       go : (now : Operand) → One here there fz (ref space (Id n) [] z) now → is_just {A = ℕ × ℕ} none ≡ true
-      go now (one_ref m f) = no_option m (sym (OwnOperands.not-here E past 0 space n l e) ∙ named_number here.entries space n z m f)
+      go now (one_ref m f) = no_option m (sym (OwnOperands.not_here E past 0 space n l e) ∙ named_number here.entries space n z m f)
   found_reach fz space n z k (some at) l e = if_both (OkR _) _ _ _ (λ x. refl) tt
 
   operand_reach : (fz k : ℕ) (o : Operand) → LowOperand o → OkR (λ e. Passed fz e.now → Reaching table outside.scopes o) (expand_operand table there k o)
@@ -622,7 +622,7 @@ module _ {fs : Fields} {outside : Outside} {here : Env} {out' : Fields} (E : Clo
   operand_reach fz k (ref space (Id n) [] z) l = bind_any _ _ _ (λ u. go (find table space n) refl)
     where
       go : (o : Option ℕ) → find table space n ≡ o
-          → OkR (λ e. Passed fz e.now → is_just o || is_just (walk outside.scopes 1 space n) ≡ true) (if is_just o then ok (Rules.as-it-is (ref space (Id n) [] z) k) else Rules.found_at space n z k (walk outside.scopes 1 space n))
+          → OkR (λ e. Passed fz e.now → is_just o || is_just (walk outside.scopes 1 space n) ≡ true) (if is_just o then ok (Rules.as_it_is (ref space (Id n) [] z) k) else Rules.found_at space n z k (walk outside.scopes 1 space n))
       go none e = unfold if◌then◌else◌ in found_reach fz space n z k (walk outside.scopes 1 space n) l.1 e
       go (some m) e = unfold if◌then◌else◌ in λ x. refl
   operand_reach fz k (ref space (Num n) (p ∷ ps) z) l = if_both (OkR _) _ _ _ tt (λ x. tt)
@@ -642,7 +642,7 @@ module _ {fs : Fields} {outside : Outside} {here : Env} {out' : Fields} (E : Clo
     where
       go : (b : Bool) → here_only h.code ≡ b → OkR (λ e. (h' : Head) → resolve_head here there e.now ≡ ok h' → here_only h.code ≡ false → All (Reaching table outside.scopes) h.operands) (expand_head table there k h)
       go true t = unfold expand_head if◌then◌else◌ in rw t (λ h' q f. false_not (sym f))
-      go false t = unfold expand_head if◌then◌else◌ with_operands in rw t (bind_ok _ _ _ _ (operands_reach h.z k h.operands l) (λ es f. λ h' q e. f [] h'.operands (OwnOperands.resolved-operands E past 0 _ h' q)))
+      go false t = unfold expand_head if◌then◌else◌ with_operands in rw t (bind_ok _ _ _ _ (operands_reach h.z k h.operands l) (λ es f. λ h' q e. f [] h'.operands (OwnOperands.resolved_operands E past 0 _ h' q)))
 
 module _ {fs : Fields} {outside : Outside} {here : Env} {out' : Fields} (E : Closed fs outside here out') where
   level_fine : (past : Before) (gs : Fields) (b k : ℕ) (res : Fields × ℕ) → LowFields gs → resolve_fields gs (declarations fs) here (seeing outside past) b k ≡ ok res → FineFields gs (declarations fs) outside.scopes
@@ -664,10 +664,10 @@ table_low : (gs : Fields) (ds : List Declaration) (outside : Outside) (b space n
 unfolding expand_fields declarations
 table_low end ds outside b space n l = refl
 table_low (i ▸ gs) ds outside b space n l =
-    bind_ok _ _ _ _ (Runs.head-grown ds outside b (head_of i)) (λ e g. bind_ok _ _ _ _ (table_low gs ds (onward i outside) e.k space n l) (λ t r.
-    ap (λ (xs : List Declaration). is_just (find xs space n)) (Entries.field-decls _ _ e.inserted e.rows (head_of i).decls t.0)
+    bind_ok _ _ _ _ (Runs.head_grown ds outside b (head_of i)) (λ e g. bind_ok _ _ _ _ (table_low gs ds (onward i outside) e.k space n l) (λ t r.
+    ap (λ (xs : List Declaration). is_just (find xs space n)) (Entries.field_decls _ _ e.inserted e.rows (head_of i).decls t.0)
     ∙ (just_append (heads_decls e.inserted) ((head_of i).decls ++ decls_in t.0) space n
-    ∙ (ap₂ (λ (x y : Bool). x || y) (ap is_just (Planned.absent-find (heads_decls e.inserted) space n (low_new b e.k e.inserted n l g.1))) (just_append (head_of i).decls (decls_in t.0) space n)
+    ∙ (ap₂ (λ (x y : Bool). x || y) (ap is_just (Planned.absent_find (heads_decls e.inserted) space n (low_new b e.k e.inserted n l g.1))) (just_append (head_of i).decls (decls_in t.0) space n)
     ∙ (ap (λ (x : Bool). is_just (find (head_of i).decls space n) || x) r ∙ sym (just_append (head_of i).decls (declarations gs) space n))))))
 
 -- ---- the fields of a scope
@@ -702,7 +702,7 @@ expand_inv : (i : Item) (gs : Fields) (ds : List Declaration) (outside : Outside
 unfolding expand_fields
 expand_inv i gs ds outside b e t p et =
     let s₁ = bind_inv (expand_fields ds (onward i outside) e.k gs) _ t (bind_known (expand_head ds outside b (head_of i)) _ e t p et) in
-    (s₁.0, s₁.1, ap (λ (x : List Entry × ℕ). decls_in x.0) (sym (ok_same _ t s₁.2)) ∙ Entries.field-decls _ _ e.inserted e.rows (head_of i).decls s₁.0.0)
+    (s₁.0, s₁.1, ap (λ (x : List Entry × ℕ). decls_in x.0) (sym (ok_same _ t s₁.2)) ∙ Entries.field_decls _ _ e.inserted e.rows (head_of i).decls s₁.0.0)
 
 end_goes : (ds : List Declaration) (seen : List Served) (here : Env) (outside : Outside) (b b' k k' : ℕ) → (res : Fields × ℕ) × (resolve_fields (mark_fields end ds seen b' k').0 ds here outside b k ≡ ok res)
 unfolding mark_scope resolve_scope
@@ -716,7 +716,7 @@ likes_in : (h h' : Head) (here₀ here : Env) (o₀ o : Outside) → LikeEnv her
 likes_in h h' here₀ here o₀ o l L = record { early = L.early; before = refl; scopes = opened_like here₀ here o₀ o l L }
 
 item_decls : (i : Item) (gs : Fields) (ds : List Declaration) (seen : List Served) (b k : ℕ) → (head_of (item i gs ds seen b k).0).decls ≡ (head_of i).decls
-item_decls i gs ds seen b k = ap (λ (h : Head). h.decls) (marked_head i (now i gs ds seen b k).now k) ∙ Planned.head-decls ds seen b (head_of i)
+item_decls i gs ds seen b k = ap (λ (h : Head). h.decls) (marked_head i (now i gs ds seen b k).now k) ∙ Planned.head_decls ds seen b (head_of i)
 
 abbrev Unnamed : List Declaration → Type 0
 Unnamed ds = (space j : ℕ) → find ds space (fresh j) ≡ none
@@ -724,7 +724,7 @@ Unnamed ds = (space j : ℕ) → find ds space (fresh j) ≡ none
 fields_absent : (fs : Fields) (j : ℕ) → LowFields fs → Planned.Absent (fresh j) (declarations fs)
 unfolding declarations
 fields_absent end j l = done
-fields_absent (i ▸ fs) j l = all_append (head_of i).decls (declarations fs) (Planned.low-absent (head_of i).decls j l.0.decls) (fields_absent fs j l.2)
+fields_absent (i ▸ fs) j l = all_append (head_of i).decls (declarations fs) (Planned.low_absent (head_of i).decls j l.0.decls) (fields_absent fs j l.2)
 
 low_unnamed : (fs : Fields) → LowFields fs → Unnamed (declarations fs)
 low_unnamed fs l space j = absent_find (declarations fs) space (fresh j) (fields_absent fs j l)
@@ -772,7 +772,7 @@ module _ (rules : RuleSet) where
   base_distinct kind name fs outside k q e =
       let s₁ = bind_inv (Rules.prepare name fs outside k) _ q e in
       let s₂ = bind_inv (Rules.distinct [] (declarations fs)) _ s₁.0 s₁.1 in
-      (s₂.0, s₂.1, holds_of _ _ s₂.0 (Runs.distinct-same [] (declarations fs)) s₂.1)
+      (s₂.0, s₂.1, holds_of _ _ s₂.0 (Runs.distinct_same [] (declarations fs)) s₂.1)
 
   mutual
     unfolding head_of
@@ -787,8 +787,8 @@ module _ (rules : RuleSet) where
         let here : Env = record { name = name; entries = T.0.0; before = [] } in
         let L : LikeFields (k + length (flatten (scope kind name fs))) fs (marks fs k).0 =
         (subst (λ (x : Scope × ℕ). LikeScope (k + length (flatten (scope kind name fs))) (scope kind name fs) x.0) (scope_marks_lem kind name fs k) (scope_like (scope kind name fs) k)).2 in
-        let same : declarations (marks fs k).0 ≡ declarations fs = Marks.like-declarations _ fs (marks fs k).0 L in
-        let decl' : DeclFields (marks fs k).0 = Marks.like-declared-fields _ fs (marks fs k).0 L (low_fields fs l.1) in
+        let same : declarations (marks fs k).0 ≡ declarations fs = Marks.like_declarations _ fs (marks fs k).0 L in
+        let decl' : DeclFields (marks fs k).0 = Marks.like_declared_fields _ fs (marks fs k).0 L (low_fields fs l.1) in
         let like : LikeEnv X.here here =
         record {
           name = sym X.named;
@@ -839,8 +839,8 @@ module _ (rules : RuleSet) where
     item_go (holds h₁ s) kind H h₀ h here₀ here outside₀ outside likes like k₀ k k' q₀ l g u around eq =
         let X = holds_base h₁ h₀ s here₀ outside₀ k₀ q₀ eq in
         let S = scope_go s (inward h₁ here₀ outside₀) (inward H here outside) (likes_in h₁ H here₀ here outside₀ outside like likes) k₀ k' X.0 l g.3 (under_opened k' here outside around) X.1 in
-        let good = Marks.like-well _ rules s (mark_scope s k').0 (scope_like s k') g.3 in
-        let next : S.0.1 ≡ (mark_scope s k').1 = (SharedOperands.scope-right rules s (inward H here outside) k' S.0 l good (under_opened k' here outside around) S.1).0 in
+        let good = Marks.like_well _ rules s (mark_scope s k').0 (scope_like s k') g.3 in
+        let next : S.0.1 ≡ (mark_scope s k').1 = (SharedOperands.scope_right rules s (inward H here outside) k' S.0 l good (under_opened k' here outside around) S.1).0 in
         let P = holds_goes h₁ H h s here outside k k' S.0 (subst (λ (x : ℕ). resolve_scope (mark_scope s k').0 (inward H here outside) x ≡ ok S.0) (sym u) S.1) next in
         ((holds h S.0.0, S.0.1), P.0, P.1)
 

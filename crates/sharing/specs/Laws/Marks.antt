@@ -115,9 +115,9 @@ module _ (top : ℕ) where
   like_standings n (i ▸ fs) end l d = absurd l
   like_standings n (i ▸ fs) (i' ▸ fs') l d =
       let same : (head_of i').decls ≡ (head_of i).decls = like_decls (head_of i) (head_of i') (like_head i i' l.0) in
-      Lookups.standings-original n i' fs' (Lookups.low-original (head_of i') (subst LowDecls (sym same) d.0))
+      Lookups.standings_original n i' fs' (Lookups.low_original (head_of i') (subst LowDecls (sym same) d.0))
       ∙ (ap₂ (λ (xs ys : List Standing). xs ++ ys) (ap (in_original n 0) same) (like_standings (suc n) fs fs' l.1 d.2)
-      ∙ sym (Lookups.standings-original n i fs (Lookups.low-original (head_of i) d.0)))
+      ∙ sym (Lookups.standings_original n i fs (Lookups.low_original (head_of i) d.0)))
 
   -- ---- well-formed trees
 

@@ -19,7 +19,7 @@ use Rattle.rules.specs.Rules.{ok, Env, table_of, Before, Outside, onward, find, 
 use Rattle.rules.specs.Readings.{is_inserted, fields_of, walked}
 use Rattle.checking.specs.Check.{table}
 use Rattle.sharing.specs.Sharing.{Served, served_by, Marked, mark_outer, mark_operand, mark_operands, mark_head, mark_fields}
-use Rattle.rules.specs.Laws.ToolLaws.{Ok, ok_at, false_not, and_left, and_right, or_true, eqb_true, eqb_same, All, done, ◌&◌, all_append, all_map}
+use Rattle.rules.specs.Laws.ToolLaws.{Ok, ok_at, false_not, and_left, and_right, or-true, eqb-true, eqb_same, All, done, ◌&◌, all_append, all_map}
 use Rattle.rules.specs.Laws.Results.{OkR, bind_ok, bind_any, bind_eq, if_both, holds_of, ok_same, some_same, no_option}
 use Rattle.rules.specs.Laws.Meaning.Names.{LowDecls, LowFields}
 use Rattle.rules.specs.Laws.Meaning.Runs
@@ -99,7 +99,7 @@ find_same (d ∷ ds) space a b n e f = go (eqb d.space space) (eqb d.name a) (eq
         → (if s then if y then some 0 else Option.map suc (find ds space b) else find ds space b) ≡ some n
         → ((m : ℕ) → find ds space a ≡ some m → find ds space b ≡ some m → a ≡ b) → a ≡ b
     go false x y n p q e f r = unfold if◌then◌else◌ in r n e f
-    go true true true n p q e f r = sym (eqb_true d.name a p) ∙ eqb_true d.name b q
+    go true true true n p q e f r = sym (eqb-true d.name a p) ∙ eqb-true d.name b q
     go true true false n p q e f r = unfold if◌then◌else◌ in never_zero (find ds space b) (f ∙ sym e)
     go true false true n p q e f r = unfold if◌then◌else◌ in never_zero (find ds space a) (e ∙ sym f)
     go true false false zero p q e f r = unfold if◌then◌else◌ in never_zero (find ds space a) e
@@ -155,8 +155,8 @@ matches_at : (o : Option (ℕ × ℕ)) (k : Key) → matches o k ≡ true → o 
 unfolding matches
 matches_at none k e = false_not e
 matches_at (some at) k e =
-    let p = eqb_true at.0 k.1 (and_left (eqb at.0 k.1) _ e) in
-    let q = eqb_true at.1 k.2 (and_right (eqb at.0 k.1) _ e) in
+    let p = eqb-true at.0 k.1 (and_left (eqb at.0 k.1) _ e) in
+    let q = eqb-true at.1 k.2 (and_right (eqb at.0 k.1) _ e) in
     ap₂ {C = Option (ℕ × ℕ)} (λ (x y : ℕ). some (x, y)) p q
 
 matches_self : (at : ℕ × ℕ) (space : ℕ) → matches (some at) (space, at.0, at.1) ≡ true
@@ -175,7 +175,7 @@ new_key outside (m ∷ ms) space name at e w =
         → (a && b) || covered outside ms (space, at.0, at.1) ≡ false
     go true true true p q r f g = unfold if◌then◌else◌ in no_option m.k (sym f)
     go true true false p q r f g =
-        let same_space : m.space ≡ space = eqb_true m.space space p in
+        let same_space : m.space ≡ space = eqb-true m.space space p in
         let there : walk outside 1 m.space m.name ≡ some at = matches_at (walk outside 1 m.space m.name) (space, at.0, at.1) q in
         let same_name : m.name ≡ name = walk_same outside 1 space m.name name at (ap (λ (x : ℕ). walk outside 1 x m.name) (sym same_space) ∙ there) w in
         false_not (sym r ∙ (ap (λ (x : ℕ). eqb x name) same_name ∙ eqb_same name))
@@ -197,10 +197,10 @@ record NewKeys (outside : List Env) (seen seen' : List Served) (ks : List Key) :
 same_key_lem : (a b : Key) → same_key a b ≡ true → a ≡ b
 unfolding same_key
 same_key_lem a b e =
-    let p = eqb_true a.0 b.0 (and_left (eqb a.0 b.0) _ e) in
+    let p = eqb-true a.0 b.0 (and_left (eqb a.0 b.0) _ e) in
     let r = and_right (eqb a.0 b.0) _ e in
-    let q = eqb_true a.1 b.1 (and_left (eqb a.1 b.1) _ r) in
-    let t = eqb_true a.2 b.2 (and_right (eqb a.1 b.1) _ r) in
+    let q = eqb-true a.1 b.1 (and_left (eqb a.1 b.1) _ r) in
+    let t = eqb-true a.2 b.2 (and_right (eqb a.1 b.1) _ r) in
     ap (λ (x : ℕ). (x, a.1, a.2)) p ∙ (ap (λ (x : ℕ). (b.0, x, a.2)) q ∙ ap (λ (x : ℕ). (b.0, b.1, x)) t)
 
 -- a key that is covered is none of those that are not
@@ -256,7 +256,7 @@ data Sort : Head → Type 0 where
 outer_keys_lem : (space k d n z : ℕ) → head_keys (outer_alias space (fresh k) d n z) ≡ (space, d, n) ∷ []
 unfolding head_keys outer_alias operand_keys if◌then◌else◌
 outer_keys_lem space k d n z =
-    let t : is_inserted (outer_alias space (fresh k) d n z) ≡ true = Lookups.new-inserted k (suc k) (outer_alias space (fresh k) d n z)
+    let t : is_inserted (outer_alias space (fresh k) d n z) ≡ true = Lookups.new_inserted k (suc k) (outer_alias space (fresh k) d n z)
     (record { decl = record { space = space; name = fresh k; z = z }; alone = unfold outer_alias in refl; number = k; named = refl; low = omega arith; high = omega arith }) in
     rw t
 
@@ -296,7 +296,7 @@ resolved_keys here outside (h ∷ hs) (s & a) =
     one : (h h' : Head) → Sort h → resolve_head here outside h ≡ ok h' → head_keys h' ≡ head_keys h
     one h h' (outward space k d n z) e = ap head_keys (ok_same h' _ (sym e ∙ alias_resolved here outside space (fresh k) d n z))
     one h h' (other c) e =
-        let code : h'.code ≡ h.code = (holds_of (Runs.SameDecls h) _ h' (Runs.head-same here outside h) e).1 in
+        let code : h'.code ≡ h.code = (holds_of (Runs.SameDecls h) _ h' (Runs.head_same here outside h) e).1 in
         other_keys h' (ap (λ (x : ℕ). eqb x 11) code ∙ c) ∙ sym (other_keys h c)
 
 -- ---- what step B inserts for an operand that is marked
@@ -315,11 +315,11 @@ module _ (outside : Outside) (start : ℕ) (under : Under start outside.scopes) 
   -- one more is remembered, and nothing is inserted
   only_remembered : (m : Served) (seen : List Served) → NewKeys outside.scopes seen (m ∷ seen) (keys_of [])
   unfolding covered
-  only_remembered m seen = subst (NewKeys outside.scopes seen (m ∷ seen)) (sym no_heads) (record { first = done; kept = λ k c. rw c (or_true (covers outside.scopes m k)); known = done; distinct = tt })
+  only_remembered m seen = subst (NewKeys outside.scopes seen (m ∷ seen)) (sym no_heads) (record { first = done; kept = λ k c. rw c (or-true (covers outside.scopes m k)); known = done; distinct = tt })
 
   first_keys : (seen : List Served) (k k' space name z : ℕ) (o : Option (ℕ × ℕ)) → served_by seen space name ≡ none → walk outside.scopes 1 space name ≡ o
       → OkR (Keys seen (mark_outer seen k' space name z none)) (Rules.found_at space name z k o)
-  unfolding Rules.found_at Rules.as-it-is Rules.through mark_outer
+  unfolding Rules.found_at Rules.as_it_is Rules.through mark_outer
   first_keys seen k k' space name z none f w = (only_remembered _ seen, done)
   first_keys seen k k' space name z (some at) f w = if_both (OkR (Keys seen (mark_outer seen k' space name z none))) _ _ _ (go, outward space k at.0 at.1 z & done) tt
     where
@@ -341,9 +341,9 @@ module _ (outside : Outside) (start : ℕ) (under : Under start outside.scopes) 
 
   later_keys : (seen : List Served) (k k' space name z j : ℕ) → served_by seen space name ≡ some j → Late start seen
       → OkR (Keys seen (mark_outer seen k' space name z (some j))) (expand_operand ds outside k (ref space (Id (fresh j)) [] z))
-  unfolding expand_operand Rules.found_at Rules.as-it-is mark_outer
+  unfolding expand_operand Rules.found_at Rules.as_it_is mark_outer
   later_keys seen k k' space name z j f late =
-      let new : walk outside.scopes 1 space (fresh j) ≡ none = under 1 space j (ok_at (λ (x : ℕ). start ≤ x) _ j (Planned.served-holds (λ (m : Served). start ≤ m.k) seen space name late) f) in
+      let new : walk outside.scopes 1 space (fresh j) ≡ none = under 1 space j (ok_at (λ (x : ℕ). start ≤ x) _ j (Planned.served_holds (λ (m : Served). start ≤ m.k) seen space name late) f) in
       rw new (bind_any _ _ _ (λ u. if_both (OkR _) _ _ _ (nothing_new seen, done) (nothing_new seen, done)))
 
   abbrev Keyed : List Served → ℕ → Marked Operand → Type 0
@@ -356,12 +356,12 @@ module _ (outside : Outside) (start : ℕ) (under : Under start outside.scopes) 
 
   name_keyed : (seen : List Served) (k k' space name z : ℕ) (o : Option ℕ) → Late start seen → find ds space name ≡ o
       → Keyed seen k (if is_just o then record { now = ref space (Id name) [] z; seen = seen; k = k' } else mark_outer seen k' space name z (served_by seen space name))
-  unfolding expand_operand if◌then◌else◌ Rules.as-it-is
+  unfolding expand_operand if◌then◌else◌ Rules.as_it_is
   name_keyed seen k k' space name z none late e = outer_keyed seen k k' space name z (served_by seen space name) late e refl
   name_keyed seen k k' space name z (some n) late e = bind_any _ _ _ (λ u. rw e (nothing_new seen, done))
 
   operand_keyed : (seen : List Served) (k k' : ℕ) (o : Operand) → Late start seen → Keyed seen k (mark_operand ds seen k' o)
-  unfolding expand_operand mark_operand Rules.as-it-is Rules.through
+  unfolding expand_operand mark_operand Rules.as_it_is Rules.through
   operand_keyed seen k k' (ref space (Num n) [] z) late = (nothing_new seen, done)
   operand_keyed seen k k' (ref space (Id name) [] z) late = name_keyed seen k k' space name z (find ds space name) late refl
   operand_keyed seen k k' (ref space at (p ∷ ps) z) late =
@@ -370,7 +370,7 @@ module _ (outside : Outside) (start : ℕ) (under : Under start outside.scopes) 
   operand_keyed seen k k' (case name z) late = (nothing_new seen, done)
 
   operands_keyed : (seen : List Served) (k k' : ℕ) (os : List Operand) → Late start seen → start ≤ k' → OkR (Keys seen (mark_operands ds seen k' os)) (expand_operands ds outside k (mark_operands ds seen k' os).now)
-  unfolding expand_operands mark_operands Rules.as-it-is
+  unfolding expand_operands mark_operands Rules.as_it_is
   operands_keyed seen k k' [] late h = (nothing_new seen, done)
   operands_keyed seen k k' (o ∷ os) late h =
       let m = mark_operand ds seen k' o in
@@ -381,10 +381,10 @@ module _ (outside : Outside) (start : ℕ) (under : Under start outside.scopes) 
       )))
 
   head_keyed : (seen : List Served) (k k' : ℕ) (h : Head) → Late start seen → start ≤ k' → OkR (Keys seen (mark_head ds seen k' h)) (expand_head ds outside k (mark_head ds seen k' h).now)
-  head_keyed seen k k' h late s = subst (λ (m : Marked Head). OkR (Keys seen m) (expand_head ds outside k m.now)) (sym (Planned.head-by ds seen k' h)) (go (here_only h.code) refl)
+  head_keyed seen k k' h late s = subst (λ (m : Marked Head). OkR (Keys seen m) (expand_head ds outside k m.now)) (sym (Planned.head_by_lem ds seen k' h)) (go (here_only h.code) refl)
     where
       go : (b : Bool) → here_only h.code ≡ b → OkR (Keys seen (Planned.head_by b ds seen k' h)) (expand_head ds outside k (Planned.head_by b ds seen k' h).now)
-      go true e = unfold expand_head if◌then◌else◌ Rules.as-it-is in rw e (nothing_new seen, done)
+      go true e = unfold expand_head if◌then◌else◌ Rules.as_it_is in rw e (nothing_new seen, done)
       go false e = unfold expand_head if◌then◌else◌ with_operands in rw e (bind_ok _ _ _ _ (operands_keyed seen k k' h.operands late s) (λ es f. f))
 
 -- ---- and each is asked for
@@ -467,7 +467,7 @@ module _ (outside : List Env) (ds : List Declaration) where
       from_then outside seen (mark_operand ds seen k o).seen _ (asked_of ds (walked h o)) (asked_by ds h os) (operand_from h seen k o e) (operands_from h (mark_operand ds seen k o).seen (mark_operand ds seen k o).k os e)
 
   head_from : (seen : List Served) (k : ℕ) (h : Head) → From outside seen (asked_by ds h h.operands) (mark_head ds seen k h).seen
-  head_from seen k h = subst (λ (m : Marked Head). From outside seen (asked_by ds h h.operands) m.seen) (sym (Planned.head-by ds seen k h)) (go (here_only h.code) refl)
+  head_from seen k h = subst (λ (m : Marked Head). From outside seen (asked_by ds h h.operands) m.seen) (sym (Planned.head_by_lem ds seen k h)) (go (here_only h.code) refl)
     where
       go : (b : Bool) → here_only h.code ≡ b → From outside seen (asked_by ds h h.operands) (Planned.head_by b ds seen k h).seen
       go true e = unfold if◌then◌else◌ in from_same outside seen _
@@ -517,7 +517,7 @@ pub before_asked : (lo hi : ℕ) (hs : List Head) (i w : Item) (fs was : Fields)
     → AskedFields (◌before◌ hs (i ▸ fs)) around (w ▸ was)
 unfolding ◌before◌ head_of
 before_asked lo hi [] i w fs was around n e p q = rw e (p, q)
-before_asked lo hi (h ∷ hs) i w fs was around n e p q = rw (Lookups.new-inserted lo hi h n.0) (before_asked lo hi hs i w fs was around n.1 e p q)
+before_asked lo hi (h ∷ hs) i w fs was around n e p q = rw (Lookups.new_inserted lo hi h n.0) (before_asked lo hi hs i w fs was around n.1 e p q)
 
 -- scopes by their names and declarations alone cover the same
 pub plain_covered : (es : List Env) (ms : List Served) (k : Key) → covered (map plain_of es) ms k ≡ covered es ms k
@@ -547,7 +547,7 @@ module _ (outside : Outside) (start : ℕ) (under : Under start outside.scopes) 
       let T = level_keys (onward I.0 (seeing outside past)).before gs N.seen N.k R.e.k I.1 R.q.1 R.rs low.2 L.0 L.1 R.goes_on_lem in
       let keys : outer_keys res.0 ≡ keys_of R.e.inserted ++ outer_keys R.rs.0 =
       ap (λ (x : Fields × ℕ). outer_keys x.0) (sym R.result)
-      ∙ (before_keys R.new (R.q.0 ▸ R.rs.0) ∙ ap₂ (λ (xs ys : List Key). xs ++ ys) new (own_keys R.q.0 R.rs.0 (Agree.stays-original R lows))) in (
+      ∙ (before_keys R.new (R.q.0 ▸ R.rs.0) ∙ ap₂ (λ (xs ys : List Key). xs ++ ys) new (own_keys R.q.0 R.rs.0 (Agree.stays_original R lows))) in (
         T.0,
         subst (NewKeys outside.scopes seen T.0) (sym keys) (keys_then outside.scopes seen N.seen T.0 (keys_of R.e.inserted) (outer_keys R.rs.0) K.0 T.1),
         asked_next i gs seen T.0 (from_then outside.scopes seen N.seen T.0 (asked_by ds (head_of i) (head_of i).operands) (asked ds gs) (head_from outside.scopes ds seen b (head_of i)) T.2),

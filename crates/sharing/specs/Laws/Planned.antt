@@ -18,7 +18,7 @@ use Rattle.rules.specs.Rules
 use Rattle.rules.specs.Rules.{ok, Entry, decls_in, Env, table_of, Before, Outside, onward, inward, opened, find, fresh, walk, declarations, heads_decls, expand_operand, expand_operands, expand_head, expand_fields, outer_alias, resolve_operands, resolve_head, resolve_scope, resolve_fields, resolve_item}
 use Rattle.rules.specs.Readings.{Standing, first_named}
 use Rattle.sharing.specs.Sharing.{Served, served_by, Marked, mark_outer, mark_operand, mark_operands, mark_head, insertions, mark_scope, mark_fields, mark_item}
-use Rattle.rules.specs.Laws.ToolLaws.{Ok, ok_at, false_not, and_left, and_right, eqb_true, eqb_false, All, done, ◌&◌, all_append, all_left, all_right}
+use Rattle.rules.specs.Laws.ToolLaws.{Ok, ok_at, false_not, and_left, and_right, eqb-true, eqb-false, All, done, ◌&◌, all_append, all_left, all_right}
 use Rattle.rules.specs.Laws.Results.{OkR, bind_ok, bind_any, if_both, holds_of, bind_inv, bind_known, ok_same, no_option}
 use Rattle.rules.specs.Laws.Entries
 use Rattle.rules.specs.Laws.Meaning.Names.{LowDecls, LowOperand, LowOperands, LowHead, LowFields, DeclFields, low_fields}
@@ -47,7 +47,7 @@ not_found false o e = e
 pub absent_find : (ds : List Declaration) (space name : ℕ) → Absent name ds → find ds space name ≡ none
 unfolding find
 absent_find [] space name a = refl
-absent_find (d ∷ ds) space name (h & a) = rw (eqb_false d.name name h) (not_found (eqb d.space space) (find ds space name) (absent_find ds space name a))
+absent_find (d ∷ ds) space name (h & a) = rw (eqb-false d.name name h) (not_found (eqb d.space space) (find ds space name) (absent_find ds space name a))
 
 pub low_absent : (ds : List Declaration) (j : ℕ) → LowDecls ds → Absent (fresh j) ds
 unfolding fresh
@@ -64,9 +64,9 @@ pub table_absent : (fs : Fields) (ds : List Declaration) (outside : Outside) (b 
 unfolding expand_fields
 table_absent end ds outside b j d = (omega arith, λ l. done)
 table_absent (i ▸ fs) ds outside b j d =
-    bind_ok _ _ _ _ (Runs.head-grown ds outside b (head_of i)) (λ e g. bind_ok _ _ _ _ (table_absent fs ds (onward i outside) e.k j d.2) (λ r a. (
+    bind_ok _ _ _ _ (Runs.head_grown ds outside b (head_of i)) (λ e g. bind_ok _ _ _ _ (table_absent fs ds (onward i outside) e.k j d.2) (λ r a. (
       omega (arith, g.0, a.0),
-      λ l. subst (Absent (fresh j)) (sym (Entries.field-decls _ _ e.inserted e.rows (head_of i).decls r.0))
+      λ l. subst (Absent (fresh j)) (sym (Entries.field_decls _ _ e.inserted e.rows (head_of i).decls r.0))
           (all_append (heads_decls e.inserted) _ (new_absent b e.k e.inserted j (omega (arith, a.0)) g.1) (all_append (head_of i).decls _ (low_absent (head_of i).decls j d.0) (a.1 l))),
     )))
 
@@ -95,8 +95,8 @@ served_holds P (m ∷ ms) space name (h & a) = go (eqb m.space space && eqb m.na
         → Ok (λ j. P (record { space = space; name = name; k = j })) (if b then some m.k else served_by ms space name)
     go false e r = r
     go true e r =
-        let s : m.space ≡ space = eqb_true m.space space (and_left (eqb m.space space) (eqb m.name name) e) in
-        let n : m.name ≡ name = eqb_true m.name name (and_right (eqb m.space space) (eqb m.name name) e) in
+        let s : m.space ≡ space = eqb-true m.space space (and_left (eqb m.space space) (eqb m.name name) e) in
+        let n : m.name ≡ name = eqb-true m.name name (and_right (eqb m.space space) (eqb m.name name) e) in
         subst (λ (x : ℕ). P (record { space = x; name = name; k = m.k })) s (subst (λ (x : ℕ). P (record { space = m.space; name = x; k = m.k })) n h)
 
 module _ (start : ℕ) where
@@ -171,12 +171,12 @@ module _ {fs : Fields} {outside : Outside} {here : Env} {out' : Fields} (E : Clo
   nowhere fz space name z low e x = go x.0 x.1
     where
       go : {X : Type 0} (now : Operand) → One here there fz (ref space (Id name) [] z) now → X
-      go now (one_ref n f) = no_option n (sym (OwnOperands.not-here E past 0 space name low e) ∙ named_number here.entries space name z n f)
+      go now (one_ref n f) = no_option n (sym (OwnOperands.not_here E past 0 space name low e) ∙ named_number here.entries space name z n f)
 
   -- the first reference to an outer declaration
   first_outer : (fz : ℕ) (seen : List Served) (k k' space name z : ℕ) (o : Option (ℕ × ℕ)) → LowOperand (ref space (Id name) [] z) → find ds space name ≡ none → walk outside.scopes 1 space name ≡ o
       → OkR (λ e. k ≡ k' → One' fz e.now → Justified (OwnOperands.As E (ref space (Id name) [] z)) seen (mark_outer seen k' space name z none) e.k e.inserted) (Rules.found_at space name z k o)
-  unfolding Rules.found_at Rules.as-it-is Rules.through mark_outer
+  unfolding Rules.found_at Rules.as_it_is Rules.through mark_outer
   first_outer fz seen k k' space name z none l e w = λ q x. nowhere fz space name z l.1 e x
   first_outer fz seen k k' space name z (some at) l e w = if_both (OkR _) _ _ _ (λ q x. record { next = ap suc q; served = go q }) tt
     where
@@ -184,14 +184,14 @@ module _ {fs : Fields} {outside : Outside} {here : Env} {out' : Fields} (E : Clo
           → OwnOperands.As E (ref space (Id name) [] z) (ref space (Id name) [] z) × All (Known E start under) (record { space = space; name = name; k = k' } ∷ seen)
       go q (P & a) b = (
         OwnOperands.itself l,
-        record { low = l.1; absent = e; at = at; walks = w; z = z; stands = subst (λ (x : ℕ). OwnOperands.Standing E space x at z) q (OwnOperands.placed-stands E past space k at z P) } & b,
+        record { low = l.1; absent = e; at = at; walks = w; z = z; stands = subst (λ (x : ℕ). OwnOperands.Standing E space x at z) q (OwnOperands.placed_stands E past space k at z P) } & b,
       )
 
   -- a later one
   later_outer : (fz : ℕ) (seen : List Served) (k k' space name z j : ℕ) → LowOperand (ref space (Id name) [] z) → find ds space name ≡ none → served_by seen space name ≡ some j → Late start seen
       → OkR (λ e. k ≡ k' → One' fz e.now → Justified (OwnOperands.As E (ref space (Id name) [] z)) seen (mark_outer seen k' space name z (some j)) e.k e.inserted)
       (expand_operand ds there k (ref space (Id (fresh j)) [] z))
-  unfolding expand_operand Rules.found_at Rules.as-it-is mark_outer
+  unfolding expand_operand Rules.found_at Rules.as_it_is mark_outer
   later_outer fz seen k k' space name z j l e f late =
       let new : walk outside.scopes 1 space (fresh j) ≡ none = under 1 space j (ok_at (λ (x : ℕ). start ≤ x) _ j (served_holds (λ (m : Served). start ≤ m.k) seen space name late) f) in
       rw new (bind_any _ _ _ (λ u. if_both (OkR _) _ _ _ (λ q x. record { next = q; served = go new }) (λ q x. record { next = q; served = go new })))
@@ -212,12 +212,12 @@ module _ {fs : Fields} {outside : Outside} {here : Env} {out' : Fields} (E : Clo
 
   name_justified : (fz : ℕ) (seen : List Served) (k k' space name z : ℕ) (o : Option ℕ) → LowOperand (ref space (Id name) [] z) → Late start seen → find ds space name ≡ o
       → Justify fz seen k k' (ref space (Id name) [] z) (if is_just o then record { now = ref space (Id name) [] z; seen = seen; k = k' } else mark_outer seen k' space name z (served_by seen space name))
-  unfolding expand_operand if◌then◌else◌ Rules.as-it-is
+  unfolding expand_operand if◌then◌else◌ Rules.as_it_is
   name_justified fz seen k k' space name z none l late e = name_outer fz seen k k' space name z (served_by seen space name) l late e refl
   name_justified fz seen k k' space name z (some n) l late e = bind_any _ _ _ (λ u. rw e (λ q x. subst (λ (y : ℕ). Justified (OwnOperands.As E (ref space (Id name) [] z)) seen (record { now = ref space (Id name) [] z; seen = seen; k = y }) k []) q (stays (ref space (Id name) [] z) seen k l)))
 
   operand_justified : (fz : ℕ) (seen : List Served) (k k' : ℕ) (o : Operand) → LowOperand o → Late start seen → Justify fz seen k k' o (mark_operand ds seen k' o)
-  unfolding expand_operand mark_operand Rules.as-it-is Rules.through
+  unfolding expand_operand mark_operand Rules.as_it_is Rules.through
   operand_justified fz seen k k' (ref space (Num n) [] z) l late = λ q x. record { next = q; served = λ a b. (OwnOperands.itself l, b) }
   operand_justified fz seen k k' (ref space (Id name) [] z) l late = name_justified fz seen k k' space name z (find ds space name) l late refl
   operand_justified fz seen k k' (ref space at (p ∷ ps) z) l late = if_both (OkR _) _ _ _ tt (λ q x. record { next = ap (λ (y : ℕ). suc (y + length ps)) q; served = λ a b. (OwnOperands.itself l, b) })
@@ -227,7 +227,7 @@ module _ {fs : Fields} {outside : Outside} {here : Env} {out' : Fields} (E : Clo
   operands_justified : (fz : ℕ) (seen : List Served) (k k' : ℕ) (os : List Operand) → LowOperands os → Late start seen → start ≤ k'
       → OkR (λ e. k ≡ k' → (cases : List ℕ) (os' : List Operand) → resolve_operands here there fz cases e.now ≡ ok os' → Justified (OwnOperands.AllAs E os) seen (mark_operands ds seen k' os) e.k e.inserted)
       (expand_operands ds there k (mark_operands ds seen k' os).now)
-  unfolding expand_operands mark_operands Rules.as-it-is
+  unfolding expand_operands mark_operands Rules.as_it_is
   operands_justified fz seen k k' [] l late h = λ q cases os' r. record { next = q; served = λ a b. (OwnOperands.no_more, b) }
   operands_justified fz seen k k' (o ∷ os) l late h =
       let m = mark_operand ds seen k' o in
@@ -255,14 +255,14 @@ module _ {fs : Fields} {outside : Outside} {here : Env} {out' : Fields} (E : Clo
 
   pub head_justified : (seen : List Served) (k k' : ℕ) (h : Head) → LowOperands h.operands → Late start seen → start ≤ k'
       → OkR (λ e. k ≡ k' → (h' : Head) → resolve_head here there e.now ≡ ok h' → Justified (HeadAs h) seen (mark_head ds seen k' h) e.k e.inserted) (expand_head ds there k (mark_head ds seen k' h).now)
-  unfolding expand_head mark_head if◌then◌else◌ with_operands Rules.as-it-is
+  unfolding expand_head mark_head if◌then◌else◌ with_operands Rules.as_it_is
   head_justified seen k k' h l late s = go (here_only h.code) refl
     where
       go : (b : Bool) → here_only h.code ≡ b
           → OkR (λ e. k ≡ k' → (h' : Head) → resolve_head here there e.now ≡ ok h' → Justified (HeadAs h) seen (by_code b seen k' h) e.k e.inserted) (expand_head ds there k (by_code b seen k' h).now)
-      go true e = rw e (λ q h' r. record { next = q; served = λ a b. (OwnOperands.all_same E h.operands l, b) })
+      go true e = rw e (λ q h' r. record { next = q; served = λ a b. (OwnOperands.all_same_lem E h.operands l, b) })
       go false e = rw e (bind_ok _ _ _ _ (operands_justified h.z seen k k' h.operands l late s) (λ es f. λ q h' r.
-          let J = f q [] h'.operands (OwnOperands.resolved-operands E past 0 _ h' r) in
+          let J = f q [] h'.operands (OwnOperands.resolved_operands E past 0 _ h' r) in
           record { next = J.next; served = J.served }))
 
 -- ---- the fields of a tree that is marked
@@ -439,13 +439,13 @@ enter kind name fs outside k q low under eq =
     let L : LikeFields (k + length (flatten (scope kind name fs))) fs (marks fs k).0 =
     (subst (λ (x : Scope × ℕ). LikeScope (k + length (flatten (scope kind name fs))) (scope kind name fs) x.0) (scope_marks_lem kind name fs k) (scope_like (scope kind name fs) k)).2 in
     let decl = low_fields fs low in
-    let decl' : DeclFields (marks fs k).0 = Marks.like-declared-fields _ fs (marks fs k).0 L decl in
+    let decl' : DeclFields (marks fs k).0 = Marks.like_declared_fields _ fs (marks fs k).0 L decl in
     let X = entered kind name (marks fs k).0 outside k q decl' (subst (λ (x : Scope × ℕ). resolve_scope x.0 outside k ≡ ok q) (scope_marks_lem kind name fs k) eq) in
-    let same : declarations (marks fs k).0 ≡ declarations fs = Marks.like-declarations _ fs (marks fs k).0 L in
+    let same : declarations (marks fs k).0 ≡ declarations fs = Marks.like_declarations _ fs (marks fs k).0 L in
     let E : Closed fs outside X.here X.out' =
     record {
       table = X.closed.table;
-      same_first = λ space n l. X.closed.same_first space n l ∙ ap (λ (ss : List Standing). first_named ss space n) (Marks.like-standings _ 0 fs (marks fs k).0 L decl);
+      same_first = λ space n l. X.closed.same_first space n l ∙ ap (λ (ss : List Standing). first_named ss space n) (Marks.like_standings _ 0 fs (marks fs k).0 L decl);
     } in
     let run : resolve_fields (marks fs k).0 (declarations fs) X.here outside k X.k' ≡ ok (X.out', X.k'') =
     subst (λ (ds : List Declaration). resolve_fields (marks fs k).0 ds X.here outside k X.k' ≡ ok (X.out', X.k'')) same X.resolves in

@@ -41,31 +41,31 @@ pub shared_conditions : (rules : RuleSet) (s : Scope) (r : Scope × ℕ) → Low
 unfolding propose resolve
 shared_conditions rules s r low g e =
     let L = marked_like s in
-    let good = Marks.like-well _ rules s (mark s) L g in
-    let decl = Marks.like-declared _ s (mark s) L (low_scope s low) in
+    let good = Marks.like_well _ rules s (mark s) L g in
+    let decl = Marks.like_declared _ s (mark s) L (low_scope s low) in
     let K = kept rules [] (mark s) r decl e in
     let N = numbers rules [] (mark s) r good e in
-    all_pass s r.0 (passes_2 s r.0 (numbered_scope_bare r.0 N) (K.same ∙ Marks.like-blank _ s (mark s) L)) (passes_3 rules (mark s) r decl e K.aliases N) (shared_4 rules s r low good e)
+    all_pass s r.0 (passes_2 s r.0 (numbered_scope_bare r.0 N) (K.same ∙ Marks.like_blank _ s (mark s) L)) (passes_3 rules (mark s) r decl e K.aliases N) (shared_4 rules s r low good e)
 
 -- "exactly one inserted outer alias per scope and outer declaration reached by a walked name": no two in a scope denote the same, each is
 -- asked for by a walked name of the scope, and by condition 4 each such name reaches one
 pub shared_once : (rules : RuleSet) (s : Scope) (r : Scope × ℕ) → LowScope s → GoodScope rules s → propose rules s ≡ ok r → DistinctScope r.0 × AskedScope r.0 [] s
 unfolding propose
 shared_once rules s r low g e =
-    let good = Marks.like-well _ rules s (mark s) (marked_like s) g in
+    let good = Marks.like_well _ rules s (mark s) (marked_like s) g in
     (shared_distinct rules s r low good e, shared_asked rules s r low good e)
 
 -- every walked name that is found further out reaches an added outer alias of that declaration
 pub shared_reaches : (rules : RuleSet) (s : Scope) (r : Scope × ℕ) → LowScope s → GoodScope rules s → propose rules s ≡ ok r → condition4 s r.0 ≡ none
 unfolding propose
-shared_reaches rules s r low g e = shared_4 rules s r low (Marks.like-well _ rules s (mark s) (marked_like s) g) e
+shared_reaches rules s r low g e = shared_4 rules s r low (Marks.like_well _ rules s (mark s) (marked_like s) g) e
 
 -- at most four times the rows
 pub shared_four : (rules : RuleSet) (s : Scope) (r : Scope × ℕ) → propose rules s ≡ ok r → length (flatten r.0) ≤ 4 * length (flatten s)
 unfolding propose resolve
 shared_four rules s r e =
     let four = holds_of (λ (x : Scope × ℕ). length (flatten x.0) ≤ 4 * length (flatten (mark s))) _ r (four_times rules [] (mark s)) e in
-    omega (arith, four, Marks.like-rows _ s (mark s) (marked_like s))
+    omega (arith, four, Marks.like_rows _ s (mark s) (marked_like s))
 
 -- ---- on bytes
 
@@ -115,16 +115,16 @@ shared_accepted settings l input bs room out v asks e =
     let M = proposed_in a.setting input (setting_of settings input) a.before out a.asked_for in-read P.proposes in
     let L = marked_like a.before in
     let u = a.usual in
-    let few : length (flatten (mark a.before)) ≤ a.setting.version.rows = omega (arith, a.few, Marks.like-rows _ a.before (mark a.before) L) in
-    let good = Marks.like-well _ a.setting.rules a.before (mark a.before) L T.is_form.good in
-    let fits = Marks.like-fits _ (omega (arith, a.few, u.few)) a.before (mark a.before) L (read_written a.setting input a.before u bs in-read) in
+    let few : length (flatten (mark a.before)) ≤ a.setting.version.rows = omega (arith, a.few, Marks.like_rows _ a.before (mark a.before) L) in
+    let good = Marks.like_well _ a.setting.rules a.before (mark a.before) L T.is_form.good in
+    let fits = Marks.like_fits _ (omega (arith, a.few, u.few)) a.before (mark a.before) L (read_written a.setting input a.before u bs in-read) in
     subst (λ (x : Setting). verdict settings input (form_bytes x out) ≡ yes) is-v
     (subst (λ (rs : List Row). verdict settings input (form_bytes a.setting rs) ≡ yes) M.rows_are
     (verdict_is settings input (form_bytes a.setting (flatten M.r.0)) a.setting a.before M.r.0 (a.after, a.next) a.asked_for in-read a.resolves
     (written_read a.setting M.r.0 u (omega (arith, shared_four a.setting.rules a.before M.r M.makes, a.few))
     (out_fits a.setting.version.rows a.setting.rules [] (mark a.before) M.r (omega (arith, u.few)) (omega (arith, few)) done fits M.makes)
-    (reads_again a.setting.rules u.heap a.setting.version.scopes [] (mark a.before) M.r (Marks.like-kind _ a.before (mark a.before) L ∙ T.is_form.component) good
-    (omega (arith, T.low, Marks.like-height _ a.before (mark a.before) L)) M.makes))
+    (reads_again a.setting.rules u.heap a.setting.version.scopes [] (mark a.before) M.r (Marks.like_kind _ a.before (mark a.before) L ∙ T.is_form.component) good
+    (omega (arith, T.low, Marks.like_height _ a.before (mark a.before) L)) M.makes))
     ∙ shared_conditions a.setting.rules a.before M.r a.low T.is_form.good M.makes))
 
 -- So demand 3 holds of it.

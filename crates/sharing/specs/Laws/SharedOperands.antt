@@ -44,7 +44,7 @@ module _ (rules : RuleSet) where
         let good : GoodFields rules (marks fs k).0 kind = subst (λ (x : Scope × ℕ). GoodScope rules x.0) (scope_marks_lem kind name fs k) g in
         let T = fields_right fs X.E outside.before k under kind [] k (inside fs k) (X.out', X.k'') 0 low.1 good done (omega arith) X.around done X.resolves (λ space j s l e. e) in (
           X.last ∙ (T.0 ∙ ap (λ (x : Scope × ℕ). x.1) (sym (scope_marks_lem kind name fs k))),
-          λ n. subst (λ (x : Scope). scope_operands n x (beyond outside) (scope kind name fs) ≡ none) X.is (OwnOperands.scope-item X.E outside.before rules kind n fs name (T.1 (suc n))),
+          λ n. subst (λ (x : Scope). scope_operands n x (beyond outside) (scope kind name fs) ≡ none) X.is (OwnOperands.scope_item X.E outside.before rules kind n fs name (T.1 (suc n))),
           subst DistinctScope X.is (level_distinct outside k under (declarations fs) X.here outside.before fs k k (inside fs k) (inside fs k) (X.out', X.k'') low.1 (omega arith) X.resolves, T.2),
           subst (λ (x : Scope). AskedScope x (beyond outside) (scope kind name fs)) X.is
               (asked_beyond outside (declarations fs) fs (outer_keys X.out') (level_asked outside k under (declarations fs) X.here outside.before fs k k (inside fs k) (inside fs k) (X.out', X.k'') low.1 (omega arith) X.resolves), subst (λ (x : Env). AskedFields X.out' (x ∷ beyond outside) fs) (sym (OwnOperands.table_is X.E outside.before kind)) T.3),
@@ -70,9 +70,9 @@ module _ (rules : RuleSet) where
         let G = marked_good i gs (declarations fs) seen b k rules kind g in
         let same : head_of I.0 ≡ N.now = marked_head i N.now k in
         let lows : LowDecls (head_of I.0).decls = subst LowDecls (sym (ap (λ (x : Head). x.decls) same ∙ head_decls (declarations fs) seen b (head_of i))) low.0.decls in
-        let S = J.served (OwnOperands.placed-new E past rules kind R lows m f) known in
+        let S = J.served (OwnOperands.placed_new E past rules kind R lows m f) known in
         let own : (n : ℕ) → Check.head_operands (OwnOperands.c E past kind) (beyond outside) n R.h (head_of i) ≡ none =
-        λ n. OwnOperands.ran-right E past rules kind R lows m f n (head_of i)
+        λ n. OwnOperands.ran_right E past rules kind R lows m f n (head_of i)
         (subst (λ (x : Head). OwnOperands.AllAs E (head_of i).operands x.operands) (sym same) S.0)
         (subst (λ (x : Head). here_only x.code ≡ true → (head_of i).operands ≡ x.operands) (sym same) (here_only_same (declarations fs) seen b (head_of i)))
         (own_good rules kind I.0 G.0) in
@@ -82,11 +82,11 @@ module _ (rules : RuleSet) where
         (subst (λ (x : ℕ). resolve_fields (others i gs (declarations fs) seen b k).0 (declarations fs) here (onward I.0 (seeing outside past)) x R.q.1 ≡ ok R.rs) J.next R.goes_on_lem) in
         let T = fields_right gs E (onward I.0 (seeing outside past)).before start under kind N.seen N.k I.1 R.rs (suc m) low.2 G.1 L.0 L.1
         (λ d space j l. around d space j (omega (arith, item_grows i N.now k))) S.1 goes
-        (subst (λ (x : ℕ). OwnOperands.Lifts E past x (standings (suc m) R.rs.0)) J.next (OwnOperands.lifts-on E past rules kind R lows m f)) in (
+        (subst (λ (x : ℕ). OwnOperands.Lifts E past x (standings (suc m) R.rs.0)) J.next (OwnOperands.lifts_on E past rules kind R lows m f)) in (
           ap (λ (x : Fields × ℕ). x.1) (sym R.result) ∙ (T.0 ∙ ap (λ (x : Fields × ℕ). x.1) (sym (marked_next i gs (declarations fs) seen b k))),
-          λ n. OwnOperands.field-right E past rules kind R lows i gs Q.1 T.1 n,
+          λ n. OwnOperands.field_right E past rules kind R lows i gs Q.1 T.1 n,
           subst (λ (x : Fields × ℕ). DistinctFields x.0) R.result (before_distinct R.new (R.q.0 ▸ R.rs.0) (Q.2, T.2)),
-          subst (λ (x : Fields × ℕ). AskedFields x.0 (plain_of here ∷ beyond outside) (i ▸ gs)) R.result (before_asked b R.e.k R.new R.q.0 i R.rs.0 gs (plain_of here ∷ beyond outside) (Runs.ran-new R) (Agree.stays-original R lows) Q.3 T.3),
+          subst (λ (x : Fields × ℕ). AskedFields x.0 (plain_of here ∷ beyond outside) (i ▸ gs)) R.result (before_asked b R.e.k R.new R.q.0 i R.rs.0 gs (plain_of here ∷ beyond outside) (Runs.ran_new R) (Agree.stays_original R lows) Q.3 T.3),
         )
 
     item_right : (i : Item) {fs : Fields} {outside : Outside} {here : Env} {out' : Fields} (E : Closed fs outside here out') (past : Before) (kind : ℕ) (H h : Head) (k : ℕ) (q : Item × ℕ)
@@ -95,7 +95,7 @@ module _ (rules : RuleSet) where
     item_right (plain h₀) {outside = outside} {here = here} E past kind H h k q low g around e eq =
         let is = plain_shared h₀ H h here (seeing outside past) k q eq in (
           ap (λ (x : Item × ℕ). x.1) (sym is) ∙ sym (plain_next h₀ H k),
-          λ n. subst (λ (x : Item × ℕ). item_operands n x.0 (OwnOperands.c E past kind) (beyond outside) (plain h₀) ≡ none) is (OwnOperands.plain-item E past rules kind n h h₀ (e n)),
+          λ n. subst (λ (x : Item × ℕ). item_operands n x.0 (OwnOperands.c E past kind) (beyond outside) (plain h₀) ≡ none) is (OwnOperands.plain_item E past rules kind n h h₀ (e n)),
           subst (λ (x : Item × ℕ). DistinctItem x.0) is tt,
           subst (λ (x : Item × ℕ). AskedItem x.0 (plain_of here ∷ beyond outside) (plain h₀)) is tt,
         )
@@ -103,7 +103,7 @@ module _ (rules : RuleSet) where
         let X = holds_shared h₀ H h s here (seeing outside past) k q eq in
         let T = scope_right s (inward H here (seeing outside past)) k X.0 low (holds_good rules kind h₀ H s k g) (under_opened k here (seeing outside past) around) X.1 in (
           ap (λ (x : Item × ℕ). x.1) (sym X.2) ∙ (T.0 ∙ sym (holds_next h₀ H s k)),
-          λ n. subst (λ (x : Item × ℕ). item_operands n x.0 (OwnOperands.c E past kind) (beyond outside) (holds h₀ s) ≡ none) X.2 (OwnOperands.holds-item E past rules kind n h h₀ X.0.0 s (e n) T.1),
+          λ n. subst (λ (x : Item × ℕ). item_operands n x.0 (OwnOperands.c E past kind) (beyond outside) (holds h₀ s) ≡ none) X.2 (OwnOperands.holds_item E past rules kind n h h₀ X.0.0 s (e n) T.1),
           subst (λ (x : Item × ℕ). DistinctItem x.0) X.2 T.2,
           subst (λ (x : Item × ℕ). AskedItem x.0 (plain_of here ∷ beyond outside) (holds h₀ s)) X.2 T.3,
         )

@@ -12,7 +12,7 @@ use Rattle.rules.specs.Shapes.{FOUR}
 use Rattle.rules.specs.Rules
 use Rattle.rules.specs.Rules.{Result, refused, ok, ◌>>=◌, Env, table_of, Outside, in_time, late_name, late_instance, find, fresh, walk, export_alias, outer_alias, path_aliases, number_in, resolve_operands, resolve_head, resolve_inserted}
 use Rattle.rules.specs.Laws.RowLaws.{LegalIndex}
-use Rattle.rules.specs.Laws.ToolLaws.{leb_false, and_false}
+use Rattle.rules.specs.Laws.ToolLaws.{leb-false, and-false}
 use Rattle.rules.specs.Laws.Entries.{number_is}
 use Rattle.rules.specs.Laws.Results.{bind_inv, ok_then, ok_same}
 
@@ -113,7 +113,7 @@ module _ (here : Env) (outside : Outside) where
   timely : (space new : ℕ) (at : Index) (p z : ℕ) → Timely at → late_instance here outside (path_alias space new at p z).operands ≡ false
   unfolding late_instance path_alias export_alias
   timely space new (Num n) p z t = refl
-  timely space new (Id x) p z t = rw t (and_false outside.early)
+  timely space new (Id x) p z t = rw t (and-false outside.early)
 
   in_time_lem : (late : Bool) (z : ℕ) → late ≡ false → in_time late z ≡ ok tt
   unfolding in_time if◌then◌else◌
@@ -129,7 +129,7 @@ module _ (here : Env) (outside : Outside) where
 
   pub fresh_timely : (k : ℕ) → Timely (Id (fresh k))
   unfolding fresh
-  fresh_timely k = leb_false (2147483648 + k) top_name (omega arith)
+  fresh_timely k = leb-false (2147483648 + k) top_name (omega arith)
 
   -- the number in place of the name
   pub by_number_lem : (space x : ℕ) (p : ℕ) (ps : List ℕ) (z k n : ℕ) (hs : List Head) → Timely (Id x) → find (table_of here) (from_of (first_space space ps)) x ≡ some n

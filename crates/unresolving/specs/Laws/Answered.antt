@@ -17,7 +17,7 @@ use Rattle.rules.specs.Answer
 use Rattle.rules.specs.Answer.{AnswerOf, map_answer, Answer, accepted, same_numbers, setting_of, row_count, rows_of, rows_in, answer, answer_in, rows_bytes, header_bytes, form_bytes}
 use Rattle.unresolving.specs.Back.{unresolve}
 use Rattle.unresolving.specs.BackAnswer.{form_of, outcome, tree_of, read_claim, is_outcome, back}
-use Rattle.rules.specs.Laws.ToolLaws.{ok_at, All, done, ◌&◌, all_append, and_left, and_right, eqb_true, eqb_same, leb_true, leb_false, false_not, then_some}
+use Rattle.rules.specs.Laws.ToolLaws.{ok_at, All, done, ◌&◌, all_append, and_left, and_right, eqb-true, eqb_same, leb-true, leb-false, false_not, then_some}
 use Rattle.rules.specs.Laws.RowLaws.{Written, Bytes}
 use Rattle.rules.specs.Laws.Results.{some_same, no_option}
 use Rattle.rules.specs.Laws.Read.BeginsWritten.{rows_again}
@@ -35,7 +35,7 @@ unfolding same_numbers
 same_are [] [] e = refl
 same_are [] (y ∷ b) e = false_not e
 same_are (x ∷ a) [] e = false_not e
-same_are (x ∷ a) (y ∷ b) e = ap₂ (λ (z : ℕ) (l : List ℕ). z ∷ l) (eqb_true x y (and_left (eqb x y) _ e)) (same_are a b (and_right (eqb x y) _ e))
+same_are (x ∷ a) (y ∷ b) e = ap₂ (λ (z : ℕ) (l : List ℕ). z ∷ l) (eqb-true x y (and_left (eqb x y) _ e)) (same_are a b (and_right (eqb x y) _ e))
 
 pub are_same : (a : List ℕ) → same_numbers a a ≡ true
 unfolding same_numbers
@@ -73,7 +73,7 @@ rows_length [] = refl
 rows_length (r ∷ rs) = omega (arith, length-append (raw_bytes (encode r)) (rows_bytes rs), raw_length (encode r), rows_length rs)
 
 not_less : (n : ℕ) → ltb n n ≡ false
-not_less n = leb_false (suc n) n (omega arith)
+not_less n = leb-false (suc n) n (omega arith)
 
 -- what is asked of settings: the usual, and that a header which asks for one of them is written for it too
 pub record Settled (settings : List Setting) : Type 0 where
@@ -114,7 +114,7 @@ module _ (v : Setting) (U : Usual v) where
     sized : Sized [] v input_of (v.version.header + 64 * row_count v.version input_of)
     sized =
         record {
-          counted = rw (its_count, leb_true some_rows, leb_true few);
+          counted = rw (its_count, leb-true some_rows, leb-true few);
           long = rw (its_count, form_length (flatten u)) (eqb_same (v.version.header + 16 * length (flatten u)));
           roomy = not_less (v.version.header + 64 * row_count v.version input_of);
         }
@@ -333,7 +333,7 @@ form_has : (v : Setting) → Usual v → (rs : List Row) → same_numbers (take 
 unfolding Answer.has_header
 form_has v U rs marked padded =
     let l = form_length v U rs in
-    let long : leb v.version.header (length (form_bytes v rs)) ≡ true = leb_true {m = v.version.header} {n = length (form_bytes v rs)} (omega arith) in
+    let long : leb v.version.header (length (form_bytes v rs)) ≡ true = leb-true {m = v.version.header} {n = length (form_bytes v rs)} (omega arith) in
     rw (long, marked, padded)
 
 -- and not for one with another mark

@@ -40,12 +40,12 @@ not_late false z e = refl
 
 module _ (Q : ℕ → Type 0) (ds : List Declaration) (outside : Outside) where
   found_made : (space name z k : ℕ) (o : Option (ℕ × ℕ)) → LegalIndex top_name (Id name) → late_name ds outside space name ≡ false → find ds space name ≡ none → walk outside.scopes 1 space name ≡ o → OkR (Made Q ds outside k) (Rules.found_at space name z k o)
-  unfolding Rules.found_at Rules.as-it-is
+  unfolding Rules.found_at Rules.as_it_is
   found_made space name z k none l t f w = stays refl refl
   found_made space name z k (some at) l t f w = if_ok_lem (OkR (Made Q ds outside k)) _ _ _ (λ four. named space name z at l four t f w refl) (λ _. tt)
 
   pub operand_made : (k : ℕ) (o : Operand) → May Q o → OkR (Made Q ds outside k) (expand_operand ds outside k o)
-  unfolding expand_operand Rules.as-it-is
+  unfolding expand_operand Rules.as_it_is
   operand_made k (ref space (Num n) [] z) h = stays refl refl
   operand_made k (ref space (Id name) [] z) h =
       bind_eq _ _ _ (λ u t. if_ok_lem (OkR (Made Q ds outside k)) _ _ _ (λ _. stays refl refl) (λ f. found_made space name z k _ h (not_late _ z t) (just_none _ f) refl))
@@ -241,7 +241,7 @@ module _ (Q : ℕ → Type 0) (ds : List Declaration) (here : Env) (outside : Ou
 
   pub divided : (fz k : ℕ) (seen : List ℕ) (os : List Operand) (E : Expanded (List Operand)) (hs : List Head) (os' : List Operand) → AllMay Q os → expand_operands ds outside k os ≡ ok E
       → resolve_inserted here outside E.inserted ≡ ok hs → resolve_operands here outside fz seen E.now ≡ ok os' → Divided k E hs os'
-  unfolding expand_operands resolve_inserted Rules.as-it-is
+  unfolding expand_operands resolve_inserted Rules.as_it_is
   divided fz k seen [] E hs os' h e r n =
       let same = ok_same _ E e in
       let none_made : [] ≡ hs = ok_same [] hs (rw (← same) at r) in

@@ -18,7 +18,7 @@ use Rattle.rules.specs.Good.{after_operand, after_operands, GoodHead}
 use Rattle.rules.specs.Rules
 use Rattle.rules.specs.Rules.{Entry, ok, Env, table_of, Outside, fresh, export_alias}
 use Rattle.unresolving.specs.Back.{Group, groups, restored, restored_head}
-use Rattle.rules.specs.Laws.ToolLaws.{ok_at, then_some, All, done, ◌&◌, all_append, all_left, all_right, or_true, and_left, and_right, eqb_true, leb_lt, leb_true}
+use Rattle.rules.specs.Laws.ToolLaws.{ok_at, then_some, All, done, ◌&◌, all_append, all_left, all_right, or-true, and_left, and_right, eqb-true, leb_lt, leb-true}
 use Rattle.rules.specs.Laws.RowLaws
 use Rattle.rules.specs.Laws.RowLaws.{LegalIndex, Written}
 use Rattle.rules.specs.Laws.Results.{ok_same}
@@ -37,8 +37,8 @@ use Rattle.unresolving.specs.Laws.Restored.{ForIt, for_it, restored_none, HeadMa
 
 short_ok : (space : ℕ) (ps : List ℕ) → Short space ps → Shapes.paths_ok space (suc (length ps)) ≡ true
 unfolding Shapes.paths_ok
-short_ok space [] h = or_true (leb 7 space)
-short_ok space (q ∷ ps) h = let l = leb_lt space 6 h in rw (leb_true {m = 7} {n = space} (omega arith))
+short_ok space [] h = or-true (leb 7 space)
+short_ok space (q ∷ ps) h = let l = leb_lt space 6 h in rw (leb-true {m = 7} {n = space} (omega arith))
 
 then_is : {A B : Type 0} (o : Option A) (f : A → Option B) (a : A) (b : B) → o ≡ some a → f a ≡ some b → (o then f) ≡ some b
 unfolding ◌then◌
@@ -129,7 +129,7 @@ module _ (Q : ℕ → Type 0) (ds : List Declaration) (here : Env) (outside : Ou
   fits_bare : (a : Operand) → fits_in a (Shapes.p (9 ∷ [])) ≡ true → Bare a
   unfolding fits_in Shapes.fits_ref
   fits_bare (ref space at [] z) e = tt
-  fits_bare (ref space at (m ∷ ms) z) e = let no = eqb_true (suc (length ms)) 0 (and_right (is_in space (9 ∷ [])) _ e) in absurd (omega arith)
+  fits_bare (ref space at (m ∷ ms) z) e = let no = eqb-true (suc (length ms)) 0 (and_right (is_in space (9 ∷ [])) _ e) in absurd (omega arith)
   fits_bare (outer space up at z) e = tt
   fits_bare (case name z) e = tt
 

@@ -163,7 +163,7 @@ module _ (rules : RuleSet) where
       fields_next : LowDecls (head_of i).decls → ItemFine kind (unresolve_item R.q.0 (table_of here) (tables outside) R.new) → FieldsFine kind (unresolve_fields R.rs.0 (table_of here) (tables outside) [])
           → FieldsFine kind (unresolve_fields r.0 (table_of here) (tables outside) [])
       fields_next low I F =
-          let own : is_inserted (head_of R.q.0) ≡ false = Lookups.low-original (head_of R.q.0) (subst LowDecls (sym (ran_decls R)) low) in
+          let own : is_inserted (head_of R.q.0) ≡ false = Lookups.low_original (head_of R.q.0) (subst LowDecls (sym (ran_decls R)) low) in
           let is : unresolve_fields r.0 (table_of here) (tables outside) [] ≡ unresolve_item R.q.0 (table_of here) (tables outside) R.new ▸ unresolve_fields R.rs.0 (table_of here) (tables outside) [] =
           ap (λ (x : Fields × ℕ). unresolve_fields x.0 (table_of here) (tables outside) []) (sym R.result) ∙ unresolve_before (table_of here) (tables outside) b R.e.k R.new R.q.0 R.rs.0 [] (ran_new R) own in
           subst (FieldsFine kind) (sym is) (next_fine kind _ _ I F)

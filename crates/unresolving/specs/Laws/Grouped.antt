@@ -15,7 +15,7 @@ use Rattle.rules.specs.Shapes.{FOUR}
 use Rattle.rules.specs.Rules
 use Rattle.rules.specs.Rules.{ok, ◌>>=◌, Env, table_of, Outside, in_time, late_name, find, fresh, walk, Expanded, outer_alias, export_alias, path_aliases, number_in, expand_operand, resolve_inserted}
 use Rattle.unresolving.specs.Back.{Group, or_zero, first_decl, first_operand, digits, index_of, served, lengthened, prepend, stands_on, links, alone, groups}
-use Rattle.rules.specs.Laws.ToolLaws.{and_left, and_right, eqb_true, false_not}
+use Rattle.rules.specs.Laws.ToolLaws.{and_left, and_right, eqb-true, false_not}
 use Rattle.rules.specs.Laws.RowLaws.{LegalIndex}
 use Rattle.rules.specs.Laws.Results.{OkR, holds_of, bind_any, bind_ok, ok_same}
 use Rattle.unresolving.specs.Laws.Reached.{tables, number_is, name_out_lem}
@@ -86,10 +86,10 @@ module _ (Q : ℕ → Type 0) (ds : List Declaration) (here : Env) (outside : Ou
       let t₁ = and_right (eqb b.code 9) _ t₀ in
       let t₂ = and_right (eqb d.space 10) _ t₁ in
       record {
-        code = eqb_true a.code 9 (and_left _ _ l);
-        code_b = eqb_true b.code 9 (and_left _ _ t₀);
-        space = eqb_true d.space 10 (and_left _ _ t₁);
-        place = eqb_true a.z b.z (and_left _ _ t₂);
+        code = eqb-true a.code 9 (and_left _ _ l);
+        code_b = eqb-true b.code 9 (and_left _ _ t₀);
+        space = eqb-true d.space 10 (and_left _ _ t₁);
+        place = eqb-true a.z b.z (and_left _ _ t₂);
         stands = and_right (eqb a.z b.z) _ t₂;
       }
 

@@ -108,7 +108,7 @@ module _ (ds : List Declaration) (here : Env) (outside : Outside) where
   -- the last operand
   nothing : (fz k : ℕ) (seen : List ℕ) (E : Expanded (List Operand)) (hs : List Head) (os : List Operand) → expand_operands ds outside k [] ≡ ok E
       → resolve_inserted here outside E.inserted ≡ ok hs → resolve_operands here outside fz seen E.now ≡ ok os → ([] ≡ hs) × ([] ≡ os)
-  unfolding expand_operands resolve_inserted resolve_operands Rules.as-it-is
+  unfolding expand_operands resolve_inserted resolve_operands Rules.as_it_is
   nothing fz k seen E hs os e r n = let same = ok_same _ E e in (ok_same [] hs (rw (← same) at r), ok_same [] os (rw (← same) at n))
 
   pub record Last (hs : List Head) (os : List Operand) : Type 0 where

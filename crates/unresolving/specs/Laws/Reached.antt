@@ -7,7 +7,7 @@ use Rattle.rules.specs.Tools.{if◌then◌else◌, ◌then◌, ◌or_else◌}
 use Rattle.rules.specs.Tree.{Declaration}
 use Rattle.rules.specs.Rules.{Env, table_of, Outside, find, walk}
 use Rattle.unresolving.specs.Back.{or_zero, is_number, names_in, name_out}
-use Rattle.rules.specs.Laws.ToolLaws.{eqb_true, eqb_same, false_not}
+use Rattle.rules.specs.Laws.ToolLaws.{eqb-true, eqb_same, false_not}
 use Rattle.rules.specs.Laws.Results.{some_same, no_option}
 
 -- ---- what was found is the number asked for
@@ -15,7 +15,7 @@ use Rattle.rules.specs.Laws.Results.{some_same, no_option}
 pub number_is : (o : Option ℕ) (n : ℕ) → is_number o n ≡ true → o ≡ some n
 unfolding is_number
 number_is none n e = false_not e
-number_is (some m) n e = ap {B = Option ℕ} some (eqb_true m n e)
+number_is (some m) n e = ap {B = Option ℕ} some (eqb-true m n e)
 
 pub is_number_lem : (o : Option ℕ) (n : ℕ) → o ≡ some n → is_number o n ≡ true
 unfolding is_number
@@ -35,7 +35,7 @@ found_name (d ∷ ds) space name n e = go (eqb d.space space) (eqb d.name name) 
     go : (a b : Bool) → eqb d.name name ≡ b → (if a then if b then some 0 else map suc (find ds space name) else find ds space name) ≡ some n
         → ((m : ℕ) → find ds space name ≡ some m → get_elem? (names_in ds space) m ≡ some name)
         → get_elem? (if a then d.name ∷ names_in ds space else names_in ds space) n ≡ some name
-    go true true t e below = rw (← some_same 0 n e) (ap {B = Option ℕ} some (eqb_true d.name name t))
+    go true true t e below = rw (← some_same 0 n e) (ap {B = Option ℕ} some (eqb-true d.name name t))
     go true false t e below = let M = map_some (find ds space name) n e in rw (← M.2) (below M.0 M.1)
     go false b t e below = below n e
 

@@ -15,7 +15,7 @@ use Rattle.rules.specs.Shapes.{here_only}
 use Rattle.rules.specs.Rules
 use Rattle.rules.specs.Rules.{Result, refused, ok, ◌>>=◌, Env, table_of, Outside, opened, find, Expanded, number_in, expand_operand, expand_operands, expand_head, resolve_operands, resolve_head, resolve_inserted}
 use Rattle.unresolving.specs.Back.{Group, digits, groups, is_for, first_fit, restored, restored_head}
-use Rattle.rules.specs.Laws.ToolLaws.{if_ok_lem, and_left, and_right, eqb_true, false_not}
+use Rattle.rules.specs.Laws.ToolLaws.{if_ok_lem, and_left, and_right, eqb-true, false_not}
 use Rattle.rules.specs.Laws.Results.{OkR, if_both, holds_of, bind_inv, bind_ok, bind_any, ok_then, ok_same, no_result}
 use Rattle.rules.specs.Laws.Meaning.Names.{LowOperand, LowOperands}
 use Rattle.rules.specs.Laws.Output.Numbers.{Numbered, AllNumbered, expanded_bare, operands_numbered}
@@ -29,7 +29,7 @@ use Rattle.unresolving.specs.Laws.Grouped.{Split, no_more, next, split, Took, to
 
 -- ---- numbers are left alone by both steps
 
-pub kept_as_it_is : (ds : List Declaration) (outside : Outside) (k : ℕ) (o : Operand) → Numbered o → expand_operand ds outside k o ≡ ok (Rules.as-it-is o k)
+pub kept_as_it_is : (ds : List Declaration) (outside : Outside) (k : ℕ) (o : Operand) → Numbered o → expand_operand ds outside k o ≡ ok (Rules.as_it_is o k)
 unfolding expand_operand
 kept_as_it_is ds outside k (ref space (Num n) [] z) p = refl
 kept_as_it_is ds outside k (ref space (Num n) (m ∷ ms) z) p = absurd p
@@ -125,7 +125,7 @@ module _ (here : Env) (outside : Outside) (fz : ℕ) where
     stays k seen o ns os hs p A R =
         record {
           e = record { inserted = [] ++ R.e.inserted; rows = map (λ (n : ℕ). length (operand_row o) + n) R.e.rows; now = o ∷ R.e.now; k = R.e.k };
-          expands = ok_then _ _ (Rules.as-it-is o k) _ (kept_as_it_is ds outside k o p) (unfold Rules.as-it-is in ok_then _ _ R.e _ R.expands refl);
+          expands = ok_then _ _ (Rules.as_it_is o k) _ (kept_as_it_is ds outside k o p) (unfold Rules.as_it_is in ok_then _ _ R.e _ R.expands refl);
           adds = R.adds;
           resolves = A.before R.e.now R.resolves;
           ends = R.ends;
@@ -142,8 +142,8 @@ module _ (here : Env) (outside : Outside) (fz : ℕ) where
     for_it g (ref space (Num n) [] z) p t =
         let d = g.decl in
         let t₁ = and_right (eqb d.space space) _ t in
-        let s : d.space ≡ space = eqb_true d.space space (and_left _ _ t) in
-        let z_is : d.z ≡ z = eqb_true d.z z (and_left _ _ t₁) in
+        let s : d.space ≡ space = eqb-true d.space space (and_left _ _ t) in
+        let z_is : d.z ≡ z = eqb-true d.z z (and_left _ _ t₁) in
         record { n = n; is = rw (s, z_is); found = rw s (number_is _ n (and_right (eqb d.z z) _ t₁)) }
     for_it g (ref space (Num n) (m ∷ ms) z) p t = absurd p
     for_it g (ref space (Id name) paths z) p t = absurd p
@@ -165,7 +165,7 @@ module _ (here : Env) (outside : Outside) (fz : ℕ) where
 
     -- none of them
     unchanged : (k : ℕ) (seen : List ℕ) (os : List Operand) → AllNumbered os → resolve_operands here outside fz seen os ≡ ok os → Returned k os [] os seen
-    unfolding expand_operands resolve_inserted Rules.as-it-is
+    unfolding expand_operands resolve_inserted Rules.as_it_is
     unchanged k seen [] p e = record { e = _; expands = refl; adds = refl; resolves = e; ends = omega arith }
     unchanged k seen (o ∷ os) p e =
         let A = again seen o os p.0 e in
@@ -212,10 +212,10 @@ module _ (Q : ℕ → Type 0) (ds : List Declaration) (here : Env) (outside : Ou
 
   -- operands of its own scope alone: nothing was inserted for them
   here_back : (b : ℕ) (h : Head) (os : List Operand) → here_only h.code ≡ true → resolve_operands here outside h.z [] os ≡ ok os → HeadBack b [] (with_operands h os) b
-  unfolding restored_head groups expand_head resolve_head resolve_inserted with_operands Rules.as-it-is if◌then◌else◌
+  unfolding restored_head groups expand_head resolve_head resolve_inserted with_operands Rules.as_it_is if◌then◌else◌
   here_back b h os c e =
       record {
-        e = Rules.as-it-is (with_operands h os) b;
+        e = Rules.as_it_is (with_operands h os) b;
         expands = rw (restored_none os, c);
         adds = refl;
         resolves = ok_then _ _ os _ e refl;
@@ -256,12 +256,12 @@ module _ (Q : ℕ → Type 0) (ds : List Declaration) (here : Env) (outside : Ou
   low_cases (o ∷ os) l = (low_case o l.0, low_cases os l.1)
 
   found_low : (space name z k : ℕ) (o : Option (ℕ × ℕ)) → OkR (λ e. LowCase e.now) (Rules.found_at space name z k o)
-  unfolding Rules.found_at Rules.through Rules.as-it-is
+  unfolding Rules.found_at Rules.through Rules.as_it_is
   found_low space name z k none = tt
   found_low space name z k (some at) = if_both (OkR (λ (e : Expanded Operand). LowCase e.now)) _ _ _ tt tt
 
   operand_low : (k : ℕ) (o : Operand) → LowCase o → OkR (λ e. LowCase e.now) (expand_operand ds outside k o)
-  unfolding expand_operand Rules.through Rules.as-it-is
+  unfolding expand_operand Rules.through Rules.as_it_is
   operand_low k (ref space (Num n) [] z) l = tt
   operand_low k (ref space (Id name) [] z) l = bind_any _ _ _ (λ u. if_both (OkR (λ (e : Expanded Operand). LowCase e.now)) _ _ _ tt (found_low space name z k _))
   operand_low k (ref space at (p ∷ ps) z) l = if_both (OkR (λ (e : Expanded Operand). LowCase e.now)) _ _ _ tt tt
@@ -269,7 +269,7 @@ module _ (Q : ℕ → Type 0) (ds : List Declaration) (here : Env) (outside : Ou
   operand_low k (case name z) l = l
 
   operands_low : (k : ℕ) (os : List Operand) → LowCases os → OkR (λ e. LowCases e.now) (expand_operands ds outside k os)
-  unfolding expand_operands Rules.as-it-is
+  unfolding expand_operands Rules.as_it_is
   operands_low k [] l = tt
   operands_low k (o ∷ os) l = bind_ok _ _ _ _ (operand_low k o l.0) (λ e f. bind_ok _ _ _ _ (operands_low e.k os l.1) (λ es g. (f, g)))
 
@@ -292,11 +292,11 @@ module _ (Q : ℕ → Type 0) (ds : List Declaration) (here : Env) (outside : Ou
 
   pub head_made : (b : ℕ) (h : Head) (e : Expanded Head) (hs : List Head) (h' : Head) → AllMay Q h.operands → LowOperands h.operands → expand_head ds outside b h ≡ ok e
       → resolve_inserted here outside e.inserted ≡ ok hs → resolve_head here outside e.now ≡ ok h' → HeadMade b e.k h hs h'
-  unfolding expand_head resolve_head resolve_inserted with_operands Rules.as-it-is if◌then◌else◌
+  unfolding expand_head resolve_head resolve_inserted with_operands Rules.as_it_is if◌then◌else◌
   head_made b h e hs h' may low x a r = go (here_only h.code) refl x
     where
       go : (t : Bool) → here_only h.code ≡ t
-          → (if t then ok (Rules.as-it-is h b) else (expand_operands ds outside b h.operands >>= λ e. ok (record { inserted = e.inserted; rows = e.rows; now = with_operands h e.now; k = e.k }))) ≡ ok e
+          → (if t then ok (Rules.as_it_is h b) else (expand_operands ds outside b h.operands >>= λ e. ok (record { inserted = e.inserted; rows = e.rows; now = with_operands h e.now; k = e.k }))) ≡ ok e
           → HeadMade b e.k h hs h'
       go true c x =
           let same = ok_same _ e x in

@@ -45,7 +45,7 @@ module _ (here : List Declaration) (outside : List (List Declaration)) where
   unresolve_before lo hi [] j fs waiting n e =
       unresolve_own j fs waiting e ∙ ap (λ (w : List Head). unresolve_item j here outside w ▸ unresolve_fields fs here outside []) (sym (append-nil waiting))
   unresolve_before lo hi (h ∷ hs) j fs waiting n e =
-      unresolve_inserted h (◌before◌ hs (j ▸ fs)) waiting (Lookups.new-inserted lo hi h n.0)
+      unresolve_inserted h (◌before◌ hs (j ▸ fs)) waiting (Lookups.new_inserted lo hi h n.0)
       ∙ (unresolve_before lo hi hs j fs (waiting ++ (h ∷ [])) n.1 e
       ∙ ap (λ (w : List Head). unresolve_item j here outside w ▸ unresolve_fields fs here outside []) (snoc_append waiting h hs))
 
@@ -118,11 +118,11 @@ module _ (Q : ℕ → Type 0) (i : Item) (fs : Fields) (ds : List Declaration) (
         let B = below (onward j o₂) (onward_alike i j outside o₂ d a) s.0 s.1 in
         let rest : expand_fields ds (onward j o₂) H.e.k u ≡ ok B.t₂ = ap (λ (x : ℕ). expand_fields ds (onward j o₂) x u) H.ends ∙ B.expands in
         let same : heads_decls H.e.inserted ≡ heads_decls R.e.inserted =
-        sym (holds_of _ _ R.new (Runs.inserted-decls here outside H.e.inserted) H.adds) ∙ holds_of _ _ R.new (Runs.inserted-decls here outside R.e.inserted) R.adds in
+        sym (holds_of _ _ R.new (Runs.inserted_decls here outside H.e.inserted) H.adds) ∙ holds_of _ _ R.new (Runs.inserted_decls here outside R.e.inserted) R.adds in
         let row = outside.before.row in
         let row₂ = o₂.before.row in
-        let was = Entries.field-decls (row + suc (length (head_of i).decls)) (suc row) R.e.inserted R.e.rows (head_of i).decls s.0.0 in
-        let now = Entries.field-decls (row₂ + suc (length (head_of j).decls)) (suc row₂) H.e.inserted H.e.rows (head_of j).decls B.t₂.0 in
+        let was = Entries.field_decls (row + suc (length (head_of i).decls)) (suc row) R.e.inserted R.e.rows (head_of i).decls s.0.0 in
+        let now = Entries.field_decls (row₂ + suc (length (head_of j).decls)) (suc row₂) H.e.inserted H.e.rows (head_of j).decls B.t₂.0 in
         let middle = three_same (heads_decls H.e.inserted) (heads_decls R.e.inserted) (head_of j).decls (head_of i).decls (decls_in B.t₂.0) (decls_in s.0.0) same d B.table in
         let is = ok_same _ t s.2 in
         record {
@@ -152,7 +152,7 @@ module _ (Q : ℕ → Type 0) (i : Item) (fs : Fields) (ds : List Declaration) (
       let head = I.head R.new in
       let decls : (head_of j).decls ≡ (head_of i).decls =
       ap (λ (x : Head). x.decls) head ∙ (restored_decls (table_of here) (tables outside) R.new R.h ∙ (sym (ap (λ (x : Head). x.decls) (ran_head R)) ∙ ran_decls R)) in
-      let own : is_inserted (head_of R.q.0) ≡ false = Lookups.low-original (head_of R.q.0) (subst LowDecls (sym (ran_decls R)) low) in
+      let own : is_inserted (head_of R.q.0) ≡ false = Lookups.low_original (head_of R.q.0) (subst LowDecls (sym (ran_decls R)) low) in
       let is : unresolve_fields r.0 (table_of here) (tables outside) [] ≡ j ▸ u =
       ap (λ (x : Fields × ℕ). unresolve_fields x.0 (table_of here) (tables outside) []) (sym R.result)
       ∙ unresolve_before (table_of here) (tables outside) b R.e.k R.new R.q.0 R.rs.0 [] (ran_new R) own in

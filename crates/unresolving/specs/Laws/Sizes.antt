@@ -56,8 +56,8 @@ aliases_paths space at p (q ∷ ps) z k = rw (aliases_paths space (Id (Rules.fre
 abbrev Told : Operand → Expanded Operand → Type 0
 Told o e = length (operand_row o) ≡ length (operand_row e.now) + paths e.inserted
 
-same_told : (o : Operand) (k : ℕ) → Told o (Rules.as-it-is o k)
-unfolding Rules.as-it-is paths
+same_told : (o : Operand) (k : ℕ) → Told o (Rules.as_it_is o k)
+unfolding Rules.as_it_is paths
 same_told o k = omega arith
 
 found_told : (space name z k : ℕ) (o : Option (ℕ × ℕ)) → OkR (Told (ref space (Id name) [] z)) (Rules.found_at space name z k o)
@@ -75,13 +75,13 @@ module _ (ds : List Declaration) (outside : Outside) where
   operand_told k (case name z) = same_told _ k
 
   operands_told : (k : ℕ) (os : List Operand) → OkR (λ e. length (operand_rows os) ≡ length (operand_rows e.now) + paths e.inserted) (expand_operands ds outside k os)
-  unfolding expand_operands operand_rows Rules.as-it-is paths
+  unfolding expand_operands operand_rows Rules.as_it_is paths
   operands_told k [] = refl
   operands_told k (o ∷ os) = bind_ok _ _ _ _ (operand_told k o) (λ e f. bind_ok _ _ _ _ (operands_told e.k os) (λ es g.
       omega (arith, paths_append e.inserted es.inserted, length-append (operand_row e.now) (operand_rows es.now), length-append (operand_row o) (operand_rows os))))
 
   head_told : (k : ℕ) (h : Head) → OkR (λ e. length (head_rows h) ≡ length (head_rows e.now) + paths e.inserted) (expand_head ds outside k h)
-  unfolding expand_head with_operands Rules.as-it-is paths
+  unfolding expand_head with_operands Rules.as_it_is paths
   head_told k h =
       if_both (OkR _) _ _ _ (omega arith) (bind_ok _ _ _ _ (operands_told k h.operands) (λ e f. omega (arith, head_length h, head_length (with_operands h e.now))))
 
@@ -102,7 +102,7 @@ module _ (here : Env) (outside : Outside) where
 before_told : (lo hi : ℕ) (hs : List Head) (fs : Fields) → AllNew lo hi hs → input_sizes (◌before◌ hs fs) ≡ paths hs + input_sizes fs
 unfolding ◌before◌ paths input_size own_size if◌then◌else◌
 before_told lo hi [] fs n = omega arith
-before_told lo hi (h ∷ hs) fs n = rw (Lookups.new-inserted lo hi h n.0, before_told lo hi hs fs n.1) (omega arith)
+before_told lo hi (h ∷ hs) fs n = rw (Lookups.new_inserted lo hi h n.0, before_told lo hi hs fs n.1) (omega arith)
 
 fields_told : (j : Item) (fs : Fields) → input_sizes (j ▸ fs) ≡ input_size_item j + input_sizes fs
 unfolding input_size
@@ -131,9 +131,9 @@ holds_told h₀ h s s' e q = rw (own_told h e, q)
 still_original : (ds : List Declaration) (here : Env) (outside : Outside) (b : ℕ) (h₀ : Head) (e : Expanded Head) (h : Head) → LowDecls h₀.decls → expand_head ds outside b h₀ ≡ ok e
     → resolve_head here outside e.now ≡ ok h → is_inserted h ≡ false
 still_original ds here outside b h₀ e h low ee eh =
-    let now : h.decls ≡ e.now.decls = (holds_of (Runs.SameDecls e.now) _ h (Runs.head-same here outside e.now) eh).0 in
-    let was : e.now.decls ≡ h₀.decls = (holds_of (λ (x : Expanded Head). Runs.SameDecls h₀ x.now) _ e (Runs.expanded-same ds outside b h₀) ee).0 in
-    Lookups.low-original h (subst LowDecls (sym (now ∙ was)) low)
+    let now : h.decls ≡ e.now.decls = (holds_of (Runs.SameDecls e.now) _ h (Runs.head_same here outside e.now) eh).0 in
+    let was : e.now.decls ≡ h₀.decls = (holds_of (λ (x : Expanded Head). Runs.SameDecls h₀ x.now) _ e (Runs.expanded_same ds outside b h₀) ee).0 in
+    Lookups.low_original h (subst LowDecls (sym (now ∙ was)) low)
 
 mutual
   unfolding resolve_scope
@@ -152,7 +152,7 @@ mutual
       let told = holds_of _ _ e (head_told ds outside b (head_of i)) ee in
       let news = holds_of _ _ new (inserted_told here outside e.inserted) en in
       let same = holds_of _ _ h (head_same here outside e.now) eh in
-      let grown : Runs.Grown b e = holds_of _ _ e (Runs.head-grown ds outside b (head_of i)) ee in
+      let grown : Runs.Grown b e = holds_of _ _ e (Runs.head_grown ds outside b (head_of i)) ee in
       let new-ones : AllNew b e.k new = holds_of _ _ new (Runs.inserted_new here outside b e.k e.inserted grown.1) en in
       let own = still_original ds here outside b (head_of i) e h low.0.decls ee eh in
       bind_ok _ _ _ _ (item_rows_lem i h here outside k low.1 own) (λ q f.

@@ -13,7 +13,7 @@ use Rattle.rules.specs.Tree.{Declaration, Operand, ref, outer, case, Head}
 use Rattle.rules.specs.Shapes
 use Rattle.rules.specs.Shapes.{Want, r, p, out, cas, Part, one, opt, any, cases, variants, typed, parts, fits_ref, fits_outer, is_case, next, complete}
 use Rattle.rules.specs.Good.{after_operand, after_operands, GoodHead}
-use Rattle.rules.specs.Laws.ToolLaws.{Ok, ok_at, only_ok, if_ok_lem, and_left, and_right, or_cases, or_true, not_true, false_not, eqb_true, then_some, leb_le, leb_false, done, ◌&◌, get_d_all}
+use Rattle.rules.specs.Laws.ToolLaws.{Ok, ok_at, only_ok, if_ok_lem, and_left, and_right, or_cases, or-true, not-true, false_not, eqb-true, then_some, leb_le, leb-false, done, ◌&◌, get_d_all}
 use Rattle.rules.specs.Laws.Results.{if_both, no_option, some_same}
 use Rattle.rules.specs.Laws.Output.Orderly.{none_fits, long_blocks}
 use Rattle.rules.specs.Laws.Meaning.Names.{LowOperands, LowHead}
@@ -68,13 +68,13 @@ signature_unmixed space = if_ok_lem Unmixed _ _ _ (λ t. refl) (λ f. if_ok_lem 
 
 own_unmixed : (s : ℕ) → Unmixed (one (r (s ∷ [])) ∷ [])
 unfolding unmixed want_ok spaces_ok pathable pathable_want
-own_unmixed s = rw (or_true (leb s 6))
+own_unmixed s = rw (or-true (leb s 6))
 
 ascribed_unmixed : (s : ℕ) → Unmixed (Shapes.ascribed s)
 unfolding Shapes.ascribed unmixed want_ok spaces_ok pathable pathable_want
 ascribed_unmixed s =
-    if_ok_lem Unmixed _ _ _ (λ t. rw (or_true (leb s 6))) λ f₁.
-    if_ok_lem Unmixed _ _ _ (λ t. rw (or_true (leb s 6))) λ f₂. rw (or_true (leb s 6))
+    if_ok_lem Unmixed _ _ _ (λ t. rw (or-true (leb s 6))) λ f₁.
+    if_ok_lem Unmixed _ _ _ (λ t. rw (or-true (leb s 6))) λ f₂. rw (or-true (leb s 6))
 
 module _ (rules : RuleSet) (heap : eqb 0 rules.heap ≡ false) where
   builtin_unmixed : (e : ℕ) → Unmixed (Shapes.builtin_parts rules e)
@@ -149,14 +149,14 @@ module _ (all : List Part) (space n : ℕ) where
       or_cases (eqb space s) (is_in space ss) i
       (λ t.
       let here = and_left (pathable s all && (leb s 6 || pathable 10 all)) (spaces_ok all ss) e in
-      rw (eqb_true space s t) (record { may = and_left (pathable s all) (leb s 6 || pathable 10 all) here; ten = and_right (pathable s all) (leb s 6 || pathable 10 all) here }))
+      rw (eqb-true space s t) (record { may = and_left (pathable s all) (leb s 6 || pathable 10 all) here; ten = and_right (pathable s all) (leb s 6 || pathable 10 all) here }))
       (λ t. in_ok ss (and_right (pathable s all && (leb s 6 || pathable 10 all)) (spaces_ok all ss) e) t)
 
   fits_ok : (w : Want) → want_ok all w ≡ true → fits_ref w space (suc n) ≡ true → Allowed
   unfolding want_ok fits_ref
   fits_ok (r spaces) e t = in_ok spaces e (and_left (is_in space spaces) _ t)
   fits_ok (p spaces) e t =
-      let z = eqb_true (suc n) 0 (and_right (is_in space spaces) _ t) in absurd (omega arith)
+      let z = eqb-true (suc n) 0 (and_right (is_in space spaces) _ t) in absurd (omega arith)
   fits_ok (out x) e t = false_not t
   fits_ok cas e t = false_not t
 
@@ -184,7 +184,7 @@ paths_ok_lem space n ps q e = go (Shapes.paths_ok space (suc n)) refl
 two_high : (space n : ℕ) → Shapes.paths_ok space (suc (suc n)) ≡ true → leb space 6 ≡ false
 unfolding Shapes.paths_ok
 two_high space n e =
-    or_cases (leb 7 space) (leb (suc (suc n)) 1) e (λ t. let l = leb_le 7 space t in leb_false space 6 (omega arith))
+    or_cases (leb 7 space) (leb (suc (suc n)) 1) e (λ t. let l = leb_le 7 space t in leb-false space 6 (omega arith))
     (λ t. let l = leb_le (suc (suc n)) 1 t in absurd (omega arith))
 
 path_may : (all : List Part) (space : ℕ) (ps : List ℕ) → Allowed all space (length ps) → Shapes.paths_ok space (suc (length ps)) ≡ true → PathMay (λ s. pathable s all ≡ true) space ps
@@ -284,8 +284,8 @@ parts_kind rules code builtin ds =
 module _ (space n : ℕ) (paths : Shapes.paths_ok space (suc n) ≡ true) where
   want_same : (w : Want) → pathable_want space w ≡ true → fits_ref w space (suc n) ≡ fits_ref w space 0
   unfolding pathable_want fits_ref Shapes.paths_ok
-  want_same (r spaces) e = rw (paths, or_true (leb 7 space))
-  want_same (p spaces) e = rw (not_true (is_in space spaces) e)
+  want_same (r spaces) e = rw (paths, or-true (leb 7 space))
+  want_same (p spaces) e = rw (not-true (is_in space spaces) e)
   want_same (out x) e = refl
   want_same cas e = refl
 

@@ -15,7 +15,7 @@ use Rattle.rules.specs.Rules.{table_of, Before, ok, Env, Outside, inward, find, 
 use Rattle.rules.specs.Readings
 use Rattle.rules.specs.Readings.{originals, Place, Level, level, Spot, original, inserted, in_original, standings, first_named, place, declared, outward}
 use Rattle.rules.specs.Laws.Meaning.Runs.{seeing}
-use Rattle.rules.specs.Laws.ToolLaws.{false_not, leb_true, leb_false, leb_lt, snoc_append}
+use Rattle.rules.specs.Laws.ToolLaws.{false_not, leb-true, leb-false, leb_lt, snoc_append}
 use Rattle.rules.specs.Laws.Results.{some_same, no_option}
 use Rattle.rules.specs.Laws.Meaning.Names.{LowScope, LowFields, LowItem}
 use Rattle.rules.specs.Laws.Meaning.Runs
@@ -36,10 +36,10 @@ firsts (suc n) (i ▸ fs) = (head_of i).decls ++ firsts n fs
 -- tests on numbers
 
 below : (m n : ℕ) → m < n → ltb m n ≡ true
-below m n h = leb_true h
+below m n h = leb-true h
 
 at_least : (m n : ℕ) → n ≤ m → ltb m n ≡ false
-at_least m n h = leb_false (suc m) n (omega arith)
+at_least m n h = leb-false (suc m) n (omega arith)
 
 not_below : (m n : ℕ) → ltb m n ≡ false → n ≤ m
 not_below m n e = let l = leb_lt (suc m) n e in omega arith
@@ -80,7 +80,7 @@ behind k zero i fs space name (some (original field at)) e f =
     sym (at_least field (k + 0) (omega arith))
 behind k (suc n) i fs space name (some (original field at)) e f =
     let same : suc k + n ≡ k + suc n = omega arith in
-    Unknown.has-append (head_of i).decls (firsts n fs) space name ∙ (rw e (f n ∙ ap (ltb field) same))
+    Unknown.has_append (head_of i).decls (firsts n fs) space name ∙ (rw e (f n ∙ ap (ltb field) same))
 behind k n i fs space name (some (inserted h)) e f = tt
 
 among : (k n : ℕ) (fs : Fields) (space name : ℕ) → LowFields fs → Among k n fs space name (first_named (standings k fs) space name)
@@ -88,14 +88,14 @@ unfolding standings first_named
 among k n end space name low = tt
 among k n (i ▸ fs) space name low =
     rw (
-      Lookups.standings-original k i fs (Lookups.low-original (head_of i) low.0.decls),
-      Lookups.first-append (in_original k 0 (head_of i).decls) (standings (suc k) fs) space name,
+      Lookups.standings_original k i fs (Lookups.low_original (head_of i) low.0.decls),
+      Lookups.first_append (in_original k 0 (head_of i).decls) (standings (suc k) fs) space name,
     )
     (go (has (head_of i).decls space name) refl (λ m. among (suc k) m fs space name low.2))
   where
     here : (n : ℕ) → has (head_of i).decls space name ≡ true → has (firsts n (i ▸ fs)) space name ≡ ltb k (k + n)
     here zero e = unfold firsts has in sym (at_least k (k + 0) (omega arith))
-    here (suc n) e = unfold firsts in (Unknown.has-append (head_of i).decls (firsts n fs) space name ∙ (rw e (sym (below k (k + suc n) (omega arith)))))
+    here (suc n) e = unfold firsts in (Unknown.has_append (head_of i).decls (firsts n fs) space name ∙ (rw e (sym (below k (k + suc n) (omega arith)))))
 
     go : (b : Bool) → has (head_of i).decls space name ≡ b → ((m : ℕ) → Among (suc k) m fs space name (first_named (standings (suc k) fs) space name))
         → Among k n (i ▸ fs) space name (first_named (in_original k 0 (head_of i).decls) space name or_else first_named (standings (suc k) fs) space name)
@@ -156,13 +156,13 @@ late_first : (steps rest : List ℕ) (l : Level) (n : ℕ) (decls before : List 
     → (if is_just (find decls space name) then Rules.comes_later decls before space name else late) ≡ late_by steps (declared l space name or_else o)
 unfolding Rules.comes_later
 late_first steps rest l n decls before space name late o towards low same earlier far =
-    rw (Unknown.find-has decls space name, same, Unknown.find-has before space name, earlier)
-    (late_step steps (has (declarations l.fields) space name) (has (firsts n l.fields) space name) (declared l space name) o late (Unknown.declared-has l space name low) own far)
+    rw (Unknown.find_has decls space name, same, Unknown.find_has before space name, earlier)
+    (late_step steps (has (declarations l.fields) space name) (has (firsts n l.fields) space name) (declared l space name) o late (Unknown.declared_has l space name low) own far)
   where
     own : has (declarations l.fields) space name ≡ true → late_by steps (declared l space name) ≡ not (has (firsts n l.fields) space name)
     own h = unfold declared in
-        (spot_late steps l n rest space name (first_named (standings 0 l.fields) space name) towards (Frames.low-original 0 l.fields space name low) (among 0 n l.fields space name low)
-        (sym (Unknown.placed-just l (first_named (standings 0 l.fields) space name) (Frames.low-original 0 l.fields space name low)) ∙ (Unknown.declared-has l space name low ∙ h)))
+        (spot_late steps l n rest space name (first_named (standings 0 l.fields) space name) towards (Frames.low_original 0 l.fields space name low) (among 0 n l.fields space name low)
+        (sym (Unknown.placed_just l (first_named (standings 0 l.fields) space name) (Frames.low_original 0 l.fields space name low)) ∙ (Unknown.declared_has l space name low ∙ h)))
 
 -- the first scope outward that has the name declares it late exactly if the outward reading is late
 pub late_is : {steps : List ℕ} {ls : List Level} {es : List Env} → Times steps ls es → (space name : ℕ) → name ≤ top_name
@@ -194,10 +194,10 @@ low_item : (fs : Fields) (n : ℕ) (i : Item) → LowFields fs → get_elem? (or
 unfolding originals
 low_item end n i low e = no_option i e
 low_item (i₀ ▸ fs) zero i low e =
-    let here : get_elem? (i₀ ∷ originals fs) 0 ≡ some i = rw (Lookups.originals-original i₀ fs (Lookups.low-original (head_of i₀) low.0.decls)) at e in
+    let here : get_elem? (i₀ ∷ originals fs) 0 ≡ some i = rw (Lookups.originals_original i₀ fs (Lookups.low_original (head_of i₀) low.0.decls)) at e in
     subst LowItem (some_same i₀ i here) low.1
 low_item (i₀ ▸ fs) (suc n) i low e =
-    let later : get_elem? (originals fs) n ≡ some i = rw (Lookups.originals-original i₀ fs (Lookups.low-original (head_of i₀) low.0.decls)) at e in
+    let later : get_elem? (originals fs) n ≡ some i = rw (Lookups.originals_original i₀ fs (Lookups.low_original (head_of i₀) low.0.decls)) at e in
     low_item fs n i low.2 later
 
 -- what is known of that scope: `rest` of the steps go on from it
@@ -224,7 +224,7 @@ entered (further {kind = kind} {name = name} {n = n} {fs = fs} {outside = outsid
     record {
       w = I.w;
       around_it = I.around_it;
-      arrives = Agree.around-step n way (level w fs) ins (holds h₀ s) (Readings.fields_of s) _ there refl I.arrives;
+      arrives = Agree.around_step n way (level w fs) ins (holds h₀ s) (Readings.fields_of s) _ there refl I.arrives;
       towards = I.towards;
       times = I.times;
       begins = I.begins;

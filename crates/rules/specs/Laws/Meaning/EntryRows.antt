@@ -11,7 +11,7 @@ use Rattle.rules.specs.Tree
 use Rattle.rules.specs.Tree.{Declaration, Operand, ref, outer, case, Head, Scope, scope, Fields, end, ◌▸◌, Item, plain, holds, head_of, decl_rows, operand_row, operand_rows, export_rows, head_rows, item_rows, fields_rows, flatten}
 use Rattle.rules.specs.Rules
 use Rattle.rules.specs.Rules.{ok, Entry, Env, Before, Outside, at_root, onward, declarations, prepare, Lookup, found, absent, one_on, look_up, fresh, expand_operand, expand_operands, expand_head, expand_fields, path_aliases, entered, stand_in, inserted_entries}
-use Rattle.rules.specs.Laws.ToolLaws.{if_ok_lem, eqb_true, All, done, ◌&◌, all_append, all_map}
+use Rattle.rules.specs.Laws.ToolLaws.{if_ok_lem, eqb-true, All, done, ◌&◌, all_append, all_map}
 use Rattle.rules.specs.Readings
 use Rattle.rules.specs.Laws.Meaning.Runs
 use Rattle.rules.specs.Laws.Meaning.Turns.{Comes, at_once, past, Turn, own, further}
@@ -78,14 +78,14 @@ aliases_served rows space at p (q ∷ ps) z k space' at' paths e =
     and aliases_served rows space (Id (fresh k)) q ps z (suc k) space' at' paths e
 
 found_served : (space name z k : ℕ) (o : Option (ℕ × ℕ)) → OkR (λ e. Served (Ref space (Id name) 0 z ∷ []) e.inserted e.rows) (Rules.found_at space name z k o)
-unfolding Rules.found_at Rules.as-it-is Rules.through Rules.outer_alias
+unfolding Rules.found_at Rules.as_it_is Rules.through Rules.outer_alias
 found_served space name z k none = nothing
 found_served space name z k (some at) =
     if_both (OkR _) _ _ _ (record { space = space; at = Id name; paths = 0; decl = _; k = k; alone = refl; named = refl; refers = refl } and nothing) tt
 
 module _ (ds : List Declaration) (outside : Outside) where
   operand_served : (k : ℕ) (o : Operand) → OkR (λ e. Served (operand_row o) e.inserted e.rows) (expand_operand ds outside k o)
-  unfolding expand_operand Rules.as-it-is Rules.through operand_row Tree.path_rows
+  unfolding expand_operand Rules.as_it_is Rules.through operand_row Tree.path_rows
   operand_served k (ref space (Num n) [] z) = nothing
   operand_served k (ref space (Id name) [] z) = bind_any _ _ _ (λ u. if_both (OkR _) _ _ _ nothing (found_served space name z k _))
   operand_served k (ref space at (p ∷ ps) z) = if_both (OkR _) _ _ _ tt (aliases_served _ space at p ps z k space at _ refl)
@@ -93,13 +93,13 @@ module _ (ds : List Declaration) (outside : Outside) where
   operand_served k (case name z) = nothing
 
   operands_served : (k : ℕ) (os : List Operand) → OkR (λ e. Served (operand_rows os) e.inserted e.rows) (expand_operands ds outside k os)
-  unfolding expand_operands Rules.as-it-is operand_rows
+  unfolding expand_operands Rules.as_it_is operand_rows
   operands_served k [] = nothing
   operands_served k (o ∷ os) = bind_ok _ _ _ _ (operand_served k o) (λ e p. bind_ok _ _ _ _ (operands_served e.k os) (λ es q.
       served_append (served_left (operand_row o) (operand_rows os) p) (served_right (operand_row o) (operand_rows os) q)))
 
   pub head_served : (k : ℕ) (h : Head) → OkR (λ e. Served (operand_rows h.operands) e.inserted e.rows) (expand_head ds outside k h)
-  unfolding expand_head Rules.as-it-is
+  unfolding expand_head Rules.as_it_is
   head_served k h = if_both (OkR _) _ _ _ nothing (bind_ok _ _ _ _ (operands_served k h.operands) (λ e p. p))
 
 -- ---- the entries of a table
@@ -277,7 +277,7 @@ looked P space name [] done = tt
 looked P space name (e ∷ es) (p & ps) =
     if_ok_lem (IfFound P space name) _ _ _
     (λ a. if_ok_lem (IfFound P space name) _ _ _
-    (λ b. record { e = e; holds_of_it = p; its_space = eqb_true e.decl.space space a; its_name = eqb_true e.decl.name name b; its_row = refl })
+    (λ b. record { e = e; holds_of_it = p; its_space = eqb-true e.decl.space space a; its_name = eqb-true e.decl.name name b; its_row = refl })
     (λ b. one_further P space name (look_up es space name) (looked P space name es ps)))
     (λ a. looked P space name es ps)
 

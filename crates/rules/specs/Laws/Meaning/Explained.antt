@@ -152,7 +152,7 @@ module _ {around : Around} {s t : Scope} {fs : Fields} {outside : Outside} {here
       N : StepC.Numbered here (seeing outside A.seen) space (Id (fresh Q.j)) [] Q.z S.served.o A.h.operands
       N =
           holds_of (λ (x : Head). StepC.Numbered here (seeing outside A.seen) space (Id (fresh Q.j)) [] Q.z S.served.o x.operands) _ A.h
-          (StepC.head-numbered here (seeing outside A.seen) space (Id (fresh Q.j)) [] Q.z A.e.now S.served.o has) A.resolves
+          (StepC.head_numbered here (seeing outside A.seen) space (Id (fresh Q.j)) [] Q.z A.e.now S.served.o has) A.resolves
 
       M : (now : Operand) × (get_elem? A.e.now.operands S.served.o ≡ some now) × Made (declarations fs) (seeing outside A.seen) space name Q.z A.b now A.e.inserted
       M =
@@ -177,7 +177,7 @@ module _ {around : Around} {s t : Scope} {fs : Fields} {outside : Outside} {here
           let F = first_made M.0 M.1 M.2 in
           let first : Readings.first_named (in_heads A.new) space (fresh Q.j) ≡ some (inserted alias) =
           holds_of _ _ A.new (inserted_first here (seeing outside A.seen) space (fresh Q.j) alias alias (alias_resolved here (seeing outside A.seen) space (fresh Q.j) Q.at.0 Q.at.1 Q.z) A.e.inserted F.1) A.adds in
-          Agree.counted-first (level H.w out) here space (fresh Q.j) N.0 (inserted alias) (Agree.framed H.ends H.w).table
+          Agree.counted_first (level H.w out) here space (fresh Q.j) N.0 (inserted alias) (Agree.framed H.ends H.w).table
           (named_number here.entries space (fresh Q.j) Q.z N.0 N.1) (A.nearest space Q.j (inserted alias) F.0 first)
           ∙ ap {B = Option Spot} (λ (x : Head). some (inserted x)) (sym Q.is)
 
@@ -185,7 +185,7 @@ module _ {around : Around} {s t : Scope} {fs : Fields} {outside : Outside} {here
       at_place = record { way = H.v; field = f; at = S.served.o }
 
       was : Readings.use_inside around.base around.ins s at_place ≡ some (record { levels = level H.w fs ∷ H.ins; head = head_of i; operand = ref space (Id name) [] Q.z })
-      was = Agree.use-is around.base around.ins s at_place _ _ H.in_input (Agree.use_there (level H.w fs) H.ins f S.served.o i (head_of i) _ ei refl had)
+      was = Agree.use_is around.base around.ins s at_place _ _ H.in_input (Agree.use_there (level H.w fs) H.ins f S.served.o i (head_of i) _ ei refl had)
 
       meets : (o : Option Place) → outward H.ins space name ≡ o → Walks H.outs space 1 (some Q.at) o → Explained around s t (record { around = level H.w' out ∷ H.els; head = h })
       meets none q m = absurd m
@@ -205,9 +205,9 @@ module _ {around : Around} {s t : Scope} {fs : Fields} {outside : Outside} {here
             within_open = D.0;
             serves = at_place;
             name = name;
-            walks_for = Agree.walked_at around.base around.ins s at_place _ (space, name) was (walked_is (head_of i) space name Q.z S.walks);
+            walks_for = Agree.walked_at_lem around.base around.ins s at_place _ (space, name) was (walked_is (head_of i) space name Q.z S.walks);
             becomes = _;
-            stands = Agree.use-is around.base around.outs t at_place _ _ H.in_output (Agree.use_there (level H.w out) H.outs f S.served.o A.q.0 A.h _ A.there A.head N.2);
+            stands = Agree.use_is around.base around.outs t at_place _ _ H.in_output (Agree.use_there (level H.w out) H.outs f S.served.o A.q.0 A.h _ A.there A.head N.2);
             here = level H.w out;
             outside = H.outs;
             number = N.0;
@@ -215,8 +215,8 @@ module _ {around : Around} {s t : Scope} {fs : Fields} {outside : Outside} {here
             numbered = refl;
             names_it = names;
             meant = p;
-            reads = Agree.outward-is around.base around.ins s at_place _ (space, name) p was (walked_is (head_of i) space name Q.z S.walks)
-                (further (level H.w fs) H.ins space name p (Agree.not-declared (level H.w fs) space name Q.absent) q);
+            reads = Agree.outward_is around.base around.ins s at_place _ (space, name) p was (walked_is (head_of i) space name Q.z S.walks)
+                (further (level H.w fs) H.ins space name p (Agree.not_declared (level H.w fs) space name Q.absent) q);
             denoted = ap (λ (x : Head). explained (record { around = level H.w' out ∷ H.els; head = x }) then around.among t) Q.is
                 ∙ (ap (λ (d : Option Definition). d then around.among t) (explained_is (level H.w' out ∷ H.els) space (fresh Q.j) Q.at.0 Q.at.1 Q.z) ∙ D.1);
           }
@@ -291,8 +291,8 @@ explain_along (m ∷ way) around s t fs outside here out H n ls u e₁ e₂ new 
           els = level H.w' out ∷ H.els;
           frames = inside (pushed (Agree.framed H.ends H.w) A.seen.decls) H.frames;
           besides = beside refl (placed H) H.besides;
-          in_input = Agree.around-snoc H.v F.f (level around.base (Readings.fields_of s)) around.ins (level H.w fs) H.ins F.i K.0 H.in_input F.there K.1;
-          in_output = Agree.around-snoc H.v F.f (level around.base (Readings.fields_of t)) around.outs (level H.w out) H.outs A.q.0 W.out H.in_output A.there W.holding;
+          in_input = Agree.around_snoc H.v F.f (level around.base (Readings.fields_of s)) around.ins (level H.w fs) H.ins F.i K.0 H.in_input F.there K.1;
+          in_output = Agree.around_snoc H.v F.f (level around.base (Readings.fields_of t)) around.outs (level H.w out) H.outs A.q.0 W.out H.in_output A.there W.holding;
           in_all = reached_snoc around.base H.v' m F.f (Readings.fields_of t) (level H.w out) i' W.out H.in_all a (b ∙ ap {B = Option Fields} some (sym K.3)) r;
           full_way = ap (λ (x : List ℕ). x ++ (m ∷ [])) H.full_way ∙ append_assoc around.full H.v' (m ∷ []);
         })

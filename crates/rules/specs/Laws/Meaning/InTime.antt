@@ -40,7 +40,7 @@ module _ (ds : List Declaration) (outside : Outside) (space name z : ℕ) where
   operand_in_time : (k : ℕ) → OkR (λ e. InTime) (expand_operand ds outside k (ref space (Id name) [] z))
   unfolding expand_operand
   operand_in_time k = bind_eq _ _ _ (λ u e. always
-      (if is_just (Rules.find ds space name) then ok (Rules.as-it-is (ref space (Id name) [] z) k) else Rules.found_at space name z k (Rules.walk outside.scopes 1 space name))
+      (if is_just (Rules.find ds space name) then ok (Rules.as_it_is (ref space (Id name) [] z) k) else Rules.found_at space name z k (Rules.walk outside.scopes 1 space name))
       (in_time_lem _ z u e))
 
   operands_in_time : (k : ℕ) (os : List Operand) (o : ℕ) → get_elem? os o ≡ some (ref space (Id name) [] z) → OkR (λ e. InTime) (expand_operands ds outside k os)
@@ -70,9 +70,9 @@ record Came (s : Scope) (outside : Outside) (way : List ℕ) (f : ℕ) : Type 0 
 
 came : {s : Scope} {outside : Outside} {k : ℕ} {way : List ℕ} {f o : ℕ} {here : Env} {now : Operand} → Turn s outside k way f o here now → LowScope s → Came s outside way f
 came (own {kind = kind} {name = name} {fs = fs} {outside = outside} {n = n} {b = b} {i = i} {seen = seen} p e new os ep C ee en eo et) low =
-    record { t = scope kind name fs; inner = outside; enters = this; i = i; seen = seen; b = b; e = e; low_head = (Unknown.comes-at C low.1).1; there = (Unknown.comes-at C low.1).0; seen_is = comes_seen C; expands = ee }
+    record { t = scope kind name fs; inner = outside; enters = this; i = i; seen = seen; b = b; e = e; low_head = (Unknown.comes_at C low.1).1; there = (Unknown.comes_at C low.1).0; seen_is = comes_seen C; expands = ee }
 came (further {kind = kind} {name = name} {fs = fs} {outside = outside} {k = k} {n = n} {h₀ = h₀} {s = s} {seen = seen} p e new h ep C ee en eh t) low =
-    let A = Unknown.comes-at C low.1 in
+    let A = Unknown.comes_at C low.1 in
     let I = came t A.2 in
     record {
       t = I.t;
@@ -109,7 +109,7 @@ accepted_early rules base {ins} {around} Ts s r p x d low early eq w reads =
     let from-base : steps ≡ base ++ (p.way ++ (p.field ∷ [])) = append_assoc base p.way (p.field ∷ []) in
     let En = Early.entered C.enters base ins steps (p.field ∷ []) from-base low refl (Ts steps (p.way ++ (p.field ∷ [])) from-base) in
     let same : s₂.0 ≡ level En.w (Readings.fields_of C.t) ∷ En.around_it = some_same _ _ (sym s₂.1 ∙ En.arrives) in
-    let U = Agree.use-inv (level En.w (Readings.fields_of C.t)) En.around_it p.field p.at s₁.0 (ap (λ (v : List Level). Readings.use_in v p.field p.at) (sym same) ∙ s₂.2) in
+    let U = Agree.use_inv (level En.w (Readings.fields_of C.t)) En.around_it p.field p.at s₁.0 (ap (λ (v : List Level). Readings.use_in v p.field p.at) (sym same) ∙ s₂.2) in
     let is-i : U.0 ≡ C.i = some_same _ _ (sym U.1 ∙ C.there) in
     let W = walked_ref s₁.0.head s₁.0.operand x s₁.2 in
     let c : here_only (head_of C.i).code ≡ false = ap (λ (j : Item). here_only (head_of j).code) (sym is-i) ∙ (ap (λ (h : Head). here_only h.code) U.3 ∙ W.2) in
@@ -117,9 +117,9 @@ accepted_early rules base {ins} {around} Ts s r p x d low early eq w reads =
     ap (λ (j : Item). get_elem? (head_of j).operands p.at) (sym is-i) ∙ (U.2 ∙ ap {B = Option Operand} some W.1) in
     let in-time-there = holds_of _ _ C.e (head_in_time (declarations (Readings.fields_of C.t)) (seeing C.inner C.seen) x.0 x.1 W.0 C.b (head_of C.i) p.at c o) C.expands in
     let outward_is : outward (level En.w (Readings.fields_of C.t) ∷ En.around_it) x.0 x.1 ≡ some d =
-    ap (λ (v : List Level). outward v x.0 x.1) (sym (Agree.use-levels s₂.0 p.field p.at s₁.0 s₂.2 ∙ same))
-    ∙ (sym (Unknown.reading-is base ins s p s₁.0 x s₁.1 s₁.2) ∙ reads) in
+    ap (λ (v : List Level). outward v x.0 x.1) (sym (Agree.use_levels s₂.0 p.field p.at s₁.0 s₂.2 ∙ same))
+    ∙ (sym (Unknown.reading_is base ins s p s₁.0 x s₁.1 s₁.2) ∙ reads) in
     let low-name : LowOperand (ref x.0 (Id x.1) [] W.0) = low_operand (head_of C.i).operands p.at _ C.low_head.operands o in
     not_late rules.early _ early
     (ap (λ (q : Option Place). rules.early && Early.late_by steps q) (sym outward_is)
-    ∙ (sym (Early.late-at En C.seen C.seen_is x.0 x.1 low-name.1) ∙ in-time-there))
+    ∙ (sym (Early.late_at_lem En C.seen C.seen_is x.0 x.1 low-name.1) ∙ in-time-there))

@@ -58,9 +58,9 @@ module _ (ds : List Declaration) (o : Outside) where
   unfolding expand_operand
   operand_same k (ref space (Num n) [] z) = refl
   operand_same k (ref space (Id name) [] z) = both _ _ _ _ (timely _ _ z (not_late space name)) (λ u.
-      self (if is_just (Rules.find ds space name) then ok (Rules.as-it-is (ref space (Id name) [] z) k) else Rules.found_at space name z k (Rules.walk o.scopes 1 space name)))
+      self (if is_just (Rules.find ds space name) then ok (Rules.as_it_is (ref space (Id name) [] z) k) else Rules.found_at space name z k (Rules.walk o.scopes 1 space name)))
   operand_same k (ref space at (p ∷ ps) z) =
-      self (if is_in space (4 ∷ 6 ∷ []) then refused Rules.not-exported z else ok (Rules.through space z (k + length ps) (Rules.path_aliases space at p ps z k)))
+      self (if is_in space (4 ∷ 6 ∷ []) then refused Rules.not_exported z else ok (Rules.through space z (k + length ps) (Rules.path_aliases space at p ps z k)))
   operand_same k (outer space up at z) = refl
   operand_same k (case name z) = refl
 
@@ -153,10 +153,10 @@ stricter rules around s r e = holds_of _ _ r (scope_same s (at_root rules around
 
 abbrev NotLate : Refusal → ℕ → Type 0
 NotLate (Rules.twice space first) z = Unit {0}
-NotLate Rules.not-exported z = Unit {0}
+NotLate Rules.not_exported z = Unit {0}
 NotLate (Rules.not_outer space) z = Unit {0}
 NotLate (Rules.unknown space) z = Unit {0}
-NotLate Rules.no-scope z = Unit {0}
+NotLate Rules.no_such_scope z = Unit {0}
 NotLate Rules.too_far z = Unit {0}
 NotLate Rules.case_twice z = Unit {0}
 NotLate Rules.not_earlier z = ⊥
@@ -218,7 +218,7 @@ number_other es space (Id name) z = rw (number_is es space name z) (or_other (Ru
 up_other : (envs : List Env) (up : Index) (z : ℕ) → Other (Rules.up_number envs up z)
 unfolding Rules.up_number
 up_other envs (Num n) z = tt
-up_other envs (Id name) z = or_other (Rules.named envs name) Rules.no-scope z tt
+up_other envs (Id name) z = or_other (Rules.named envs name) Rules.no_such_scope z tt
 
 numbers_other : (envs : List Env) (fz space : ℕ) (up at : Index) (z : ℕ) → Other (Rules.outer_numbers false envs fz space up at z)
 unfolding Rules.outer_numbers

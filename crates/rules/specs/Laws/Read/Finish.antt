@@ -2,7 +2,7 @@
 use Rattle.std.specs.Prelude.{◌≡◌, Bool, true, ◌&&◌, ◌||◌, ℕ, zero, suc, ◌+◌, ◌^◌, ◌≤◌, ◌<◌, eqb, leb}
 use Rattle.std.proofs.Math.Path.{refl, ap, sym}
 use Rattle.std.proofs.Common.{◌∙◌, arith, length-append}
-use Rattle.std.proofs.Math.Bool.{false, or_true}
+use Rattle.std.proofs.Math.Bool.{false, or-true}
 use Rattle.std.proofs.Math.Option.{Option, none, some}
 use mathlib.Core.List.{List, [], ◌∷◌, ◌++◌, append_assoc, append-nil}
 use Rattle.std.proofs.Math.ListN.{length, replicate}
@@ -17,7 +17,7 @@ use Rattle.rules.specs.Shapes.{Want, r, p, out, cas, Part, one, opt, any, cases,
 use Rattle.rules.specs.Good.{MayDeclare, after_operand, after_operands, GoodHead, kind_of, GoodScope, GoodFields, GoodItem}
 use Rattle.rules.specs.Reader
 use Rattle.rules.specs.Reader.{Stage, declaring, wanting, pathing, exported, Current, between_fields, within, Around, root, inside, State, start, state, ◌◂◌}
-use Rattle.rules.specs.Laws.ToolLaws.{Ok, ok_at, ok_map, only_ok, then_ok, if_ok_lem, and_left, and_right, or_cases, false_not, eqb_true, eqb_same, leb_le, All, done, ◌&◌, get_d_all, all_append}
+use Rattle.rules.specs.Laws.ToolLaws.{Ok, ok_at, ok_map, only_ok, then_ok, if_ok_lem, and_left, and_right, or_cases, false_not, eqb-true, eqb_same, leb_le, All, done, ◌&◌, get_d_all, all_append}
 use Rattle.rules.specs.Laws.Results.{if_both}
 use Rattle.rules.specs.Laws.RowLaws.{Written}
 use Rattle.rules.specs.Laws.Read.ReadSound.{at_stage, current_rows, around_rows, state_rows, bare_rows, open_rows_lem, more_rows, rows_snoc, after_append, GoodOpen, Used, GoodCurrent, GoodAround, GoodState, good_snoc, used_more, more_open, exported_good}
@@ -82,7 +82,7 @@ possible cas = true
 sample_fits : (w : Want) (ps : List Part) → possible w ≡ true → after_operand (one w ∷ ps) (sample w) ≡ some ps
 unfolding sample possible after_operand next only Shapes.fits_ref Shapes.fits_outer Shapes.is_case Shapes.paths_ok
 sample_fits (r []) ps e = false_not e
-sample_fits (r (s ∷ ss)) ps e = rw (eqb_same s, or_true)
+sample_fits (r (s ∷ ss)) ps e = rw (eqb_same s, or-true)
 sample_fits (p []) ps e = false_not e
 sample_fits (p (s ∷ ss)) ps e = rw (eqb_same s)
 sample_fits (out s) ps e = rw (eqb_same s)
@@ -120,7 +120,7 @@ fill (typed s ∷ ps) = sample (r (s ∷ [])) ∷ []
 -- after an r s alone an export with an ascribed type may end
 typed_fits : (s : ℕ) → (left : List Part) × (after_operand (typed s ∷ []) (sample (r (s ∷ []))) ≡ some left) × (complete left ≡ true)
 unfolding sample after_operand next only if◌then◌else◌ Shapes.fits_ref Shapes.paths_ok
-typed_fits s = rw (eqb_same s, or_true) (go (eqb s 9))
+typed_fits s = rw (eqb_same s, or-true) (go (eqb s 9))
   where
     go : (b : Bool) → (left : List Part) × ((if (b || false) && true then some (opt (r (s ∷ [])) ∷ []) else some []) ≡ some left) × (complete left ≡ true)
     go true = unfold complete in (opt (r (s ∷ [])) ∷ [], refl, refl)
@@ -263,7 +263,7 @@ unfolding small
 small_in s [] e i = false_not i
 small_in s (x ∷ ss) e i =
     or_cases (eqb s x) (is_in s ss) i
-    (λ same. rw (eqb_true s x same) (and_left (leb x 12) (small ss) e))
+    (λ same. rw (eqb-true s x same) (and_left (leb x 12) (small ss) e))
     (λ more. small_in s ss (and_right (leb x 12) (small ss) e) more)
 
 -- the space that a field declares is one of the thirteen

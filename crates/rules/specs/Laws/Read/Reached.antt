@@ -117,7 +117,7 @@ starts_counts : (a : Around) (kind name : ℕ) (before : Fields) (c : Current) (
     → Counts (state a kind name before c) (Field code builtin z) (Reader.starts a kind name code builtin z o)
 unfolding Reader.starts open_here opening closing
 starts_counts a kind name before c code builtin z none = tt
-starts_counts a kind name before c code builtin z (some fs) = if_ok_lem (Counts _ _) _ _ _ (λ e. refl) (λ e. tt)
+starts_counts a kind name before c code builtin z (some fs) = if_ok_lem (Counts (state a kind name before c) (Field code builtin z)) _ _ _ (λ e. refl) (λ e. tt)
 
 closes_counts : (a : Around) (kind name : ℕ) (before : Fields) (c : Current) (o : Option Fields)
     → Counts (state a kind name before c) Close (Reader.closes a kind name o)
@@ -131,7 +131,7 @@ module _ (rules : RuleSet) where
       → Counts (state a kind name before c) (Open kind' name') (Reader.opened rules a kind name before kind' name' c)
   unfolding Reader.opened open_here depth opening closing
   opened_counts a kind name before kind' name' between_fields = tt
-  opened_counts a kind name before kind' name' (within h stage) = if_ok_lem (Counts _ _) _ _ _ (λ e. omega arith) (λ e. tt)
+  opened_counts a kind name before kind' name' (within h stage) = if_ok_lem (Counts (state a kind name before (within h stage)) (Open kind' name')) _ _ _ (λ e. omega arith) (λ e. tt)
 
   step_counts : (s : State) (row : Row) → Counts s row (step rules s row)
   unfolding step Reader.first_row open_here depth opening closing
@@ -141,7 +141,7 @@ module _ (rules : RuleSet) where
   step_counts start (Path n) = tt
   step_counts start (Outer space up at z) = tt
   step_counts start (Case n z) = tt
-  step_counts start (Open kind name) = if_ok_lem (Counts _ _) _ _ _ (λ e. refl) (λ e. tt)
+  step_counts start (Open kind name) = if_ok_lem (Counts start (Open kind name)) _ _ _ (λ e. refl) (λ e. tt)
   step_counts start Close = tt
   step_counts start (Export n) = tt
   step_counts (state a kind name before c) (Field code builtin z) = starts_counts a kind name before c code builtin z _
