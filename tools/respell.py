@@ -21,7 +21,9 @@ FIELD = re.compile(r'(?m)^ *(?:pub +)?([^\s(){}.;,@"«»]+) :(?= )')
 HUMP = re.compile(r'[a-z0-9₀-₉][A-Z]')
 USE = re.compile(r"\buse ([^\s;{]+)\.\{([^}]*)\}")
 # A dot behind a name that begins with a small letter: what follows is a name that Rattle makes.
-MADE_HEAD = re.compile(r"(?:^|[\s(){},;\"])(?:[\w'·-]+\.)*[a-z_][\w'-]*\.\Z")
+MADE_HEAD = re.compile(r"(?:^|[\s(){},;\"])(?:[\w'·-]+\.)*([a-z_][\w'-]*)\.\Z")
+# A name that a file gives to a module of the repository, but not to one that Rattle makes.
+ALIAS = re.compile(r"(?m)^use Rattle[^\s]*\.(?!Tie\b|Goals\b|Given\b|Statement\b|Met\b)[A-Z]\w* as (\w+)$")
 MADE = re.compile(r"(invariant|decreases|ghost)-")
 # A name that is spelled otherwise, since the plain spelling is taken.
 FAR = {"no-scope": "no_such_scope"}
@@ -125,12 +127,15 @@ def meetings(turned, words):
 
 
 def turn_words(text, turned, fields, kind):
+    aliases = set(ALIAS.findall(text)) if kind == "antt" else set()
+
     def one(m):
         word = m[0]
         new = turned.get(word)
         if new is None or kind != "antt" and "-" not in word and not HUMP.search(word):
             return word
-        if kind != "md" and not HUMP.search(word) and word not in fields and MADE_HEAD.search(text, max(0, m.start() - 80), m.start()):
+        made = MADE_HEAD.search(text, max(0, m.start() - 80), m.start())
+        if kind != "md" and not HUMP.search(word) and word not in fields and made and made[1] not in aliases:
             return word
         return new
 

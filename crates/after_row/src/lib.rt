@@ -1,4 +1,6 @@
 // What a field still wants, as a number: what the table of `wants` leaves of it after a row.
+#![tactic(auto)]
+
 ghost use Rattle.std.specs.Prelude.{◌≡◌, ◌-◌, ◌≤◌, ◌<◌, ltb};
 ghost use Rattle.kit.specs.Pick.{pick};
 ghost use Rattle.wants.specs.States.{entry, ref_entry, outer_entry};

@@ -1,4 +1,6 @@
 // The fields that a scope of each kind may have.
+#![tactic(auto)]
+
 ghost use Rattle.std.specs.Prelude.{◌≡◌};
 ghost use Rattle.allowed.specs.Rows.{in_rows, Allows};
 

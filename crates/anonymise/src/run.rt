@@ -16,7 +16,7 @@ use names::{Slot, slot_at};
 use put::put_row;
 use reader::{RowsRead, read};
 
-#[derive(Drop)]
+#[derive(Clone, Copy)]
 pub enum Answer {
     // How many names there are.
     Accepted(u32),

@@ -1,4 +1,6 @@
 // Working areas that are lent: bytes, tables of slots, their indexes, and numbers. What they held is gone when they are handed back.
+#![tactic(auto)]
+
 ghost use Rattle.std.specs.Prelude.{◌≡◌, length, replicate};
 ghost use Rattle.clearing.specs.Cleared.{cleared};
 ghost use Rattle.names.specs.Table.{empty_slot};

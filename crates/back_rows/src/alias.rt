@@ -13,7 +13,7 @@ const OF_EXPORT: u8 = 9;
 
 // How many rows it has, and the first of them: none, and the row behind it, where the rows are no inserted field. Its FIELD, its
 // DECL and the DECL's number, its operand; and the number of the export, or the name of the outer item.
-#[derive(Drop)]
+#[derive(Clone, Copy)]
 pub struct Alias {
     pub size: usize,
     pub start: usize,

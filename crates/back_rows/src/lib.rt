@@ -3,6 +3,8 @@
 //
 // The rows are gone through from the last to the first, and are written so too. Inserted fields stand straight before the field
 // whose references they serve, and each group of them belongs to the last reference that it fits; so both are met in order.
+#![tactic(auto)]
+
 pub mod alias;
 pub mod restore;
 pub mod write;

@@ -34,7 +34,7 @@ pub(crate) fn copy_back(rows: &[u8], i: usize, out: &mut [u8], to: usize) -> usi
 }
 
 // Where the rows that were written begin, and the row behind the inserted fields that are left.
-#[derive(Drop)]
+#[derive(Clone, Copy)]
 pub struct Restored {
     pub to: usize,
     pub next: usize,

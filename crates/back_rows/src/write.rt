@@ -15,7 +15,7 @@ use rows::row::{FIELD, REF};
 
 // Where the rows are gone through: how many rows of an inserted field are still to be left out; the row behind the inserted fields
 // that may serve the next reference, if a reference of the field was met; where the rows that were written begin.
-#[derive(Drop)]
+#[derive(Clone, Copy)]
 pub struct Cursor {
     pub skip: usize,
     pub inside: bool,

@@ -1,4 +1,6 @@
 // The parts of a batch in bytes: the members, which lie one behind another, their shares of the output, and their answers.
+#![tactic(auto)]
+
 ghost use Rattle.std.specs.Prelude.{◌≡◌, [], ◌/◌, ◌≤◌, eqb, ltb, length, get_or};
 ghost use Rattle.std.proofs.lemmas.List.Edits.{sets};
 ghost use Rattle.kit.specs.Pick.{pick};

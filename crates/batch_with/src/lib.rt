@@ -1,4 +1,6 @@
 // A batch of any setting in force: its prelude, and each member in its share, in working areas that are lent.
+#![tactic(auto)]
+
 ghost use Rattle.std.specs.Prelude.{◌≡◌, false, [], ◌∷◌, ◌≤◌, length};
 ghost use Rattle.limits.specs.Held.{setting};
 ghost use Rattle.batching.specs.BatchCalls.{room_with, batch_call, batch_leaves};

@@ -3,6 +3,8 @@
 // A resolved form has the REF rows of its input in their order, with their places, and those of inserted fields among them. An inserted
 // field has one DECL, and its REF straight behind that. So the input's references at a place are the REF rows there that stand behind no
 // inserted DECL, and nothing else need be known of the input.
+#![tactic(auto)]
+
 ghost use Rattle.std.specs.Prelude.{◌≡◌, ◌-◌};
 ghost use Rattle.bound.specs.Bound.{is_reference, next_reference, reference_at, bound_at, binding_of};
 
@@ -11,7 +13,7 @@ use row_parts::{code_at, is_inserted, rows_in, z_at};
 use rows::row::REF;
 
 // What a slot is bound to.
-#[derive(Drop)]
+#[derive(Clone, Copy)]
 pub enum Binding {
     // To a declaration of the slot's name.
     AsWritten,
@@ -22,7 +24,7 @@ pub enum Binding {
 }
 
 // The references at a place.
-#[derive(Drop)]
+#[derive(Clone, Copy)]
 pub enum Reference {
     Nothing,
     At(u16),

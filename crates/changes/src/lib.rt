@@ -1,5 +1,7 @@
 // What was changed in a form that was mended, in words. A change is three numbers of four bytes, its place, how many bytes
 // stood there and how many stand there now, and then the bytes that stood there, with zeros up to a multiple of four.
+#![tactic(auto)]
+
 ghost use Rattle.std.specs.Prelude.{◌<◌};
 
 use words::{say, say_number};

@@ -1,4 +1,6 @@
 // Checks another assembler's output of any version that is in force: in working areas that are lent.
+#![tactic(auto)]
+
 ghost use Rattle.std.specs.Prelude.{◌≡◌, ◌||◌, not, [], ◌∷◌, ◌≤◌, ltb, length};
 ghost use Rattle.rules.specs.Versions.{as_claimed, all};
 ghost use Rattle.read_form.specs.ReadForm.{read_form};

@@ -1,5 +1,7 @@
 // Condition 3 of checking a claimed output: every added field is an alias, its name new in its scope and space, its operands
 // numbers.
+#![tactic(auto)]
+
 ghost use Rattle.std.specs.Prelude.{◌≡◌, false, ◌/◌, ◌<◌, [], length, take};
 ghost use Rattle.kit.specs.Out.{◌&◌};
 ghost use Rattle.index.specs.Indexed.{Holds};
@@ -20,7 +22,7 @@ pub const SCOPES: usize = 64;
 
 // Where the rows are gone through: how many scopes are open and how many slots are used, and whether the row's field is
 // added.
-#[derive(Drop)]
+#[derive(Clone, Copy)]
 struct Cursor {
     depth: usize,
     used: usize,
@@ -28,7 +30,7 @@ struct Cursor {
 }
 
 // What a row leads to.
-#[derive(Drop)]
+#[derive(Clone, Copy)]
 enum Turn {
     On(Cursor),
     Breaks,

@@ -1,10 +1,12 @@
 // Checks another assembler's output: whether it is one of an input.
+#![tactic(auto)]
+
 mod conditions;
 pub mod run;
 
 use refusal::Refusal;
 
-#[derive(Drop)]
+#[derive(Clone, Copy)]
 pub enum Verdict {
     Yes,
     // The first condition that is broken, and the first claimed row that breaks it.

@@ -19,7 +19,7 @@ const SCOPES: usize = 64;
 
 // Where the rows are gone through: how many scopes are open and how many slots are used, and whether the row's field is
 // added.
-#[derive(Drop)]
+#[derive(Clone, Copy)]
 struct Cursor {
     depth: usize,
     used: usize,

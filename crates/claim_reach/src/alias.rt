@@ -19,7 +19,7 @@ const OUTER_ALIAS: u8 = 11;
 const LAST_CORE: u8 = 6;
 
 // What is sought: a number of a space in the scope whose OPEN is this row, among the first `used` slots.
-#[derive(Drop)]
+#[derive(Clone, Copy)]
 pub struct Sought {
     pub used: usize,
     pub scope: usize,

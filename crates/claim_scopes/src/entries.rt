@@ -14,7 +14,7 @@ use names::{Found, Slot};
 const SPACES: u32 = 257;
 
 // What was entered.
-#[derive(Drop)]
+#[derive(Clone, Copy)]
 pub enum Entry {
     Value(u32),
     Nothing,

@@ -5,7 +5,7 @@ use libc::STDOUT_FILENO;
 use words::say;
 
 // To be run on the program's arguments, or to say what it does.
-#[derive(Drop)]
+#[derive(Clone, Copy)]
 pub enum Task {
     Run,
     Help,

@@ -1,1 +1,3 @@
 // Two resolved forms compared: rules and laws. It has no code.
+#![tactic(auto)]
+

@@ -18,7 +18,7 @@ use whole_form::asked::{Asked, setting_of};
 use whole_form::header::{header_at, put_header};
 use whole_form::read::{Form, read_input};
 
-#[derive(Drop)]
+#[derive(Clone, Copy)]
 pub enum Answer {
     // The output begins with the form that was asked for, which has this many rows.
     Converted(u32),

@@ -21,7 +21,7 @@ use whole_form::asked::{Asked, claim_of};
 use whole_form::header::header_at;
 use whole_form::read::{Form, read_claim};
 
-#[derive(Drop)]
+#[derive(Clone, Copy)]
 pub enum Answer {
     // The list has this many bytes.
     Listed(u32),

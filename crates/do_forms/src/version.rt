@@ -17,7 +17,7 @@ use words::refusals::{say_meaning, say_where};
 use words::{say, say_number};
 
 // The versions that there are.
-#[derive(Drop)]
+#[derive(Clone, Copy)]
 enum Version {
     Number(u32),
     Unknown,

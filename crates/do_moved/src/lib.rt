@@ -1,4 +1,6 @@
 // The command moved: the written numbers that inserted aliases have moved, in words.
+#![tactic(auto)]
+
 mod entries;
 
 use command::arguments::{behind, has_words, wrong_count};

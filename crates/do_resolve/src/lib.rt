@@ -1,4 +1,6 @@
 // The commands resolve and check: a form resolved into a file, and forms of which it is said whether they are accepted.
+#![tactic(auto)]
+
 pub mod batch;
 
 use command::arguments::{behind, has_words, wrong_count};

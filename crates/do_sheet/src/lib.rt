@@ -1,4 +1,6 @@
 // The command sheet: what each slot of a binding sheet is bound to, in words.
+#![tactic(auto)]
+
 mod answers;
 mod told;
 

@@ -1,4 +1,6 @@
 // The commands show and explain: a form in words, and what the references with one place mean.
+#![tactic(auto)]
+
 mod asked;
 pub mod draw;
 mod numbers;

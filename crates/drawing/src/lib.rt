@@ -1,4 +1,6 @@
 // A form drawn: a picture as SVG, on standard output. It takes any bytes.
+#![tactic(auto)]
+
 mod arcs;
 mod boxes;
 mod lines;

@@ -50,7 +50,7 @@ passed : (fs : Fields) (f : ℕ) (ds : List Declaration) (here : Env) (outside :
 unfolding originals firsts
 passed end f ds here outside b k r i low eq ei = no_option i ei
 passed (i₀ ▸ fs) zero ds here outside b k r i low eq ei =
-    let e : get_elem? (i₀ ∷ originals fs) 0 ≡ some i = rw (lookups.originals-original i₀ fs (lookups.low-original (head_of i₀) low.0.decls)) at ei in
+    let e : get_elem? (i₀ ∷ originals fs) 0 ≡ some i = rw (lookups.originals_original i₀ fs (lookups.low_original (head_of i₀) low.0.decls)) at ei in
     let R = ran i₀ fs ds here outside b k r eq in
     subst (Passed (i₀ ▸ fs) 0 ds here outside) (some_same i₀ i e)
     (record {
@@ -70,7 +70,7 @@ passed (i₀ ▸ fs) zero ds here outside b k r i low eq ei =
       low_item = low.1;
     })
 passed (i₀ ▸ fs) (suc f) ds here outside b k r i low eq ei =
-    let e : get_elem? (originals fs) f ≡ some i = rw (lookups.originals-original i₀ fs (lookups.low-original (head_of i₀) low.0.decls)) at ei in
+    let e : get_elem? (originals fs) f ≡ some i = rw (lookups.originals_original i₀ fs (lookups.low_original (head_of i₀) low.0.decls)) at ei in
     let R = ran i₀ fs ds here outside b k r eq in
     let P = passed fs f ds here (onward i₀ outside) R.e.k R.q.1 R.rs i low.2 R.goes_on_lem e in
     record {
@@ -145,7 +145,7 @@ came [] (scope kind name fs) outside k r w ins ls f o u low eq ea eu =
     let s₁ = bind_inv (prepare name fs outside k) _ r eq in
     let s₂ = bind_inv (resolve_fields fs (declarations fs) s₁.0.0 outside k s₁.0.1) _ r s₁.2 in
     let same : (level w fs ∷ ins) ≡ ls = some_same _ ls ea in
-    let U = runs.use-inv (level w fs) ins f o u (ap (λ (v : List Level). readings.use_in v f o) same ∙ eu) in
+    let U = runs.use_inv (level w fs) ins f o u (ap (λ (v : List Level). readings.use_in v f o) same ∙ eu) in
     record {
       kind = kind;
       name = name;
@@ -241,7 +241,7 @@ instance_passed here outside from name z (y ∷ hs) (behind p) on = bind_any _ _
 
 module _ (space : ℕ) (up at : Index) (z : ℕ) where
   operand_keeps : (ds : List Declaration) (outside : Outside) (k : ℕ) → OkR (λ e. e.now ≡ outer space up at z) (expand_operand ds outside k (outer space up at z))
-  unfolding expand_operand steps.as-it-is
+  unfolding expand_operand steps.as_it_is
   operand_keeps ds outside k = refl
 
   operands_keep : (ds : List Declaration) (outside : Outside) (k : ℕ) (os : List Operand) (o : ℕ) → get_elem? os o ≡ some (outer space up at z) → OkR (λ e. get_elem? e.now o ≡ some (outer space up at z)) (expand_operands ds outside k os)
@@ -252,7 +252,7 @@ module _ (space : ℕ) (up at : Index) (z : ℕ) where
 
   -- step B leaves an OUTER of a field as it is
   pub head_keeps : (ds : List Declaration) (outside : Outside) (k : ℕ) (h : Head) (o : ℕ) → get_elem? h.operands o ≡ some (outer space up at z) → OkR (λ e. get_elem? e.now.operands o ≡ some (outer space up at z)) (expand_head ds outside k h)
-  unfolding expand_head steps.as-it-is with_operands
+  unfolding expand_head steps.as_it_is with_operands
   head_keeps ds outside k h o e = if_both (OkR _) _ _ _ e (bind_ok _ _ _ _ (operands_keep ds outside k h.operands o e) (λ es q. q))
 
   -- step C turned the OUTER into numbers

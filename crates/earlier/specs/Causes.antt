@@ -29,10 +29,10 @@ use Rattle.earlier.specs.Tested.{instance_space}
 
 abbrev is_late : Refusal → Bool
 is_late (steps.twice space first) = false
-is_late steps.not-exported = false
+is_late steps.not_exported = false
 is_late (steps.not_outer space) = false
 is_late (steps.unknown space) = false
-is_late steps.no-scope = false
+is_late steps.no_such_scope = false
 is_late steps.too_far = false
 is_late steps.case_twice = false
 is_late not_earlier = true
@@ -116,7 +116,7 @@ head_b : (ds : List Declaration) (T : Env → Type 0) (outside : Outside) (k : �
 unfolding expand_head
 head_b ds T outside k h = go (here_only h.code) refl
   where
-    go : (b : Bool) → here_only h.code ≡ b → Late13 (Blamed ds T outside h h.operands) (if b then ok (steps.as-it-is h k) else (expand_operands ds outside k h.operands >>= λ e.
+    go : (b : Bool) → here_only h.code ≡ b → Late13 (Blamed ds T outside h h.operands) (if b then ok (steps.as_it_is h k) else (expand_operands ds outside k h.operands >>= λ e.
         ok (record { inserted = e.inserted; rows = e.rows; now = with_operands h e.now; k = e.k })))
     go true c = unfold if◌then◌else◌ in tt
     go false c = unfold if◌then◌else◌ in bind_ref _ _ _ (operands_b ds T outside h c k h.operands) (λ e _. tt)
@@ -181,12 +181,12 @@ module _ (here : Env) (outside : Outside) where
         by_path here t space name p ps c refl (and_left outside.early _ e) (and_right (leb name top_name) _ (and_right outside.early _ e))
 
     found_c : (Q : ℕ → Type 0) (space name z k : ℕ) (o : Option (ℕ × ℕ)) → OkR (λ e. Heads Q e.inserted) (steps.found_at space name z k o)
-    unfolding steps.found_at steps.as-it-is steps.through
+    unfolding steps.found_at steps.as_it_is steps.through
     found_c Q space name z k none = tt
     found_c Q space name z k (some at) = if_both (OkR _) _ _ _ (outer_c Q space (fresh k) at.0 at.1 z) tt
 
     operand_c : here_only h.code ≡ false → (k : ℕ) (o : Operand) → OkR (λ e. Heads (Cause ds T outside h o) e.inserted) (expand_operand ds outside k o)
-    unfolding expand_operand steps.as-it-is steps.through
+    unfolding expand_operand steps.as_it_is steps.through
     operand_c c k (ref space (Num n) [] z) = tt
     operand_c c k (ref space (Id name) [] z) = bind_any _ _ _ (λ u. if_both (OkR _) _ _ _ tt (found_c _ space name z k _))
     operand_c c k (ref space at (p ∷ ps) z) = if_both (OkR _) _ _ _ tt (paths_c _ space at p ps z k (λ e. path_late c space at p ps z e))
@@ -194,7 +194,7 @@ module _ (here : Env) (outside : Outside) where
     operand_c c k (case name z) = tt
 
     operands_c : here_only h.code ≡ false → (k : ℕ) (os : List Operand) → OkR (λ e. Heads (Blamed ds T outside h os) e.inserted) (expand_operands ds outside k os)
-    unfolding expand_operands steps.as-it-is
+    unfolding expand_operands steps.as_it_is
     operands_c c k [] = tt
     operands_c c k (o ∷ os) = bind_ok _ _ _ _ (operand_c c k o) (λ e a. bind_ok _ _ _ _ (operands_c c e.k os) (λ es b.
         heads_append (Blamed ds T outside h (o ∷ os)) e.inserted es.inserted
@@ -202,10 +202,10 @@ module _ (here : Env) (outside : Outside) where
         (heads_weaker es.inserted (λ z x. blamed_behind x) b)))
 
     head_c : (k : ℕ) → OkR (λ e. Heads (Blamed ds T outside h h.operands) e.inserted) (expand_head ds outside k h)
-    unfolding expand_head steps.as-it-is
+    unfolding expand_head steps.as_it_is
     head_c k = go (here_only h.code) refl
       where
-        go : (b : Bool) → here_only h.code ≡ b → OkR (λ e. Heads (Blamed ds T outside h h.operands) e.inserted) (if b then ok (steps.as-it-is h k) else (expand_operands ds outside k h.operands >>= λ e.
+        go : (b : Bool) → here_only h.code ≡ b → OkR (λ e. Heads (Blamed ds T outside h h.operands) e.inserted) (if b then ok (steps.as_it_is h k) else (expand_operands ds outside k h.operands >>= λ e.
             ok (record { inserted = e.inserted; rows = e.rows; now = with_operands h e.now; k = e.k })))
         go true c = unfold if◌then◌else◌ in tt
         go false c = unfold if◌then◌else◌ in bind_ok _ _ _ _ (operands_c c k h.operands) (λ e a. a)
@@ -238,7 +238,7 @@ module _ (here : Env) (outside : Outside) where
   up_other : (Q : ℕ → Type 0) (es : List Env) (up : Index) (fz : ℕ) → Late13 Q (steps.up_number es up fz)
   unfolding steps.up_number
   up_other Q es (Num n) fz = tt
-  up_other Q es (Id name) fz = or_other Q (steps.named es name) steps.no-scope fz refl
+  up_other Q es (Id name) fz = or_other Q (steps.named es name) steps.no_such_scope fz refl
 
   outer_numbers_lem : (os : List Operand) (fz space : ℕ) (up at : Index) (z : ℕ) → Late13 (IndexLate (outer space up at z ∷ os)) (steps.outer_numbers outside.early (opened here outside) fz space up at z)
   unfolding steps.outer_numbers
@@ -296,12 +296,12 @@ through_was space z last hs o space' up at z' e = let c : ◌≡◌ {A = ℕ} 0 
 
 module _ (ds : List Declaration) (outside : Outside) where
   found_was : (space name z k : ℕ) (o : Option (ℕ × ℕ)) → OkR (λ e. WasOuter (ref space (Id name) [] z) e.now) (steps.found_at space name z k o)
-  unfolding steps.found_at steps.as-it-is
+  unfolding steps.found_at steps.as_it_is
   found_was space name z k none = λ space up at z e. e
   found_was space name z k (some at) = if_both (OkR _) _ _ _ (through_was space z k _ (ref space (Id name) [] z)) tt
 
   operand_was : (k : ℕ) (o : Operand) → OkR (λ e. WasOuter o e.now) (expand_operand ds outside k o)
-  unfolding expand_operand steps.as-it-is
+  unfolding expand_operand steps.as_it_is
   operand_was k (ref space (Num n) [] z) = λ space up at z e. e
   operand_was k (ref space (Id name) [] z) = bind_any _ _ _ (λ u. if_both (OkR _) _ _ _ (λ space up at z e. e) (found_was space name z k _))
   operand_was k (ref space at (p ∷ ps) z) = if_both (OkR _) _ _ _ tt (through_was space z _ _ (ref space at (p ∷ ps) z))
@@ -309,12 +309,12 @@ module _ (ds : List Declaration) (outside : Outside) where
   operand_was k (case name z) = λ space up at z e. e
 
   operands_were : (k : ℕ) (os : List Operand) → OkR (λ e. WereOuter os e.now) (expand_operands ds outside k os)
-  unfolding expand_operands steps.as-it-is
+  unfolding expand_operands steps.as_it_is
   operands_were k [] = λ n space up at z e. e
   operands_were k (o ∷ os) = bind_ok _ _ _ _ (operand_was k o) (λ e w. bind_ok _ _ _ _ (operands_were e.k os) (λ es ws. were_step o e.now os es.now w ws))
 
   head_were : (k : ℕ) (h : Head) → OkR (λ e. WereOuter h.operands e.now.operands) (expand_head ds outside k h)
-  unfolding expand_head steps.as-it-is with_operands
+  unfolding expand_head steps.as_it_is with_operands
   head_were k h = if_both (OkR _) _ _ _ (λ n space up at z e. e) (bind_ok _ _ _ _ (operands_were k h.operands) (λ e w. w))
 
 -- ---- a field, a scope, a run
@@ -350,7 +350,7 @@ data Stop (fs : Fields) (ds : List Declaration) (here : Env) (outside : Outside)
 field_first : {i : Item} {fs : Fields} {ds : List Declaration} {T : Env → Type 0} {outside : Outside} {z : ℕ} → LowFields (i ▸ fs) → Blamed ds T outside (head_of i) (head_of i).operands z → FieldLate (i ▸ fs) ds T outside z
 unfolding firsts
 field_first {i} {fs} {outside = outside} low B =
-    record { f = 0; i = i; there = rw (lookups.originals-original i fs (lookups.low-original (head_of i) low.0.decls)); seen = outside.before; seen_is = sym (append-nil outside.before.decls); blamed = B }
+    record { f = 0; i = i; there = rw (lookups.originals_original i fs (lookups.low_original (head_of i) low.0.decls)); seen = outside.before; seen_is = sym (append-nil outside.before.decls); blamed = B }
 
 field_later : {i : Item} {fs : Fields} {ds : List Declaration} {T : Env → Type 0} {outside : Outside} {z : ℕ} → LowFields (i ▸ fs) → FieldLate fs ds T (onward i outside) z → FieldLate (i ▸ fs) ds T outside z
 unfolding firsts
@@ -358,7 +358,7 @@ field_later {i} {fs} {outside = outside} low L =
     record {
       f = suc L.f;
       i = L.i;
-      there = rw (lookups.originals-original i fs (lookups.low-original (head_of i) low.0.decls)) L.there;
+      there = rw (lookups.originals_original i fs (lookups.low_original (head_of i) low.0.decls)) L.there;
       seen = L.seen;
       seen_is = L.seen_is ∙ append_assoc outside.before.decls (head_of i).decls (firsts L.f fs);
       blamed = L.blamed;
@@ -368,7 +368,7 @@ stop_later : {i : Item} {fs : Fields} {ds : List Declaration} {here : Env} {outs
 unfolding firsts
 stop_later low (at_field L) = at_field (field_later low L)
 stop_later {i} {fs} {outside = outside} low (in_scope_lem f h s seen there is L) =
-    in_scope_lem (suc f) h s seen (rw (lookups.originals-original i fs (lookups.low-original (head_of i) low.0.decls)) there) (is ∙ append_assoc outside.before.decls (head_of i).decls (firsts f fs)) L
+    in_scope_lem (suc f) h s seen (rw (lookups.originals_original i fs (lookups.low_original (head_of i) low.0.decls)) there) (is ∙ append_assoc outside.before.decls (head_of i).decls (firsts f fs)) L
 
 fields_b : (ds : List Declaration) (T : Env → Type 0) (outside : Outside) (k : ℕ) (fs : Fields) → LowFields fs → Late13 (FieldLate fs ds T outside) (expand_fields ds outside k fs)
 unfolding expand_fields
@@ -397,7 +397,7 @@ index_blamed {here = here} w L =
 stop_first : {h : Head} {s : Scope} {fs : Fields} {ds : List Declaration} {here : Env} {outside : Outside} {z : ℕ} → LowFields (holds h s ▸ fs) → ScopeLate s (inward h here outside) z → Stop (holds h s ▸ fs) ds here outside z
 unfolding firsts head_of
 stop_first {h} {s} {fs} {outside = outside} low L =
-    in_scope_lem 0 h s outside.before (rw (lookups.originals-original (holds h s) fs (lookups.low-original h low.0.decls))) (sym (append-nil outside.before.decls)) L
+    in_scope_lem 0 h s outside.before (rw (lookups.originals_original (holds h s) fs (lookups.low_original h low.0.decls))) (sym (append-nil outside.before.decls)) L
 
 scope_stop : {kind name : ℕ} {fs : Fields} {outside : Outside} (k : ℕ) {p : Env × ℕ} {z : ℕ} → prepare name fs outside k ≡ ok p → Stop fs (declarations fs) p.0 outside z → ScopeLate (scope kind name fs) outside z
 scope_stop {kind} {name} {fs} {outside} k {p} ep (at_field L) =

@@ -85,7 +85,7 @@ arrived_step {way} {w} {w'} {m} {f} {ins} {fs} {gs} {out} {out'} {ls} {i} {i'} e
       is = rw (← snoc_append w' m way) A.is;
       scope = subst (λ (x : List ℕ). Here x A.els A.gs A.outside A.here A.gout) (snoc_append w' m way) A.scope;
       around_it = A.around_it;
-      in_input = runs.around-step f A.v (level w fs) ins i gs (level (w ++ (f ∷ A.v)) A.gs ∷ A.around_it) e₄ e₅ (rw (snoc_append w f A.v) at A.in_input);
+      in_input = runs.around_step f A.v (level w fs) ins i gs (level (w ++ (f ∷ A.v)) A.gs ∷ A.around_it) e₄ e₅ (rw (snoc_append w f A.v) at A.in_input);
       in_all = reached_step w way m f out (level (w ++ (f ∷ A.v)) A.gout) i' out' e₁ e₂ e₃ (rw (snoc_append w f A.v) at A.in_all);
     }
 

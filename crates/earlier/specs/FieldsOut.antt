@@ -47,7 +47,7 @@ split (h ∷ hs) i gs (suc j) i' e = go (split hs i gs j i' e)
     go (later j' p q) = later j' p (ap suc q)
 
 new_in : (lo hi : ℕ) {h : Head} {hs : List Head} → AllNew lo hi hs → In h hs → is_inserted h ≡ true
-new_in lo hi {h} a first = lookups.new-inserted lo hi h a.0
+new_in lo hi {h} a first = lookups.new_inserted lo hi h a.0
 new_in lo hi a (behind p) = new_in lo hi a.1 p
 
 firsts_behind : (hs : List Head) (m : ℕ) (fs : Fields) → firsts (past hs m) (◌before◌ hs fs) ≡ heads_decls hs ++ firsts m fs
@@ -59,7 +59,7 @@ renumbered_behind : (lo hi : ℕ) (hs : List Head) (m : ℕ) (fs : Fields) → A
 unfolding renumbered ◌before◌ if◌then◌else◌
 renumbered_behind lo hi [] m fs a = refl
 renumbered_behind lo hi (h ∷ hs) m fs a =
-    let new : is_inserted (head_of (plain h)) ≡ true = unfold head_of in lookups.new-inserted lo hi h a.0 in
+    let new : is_inserted (head_of (plain h)) ≡ true = unfold head_of in lookups.new_inserted lo hi h a.0 in
     rw new (renumbered_behind lo hi hs m fs a.1)
 
 -- ---- declared in a part of a list
@@ -116,7 +116,7 @@ module _ {i : Item} {fs : Fields} {ds : List Declaration} {here : Env} {outside 
   out_is = ap (λ (x : Fields × ℕ). x.0) R.result
 
   own : originals (i ▸ fs) ≡ i ∷ originals fs
-  own = lookups.originals-original i fs (lookups.low-original (head_of i) low.0.decls)
+  own = lookups.originals_original i fs (lookups.low_original (head_of i) low.0.decls)
 
   firsts_are : (j m : ℕ) → j ≡ past R.new m → firsts j r.0 ≡ heads_decls R.new ++ firsts m (R.q.0 ▸ R.rs.0)
   firsts_are j m e = ap (λ (x : Fields). firsts j x) (sym out_is) ∙ (ap (λ (n : ℕ). firsts n (◌before◌ R.new (R.q.0 ▸ R.rs.0))) e ∙ firsts_behind R.new m (R.q.0 ▸ R.rs.0))
@@ -148,23 +148,23 @@ module _ {i : Item} {fs : Fields} {ds : List Declaration} {here : Env} {outside 
   number_is : (j m : ℕ) → j ≡ past R.new m → renumbered r.0 j ≡ renumbered (R.q.0 ▸ R.rs.0) m
   number_is j m e =
       ap (λ (x : Fields). renumbered x j) (sym out_is)
-      ∙ (ap (λ (n : ℕ). renumbered (◌before◌ R.new (R.q.0 ▸ R.rs.0)) n) e ∙ renumbered_behind b R.e.k R.new m (R.q.0 ▸ R.rs.0) (runs.ran-new R))
+      ∙ (ap (λ (n : ℕ). renumbered (◌before◌ R.new (R.q.0 ▸ R.rs.0)) n) e ∙ renumbered_behind b R.e.k R.new m (R.q.0 ▸ R.rs.0) (runs.ran_new R))
 
   number_zero : renumbered (R.q.0 ▸ R.rs.0) 0 ≡ some 0
   unfolding renumbered only
-  number_zero = rw (readings.stays-original R low.0.decls)
+  number_zero = rw (readings.stays_original R low.0.decls)
 
   number_suc : (m f : ℕ) → renumbered R.rs.0 m ≡ some f → renumbered (R.q.0 ▸ R.rs.0) (suc m) ≡ some (suc f)
   unfolding renumbered if◌then◌else◌
-  number_suc m f e = rw (readings.stays-original R low.0.decls, e)
+  number_suc m f e = rw (readings.stays_original R low.0.decls, e)
 
   itself_kept : (j : ℕ) (i' : Item) → i' ≡ R.q.0 → j ≡ past R.new 0 → Comes 0 R.new R.q.0 R.h r.0 j i'
-  itself_kept j i' p q = kept p (ap head_of p ∙ runs.ran-head R) (ap (λ (x : Item). is_inserted (head_of x)) p ∙ readings.stays-original R low.0.decls) (number_is j 0 q ∙ number_zero)
+  itself_kept j i' p q = kept p (ap head_of p ∙ runs.ran_head R) (ap (λ (x : Item). is_inserted (head_of x)) p ∙ readings.stays_original R low.0.decls) (number_is j 0 q ∙ number_zero)
       (λ space name e. ap (λ (ds : List Declaration). has ds space name) (firsts_are j 0 q) ∙ has_left (heads_decls R.new) _ space name e)
 
   behind_all_lem : (j j' : ℕ) → j ≡ past R.new (suc j') → firsts j r.0 ≡ heads_decls R.new ++ ((head_of i).decls ++ firsts j' R.rs.0)
   unfolding firsts
-  behind_all_lem j j' e = firsts_are j (suc j') e ∙ ap (λ (ds : List Declaration). heads_decls R.new ++ (ds ++ firsts j' R.rs.0)) (runs.ran-decls R)
+  behind_all_lem j j' e = firsts_are j (suc j') e ∙ ap (λ (ds : List Declaration). heads_decls R.new ++ (ds ++ firsts j' R.rs.0)) (runs.ran_decls R)
 
   at_later : (j j' : ℕ) (i' : Item) → j ≡ past R.new (suc j') → FieldOut fs ds here (onward i outside) R.rs.0 j' i' → FieldOut (i ▸ fs) ds here outside r.0 j i'
   at_later j j' i' e F =
@@ -210,6 +210,6 @@ field_out (i ▸ fs) ds here outside b k r j i' low eq e =
   where
     go : (R : Ran i fs ds here outside b k r) → Split R.new R.q.0 R.rs.0 j i'
         → ((j' : ℕ) → get_elem? (items R.rs.0) j' ≡ some i' → FieldOut fs ds here (onward i outside) R.rs.0 j' i') → FieldOut (i ▸ fs) ds here outside r.0 j i'
-    go R (of_new h p q) below = at_first low R j i' (made h p (new_in b R.e.k (runs.ran-new R) p) q)
+    go R (of_new h p q) below = at_first low R j i' (made h p (new_in b R.e.k (runs.ran_new R) p) q)
     go R (itself p q) below = at_first low R j i' (itself_kept low R j i' p q)
     go R (later j' p q) below = at_later low R j j' i' q (below j' p)

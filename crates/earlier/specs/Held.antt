@@ -42,10 +42,10 @@ low_head : (fs : Fields) (n : ℕ) (i : Item) → LowFields fs → get_elem? (or
 unfolding originals
 low_head end n i low e = no_option i e
 low_head (i₀ ▸ fs) zero i low e =
-    let here : get_elem? (i₀ ∷ originals fs) 0 ≡ some i = rw (lookups.originals-original i₀ fs (lookups.low-original (head_of i₀) low.0.decls)) at e in
+    let here : get_elem? (i₀ ∷ originals fs) 0 ≡ some i = rw (lookups.originals_original i₀ fs (lookups.low_original (head_of i₀) low.0.decls)) at e in
     subst (λ (x : Item). LowHead (head_of x)) (some_same i₀ i here) low.0
 low_head (i₀ ▸ fs) (suc n) i low e =
-    let later : get_elem? (originals fs) n ≡ some i = rw (lookups.originals-original i₀ fs (lookups.low-original (head_of i₀) low.0.decls)) at e in
+    let later : get_elem? (originals fs) n ≡ some i = rw (lookups.originals_original i₀ fs (lookups.low_original (head_of i₀) low.0.decls)) at e in
     low_head fs n i low.2 later
 
 tested_is : (base : List ℕ) (ins : List Level) (names : List ℕ) (s : Scope) (p : Place) (u : Use) (ns : List ℕ) → readings.use_inside base ins s p ≡ some u → names_around p.way s names ≡ some ns
@@ -104,7 +104,7 @@ use_at_lem : (base : List ℕ) (ins : List Level) (s : Scope) (way : List ℕ) {
     → readings.around way (level base (readings.fields_of s)) ins ≡ some (level w fs ∷ around_it) → get_elem? (originals fs) f ≡ some i → get_elem? (head_of i).operands o ≡ some op
     → readings.use_inside base ins s (record { way = way; field = f; at = o }) ≡ some (record { levels = level w fs ∷ around_it; head = head_of i; operand = op })
 use_at_lem base ins s way {w} {fs} {around_it} f o i op e₁ e₂ e₃ =
-    runs.use-is base ins s (record { way = way; field = f; at = o }) _ _ e₁ (runs.use_there (level w fs) around_it f o i (head_of i) op e₂ refl e₃)
+    runs.use_is base ins s (record { way = way; field = f; at = o }) _ _ e₁ (runs.use_there (level w fs) around_it f o i (head_of i) op e₂ refl e₃)
 
 low_there : {way : List ℕ} {l : Level} {e : Env} {ls : List Level} {es : List Env} → Times way (l ∷ ls) (e ∷ es) → LowFields l.fields
 low_there (inside T Ts) = T.low
@@ -129,7 +129,7 @@ module _ (rules : RuleSet) (base : List ℕ) {ins : List Level} {around : List E
       let En = entered L.enters base ins steps (F.f ∷ []) from-base low refl (Ts steps (L.way ++ (F.f ∷ [])) from-base) in
       let has-ref : get_elem? (head_of F.i).operands o ≡ some (ref space (Id name) [] z) = has-op ∙ ap {B = Option Operand} some is in
       let name-low = (low_operand (head_of F.i).operands o _ (low_head L.fs F.f F.i En.low.1 F.there).operands has-ref).1 in
-      let both = sym (earlier.late-at En F.seen F.seen_is space name name-low) ∙ late in (
+      let both = sym (earlier.late_at_lem En F.seen F.seen_is space name name-low) ∙ late in (
         and_left rules.early _ both,
         late_name_lem base L.way F.f o _ _ _ (use_at_lem base ins s L.way F.f o F.i _ En.arrives F.there has-ref) refl (entered_names L.enters)
             (walked_name _ _ (head_of F.i) space name z c) (and_right rules.early _ both),
@@ -258,7 +258,7 @@ module _ (rules : RuleSet) (around : Around) (s : Scope) (r : Scope × ℕ) (low
       record {
         came_there = C;
         scopes_there = S;
-        levels_are = runs.use-levels s₁.0 p.field p.at u s₁.2 ∙ some_same _ _ (sym s₁.1 ∙ S.arrives);
+        levels_are = runs.use_levels s₁.0 p.field p.at u s₁.2 ∙ some_same _ _ (sym s₁.1 ∙ S.arrives);
         names_are = some_same _ _ (sym en ∙ S.names_are);
       }
 
@@ -271,7 +271,7 @@ module _ (rules : RuleSet) (around : Around) (s : Scope) (r : Scope × ℕ) (low
   unfolding means
   walked_early p u space name z eu is c =
       let w : readings.walked u.head u.operand ≡ some (space, name) = ap (readings.walked u.head) is ∙ walked_is u.head space name z c in
-      let at_p = runs.walked_at around.base around.ins s p u (space, name) eu w in
+      let at_p = runs.walked_at_lem around.base around.ins s p u (space, name) eu w in
       let D = readings_agree rules around.base around.frames s r p (space, name) low eq at_p in
       record {
         declaration = D.0;

@@ -66,10 +66,10 @@ pub record LateInside (around : Around) (settings : List Setting) (input : List 
 is_late_lem : (why : steps.Refusal) → number_of why ≡ 13 → why ≡ not_earlier
 unfolding number_of
 is_late_lem (steps.twice space first) e = absurd (omega arith)
-is_late_lem steps.not-exported e = absurd (omega arith)
+is_late_lem steps.not_exported e = absurd (omega arith)
 is_late_lem (steps.not_outer space) e = absurd (omega arith)
 is_late_lem (steps.unknown space) e = absurd (omega arith)
-is_late_lem steps.no-scope e = absurd (omega arith)
+is_late_lem steps.no_such_scope e = absurd (omega arith)
 is_late_lem steps.too_far e = absurd (omega arith)
 is_late_lem steps.case_twice e = absurd (omega arith)
 is_late_lem not_earlier e = refl

@@ -58,7 +58,7 @@ first_declared : (hs : List Head) (space name : ℕ) → is_just (first_named (i
 unfolding in_heads heads_decls has first_named
 first_declared [] space name = refl
 first_declared (h ∷ hs) space name =
-    ap is_just (lookups.first-of-heads h hs space name) ∙ (go (has h.decls space name) (first_declared hs space name) ∙ sym (has_append h.decls (heads_decls hs) space name))
+    ap is_just (lookups.first_of_heads h hs space name) ∙ (go (has h.decls space name) (first_declared hs space name) ∙ sym (has_append h.decls (heads_decls hs) space name))
   where
     go : (b : Bool) → is_just (first_named (in_heads hs) space name) ≡ has (heads_decls hs) space name
         → is_just (if b then some (readings.inserted h) else first_named (in_heads hs) space name) ≡ b || has (heads_decls hs) space name
@@ -306,7 +306,7 @@ module _ (rules : RuleSet) (around : Around) (out-holders : HoldersAround around
             let s₂ = then_some (readings.around p.way (level around.base (readings.fields_of s)) around.ins) _ s₁.0 s₁.1 in
             let same : s₂.0 ≡ level (around.base ++ A.v) A.gs ∷ A.around_it =
             some_same _ _ (sym s₂.1 ∙ (ap (λ (v : List ℕ). readings.around v (level around.base (readings.fields_of s)) around.ins) (sym v-is) ∙ A.in_input)) in
-            let U = runs.use-inv (level (around.base ++ A.v) A.gs) A.around_it p.field p.at s₁.0 (ap (λ (v : List Level). readings.use_in v p.field p.at) (sym same) ∙ s₂.2) in
+            let U = runs.use_inv (level (around.base ++ A.v) A.gs) A.around_it p.field p.at s₁.0 (ap (λ (v : List Level). readings.use_in v p.field p.at) (sym same) ∙ s₂.2) in
             let is-i : U.0 ≡ F.i = some_same _ _ (sym U.1 ∙ (ap (λ (f : ℕ). get_elem? (readings.originals A.gs) f) (sym field_is) ∙ F.there)) in
             let W = walked_ref s₁.0.head s₁.0.operand x s₁.2 in
             let code : here_only (head_of F.i).code ≡ false = ap (λ (j : Item). here_only (head_of j).code) (sym is-i) ∙ (ap (λ (h : Head). here_only h.code) U.3 ∙ W.2) in

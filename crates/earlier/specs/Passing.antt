@@ -27,7 +27,7 @@ module _ (ds : List Declaration) (outside : Outside) (space name z : ℕ) where
   operand_timely : (k : ℕ) → OkR (λ e. Timely) (expand_operand ds outside k (ref space (Id name) [] z))
   unfolding expand_operand
   operand_timely k = bind_eq _ _ _ (λ u e. always
-      (if is_just (steps.find ds space name) then ok (steps.as-it-is (ref space (Id name) [] z) k) else steps.found_at space name z k (steps.walk outside.scopes 1 space name))
+      (if is_just (steps.find ds space name) then ok (steps.as_it_is (ref space (Id name) [] z) k) else steps.found_at space name z k (steps.walk outside.scopes 1 space name))
       (in_time_lem _ z u e))
 
   operands_timely : (k : ℕ) (os : List Operand) (o : ℕ) → get_elem? os o ≡ some (ref space (Id name) [] z) → OkR (λ e. Timely) (expand_operands ds outside k os)

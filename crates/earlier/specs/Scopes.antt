@@ -59,8 +59,8 @@ unfolding steps.up_number upward
 up_is es (Num n) z d e = ap {B = Option ℕ} some (ok_same n d e)
 up_is es (Id name) z d e = nearest_is es name ∙ go (steps.named es name) e
   where
-    go : (o : Option ℕ) → steps.or_refused o steps.no-scope z ≡ ok d → o ≡ some d
-    go none e = unfold steps.or_refused in no_result steps.no-scope z d e
+    go : (o : Option ℕ) → steps.or_refused o steps.no_such_scope z ≡ ok d → o ≡ some d
+    go none e = unfold steps.or_refused in no_result steps.no_such_scope z d e
     go (some n) e = unfold steps.or_refused in ap {B = Option ℕ} some (ok_same n d e)
 
 -- ---- the scope and those around it

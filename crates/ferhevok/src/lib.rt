@@ -1,4 +1,6 @@
 // What other languages link: the library's C functions, each a thin one over a function of the crates below.
+#![tactic(auto)]
+
 pub mod back;
 pub mod bindings;
 pub mod builds;

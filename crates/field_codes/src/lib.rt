@@ -1,12 +1,14 @@
 // What a field's code alone tells of its rows: what e may be, whether it ends with an EXPORT, where its operands are looked up, and the kind of
 // scope that it opens.
+#![tactic(auto)]
+
 ghost use Rattle.std.specs.Prelude.{◌≡◌};
 ghost use Rattle.rules.specs.Shapes as rules;
 ghost use Rattle.rules.specs.Shapes.{builtin_ok, here_only};
 ghost use Rattle.field_codes.specs.Values.{as_option};
 
 // The kind of scope that a field opens.
-#[derive(Drop)]
+#[derive(Clone, Copy)]
 pub enum Inner {
     Nothing,
     Kind(usize),

@@ -1,4 +1,6 @@
 // Files as a program of the command line has them: read whole, written whole or not at all, and the system's reasons in words.
+#![tactic(auto)]
+
 pub mod errors;
 mod links;
 mod mode;

@@ -8,14 +8,14 @@ use crate::parts::{copy, ended, front};
 const LINKS: u8 = 40;
 
 // What following links came to: a path of this many bytes that is no link, or none.
-#[derive(Drop)]
+#[derive(Clone, Copy)]
 pub(crate) enum Target {
     At(usize),
     Nowhere,
 }
 
 // What one link came to: a path of this many bytes, or one that there is no room for, or that it was no link.
-#[derive(Drop)]
+#[derive(Clone, Copy)]
 enum Step {
     To(usize),
     TooLong,

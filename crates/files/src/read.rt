@@ -9,7 +9,7 @@ use libc::STDIN_FILENO;
 const LARGEST: usize = 65480;
 
 // What reading a file came to: this many bytes, or a sentence on standard error that says why not.
-#[derive(Drop)]
+#[derive(Clone, Copy)]
 pub enum Loaded {
     Bytes(usize),
     Failed,

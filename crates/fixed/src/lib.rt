@@ -1,4 +1,6 @@
 // Numbers of document 01 that several crates need.
+#![tactic(auto)]
+
 ghost use Rattle.std.specs.Prelude.{◌≡◌, ◌+◌, ◌*◌};
 
 // The highest name of an input. The names above are fresh.

@@ -1,4 +1,6 @@
 // The bytes of a form: how it begins, and numbers in them, the lower byte first. What lies past the end is 0, so that any bytes can be looked at.
+#![tactic(auto)]
+
 ghost use Rattle.std.specs.Prelude.{◌≡◌, ◌<◌, get_or};
 ghost use Rattle.parts.specs.PartsAt.{two, four};
 ghost use Rattle.form_bytes.specs.Begins.{begins_as};

@@ -109,7 +109,7 @@ module _ (i : ℕ) (input : List ℕ) (room : ℕ) (l : Limits) (e : l ≡ limit
   of_setting = rw (stands i) at of_limits
 
   low : (limits_of S).rows ≤ 4294967295
-  low = omega (arith, limits.few-rows i)
+  low = omega (arith, limits.few_rows i)
 
   pub refuses_wrong : (v : Form) → h ≡ Wrong → v ≡ refused_t 1 0 → v ≡ form_of (admit S input room)
   refuses_wrong v is w =
@@ -126,7 +126,7 @@ module _ (i : ℕ) (input : List ℕ) (room : ℕ) (l : Limits) (e : l ≡ limit
     found = header_rows S input rows (sym is ∙ of_setting)
 
     pub few_rows : rows ≤ 16383
-    few_rows = omega (arith, found.few, limits.few-rows i)
+    few_rows = omega (arith, found.few, limits.few_rows i)
 
     module _ (header : ℕ) (size : header ≡ (setting i).version.header) where
       pub long_enough : header ≤ length input
@@ -174,14 +174,14 @@ module _ (i : ℕ) (entered names : List Slot) (known chains ends : List ℕ) (s
   -- the tables may hold anything where their indexes start empty
   pub names_free : (c : List ℕ) → c ≡ replicate (length chains) 0 → Holds names c 0
   names_free c q =
-      let f = limits.few-rows i in
+      let f = limits.few_rows i in
       let n = suits.names in
       let k = suits.chains in
       rw q (served_new (slots_for (setting i).version) (omega arith) names names (length chains) (length chains) 0 (omega arith) (omega arith) (omega arith) (omega arith) refl).held
 
   pub served_inside : (k : List ℕ) (used used' : ℕ) → k ≡ replicate (length known) 0 → Holds names chains used → used' ≡ used → Served entered k names chains used'
   served_inside k used used' q h e =
-      let f = limits.few-rows i in
+      let f = limits.few_rows i in
       let n = suits.entered in
       let m = suits.known in
       rw (q, e) (record { free = (served_new (slots_for (setting i).version) (omega arith) entered entered (length known) (length known) 0 (omega arith) (omega arith) (omega arith) (omega arith) refl).free; held = h })
@@ -262,7 +262,7 @@ module _ (i : ℕ) (input old : List ℕ) (f : Form) (w : f ≡ form_of (admit (
     facts = rw e at fine
 
     pub has_few : rows ≤ 16383
-    has_few = omega (arith, facts.2, limits.few-rows i)
+    has_few = omega (arith, facts.2, limits.few_rows i)
 
     module _ (header : ℕ) (size : header ≡ (setting i).version.header) where
       pub has_header_lem : header ≤ length input

@@ -24,7 +24,7 @@ use whole_form::read::Form;
 use write::alias::Walked;
 
 // A root that stands in the table: its name, and how many of the first slots are its.
-#[derive(Drop)]
+#[derive(Clone, Copy)]
 pub struct Seat {
     pub name: usize,
     pub used: usize,

@@ -1,5 +1,7 @@
 // Members of an object of JSON, each with what stands before its value: a brace or a comma, and its key. All that is
 // written is ASCII.
+#![tactic(auto)]
+
 use words::{say, say_number};
 
 pub fn say_count(fd: i32, key: &[u8], number: u32) {

@@ -1,1 +1,3 @@
 // Theorems on the no of a checked claim, and no code.
+#![tactic(auto)]
+

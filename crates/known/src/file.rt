@@ -14,7 +14,7 @@ use words::refusals::say_where;
 use words::say;
 
 // No form at all; a form whose names alone are refused; one that is resolved already; or rows that make no form.
-#[derive(Drop)]
+#[derive(Clone, Copy)]
 pub enum Known {
     NoForm,
     Whole,

@@ -1,5 +1,7 @@
 // Refusal 13: whether what a scope has under a name stands before a field. Slots stand in the order of their fields, so
 // those before a field are the first ones of its scope.
+#![tactic(auto)]
+
 ghost use Rattle.std.specs.Prelude.{◌≡◌, ◌-◌};
 ghost use Rattle.names.specs.Table.{scope_at};
 ghost use Rattle.index.specs.Indexed.{Covers};

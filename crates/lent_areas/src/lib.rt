@@ -1,4 +1,6 @@
 // Working areas that are lent, by the form's version: whether they are large enough, and how they are handed back.
+#![tactic(auto)]
+
 ghost use Rattle.std.specs.Prelude.{◌≡◌};
 ghost use Rattle.limits.specs.Held.{setting};
 ghost use Rattle.resolver_with.specs.Areas.{roomy, Cleared};

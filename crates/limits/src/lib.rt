@@ -1,4 +1,6 @@
 // What a form is held to, by value: the numbers of its version and its rule set. A version more is an entry here.
+#![tactic(auto)]
+
 ghost use Rattle.std.specs.Prelude.{◌≡◌, ◌≤◌};
 ghost use Rattle.rules.specs.Versions.{version2, as_claimed};
 ghost use Rattle.limits.specs.Held.{rules_of, limits_of, setting};
@@ -6,7 +8,7 @@ ghost use Rattle.limits.specs.Held.{rules_of, limits_of, setting};
 use fixed::{HEADER_NARROW, LAST_NAME, LONG_HEADER_NARROW};
 
 // The layout of the header, and the most that a form may have.
-#[derive(Drop)]
+#[derive(Clone, Copy)]
 pub struct Limits {
     // The version's number.
     pub version: u8,

@@ -4,6 +4,8 @@
 // Insertions are counted as the steps count them, all of a scope's before those of the scopes inside it, so scopes are marked in
 // the order of their OPEN rows. The table has the names that a scope declares, and behind them those that have an alias already,
 // with the alias's name as their number.
+#![tactic(auto)]
+
 ghost use Rattle.std.specs.Prelude.{◌≡◌, ◌/◌, ◌≤◌, length, slice_index};
 ghost use Rattle.kit.specs.Out.{◌&◌};
 ghost use Rattle.put.specs.Put.{copy_row};
@@ -24,7 +26,7 @@ use std::num::wrapping_add_u32;
 // ---- the rows of one scope
 
 // Where a scope is gone through: the row at hand, the row past the field at hand, and whether that field's names are walked.
-#[derive(Drop)]
+#[derive(Clone, Copy)]
 pub struct Place {
     pub row: usize,
     pub end: usize,
@@ -129,7 +131,7 @@ fn enter_scope(
 
 // What is carried through a scope: how many names it declares, how many slots are used with those that have an alias, and the
 // name of the next insertion.
-#[derive(Drop)]
+#[derive(Clone, Copy)]
 pub struct Marking {
     pub own: usize,
     pub used: usize,

@@ -8,7 +8,7 @@ use parts::parts_at;
 use rows::row::{CLOSE, FIELD, OPEN};
 
 // What is left of both roots: from this row on, up to that of the left and that of the right.
-#[derive(Drop)]
+#[derive(Clone, Copy)]
 pub struct Rest {
     pub from: usize,
     pub left: usize,

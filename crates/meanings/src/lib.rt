@@ -2,6 +2,8 @@
 //
 // The readings go through scopes row by row, inner scopes among them, and up to a row's OPEN. Whoever asks for one row does best with them;
 // whoever asks for all has them noted here first.
+#![tactic(auto)]
+
 mod chains;
 pub mod entries;
 mod meaning;

@@ -2,6 +2,8 @@
 // form by itself, and behind all scopes of the member in the root of the prelude.
 //
 // Both forms are lent, and looked at by their rows alone. They are of version 1 or 2; any bytes will do.
+#![tactic(auto)]
+
 ghost use Rattle.std.specs.Prelude.{◌≡◌};
 ghost use Rattle.meant.specs.Names.{in_member, in_root, walked_meant_t, is_there, has_scope, is_root_t, outer_wanted_t, scope_meant, meant_behind_t, index_meant_t, ref_meant_t, name_meant_t};
 ghost use Rattle.meant.specs.Part.{part_of, row_part, chosen, meant_t};
@@ -13,7 +15,7 @@ use rows::row::REF;
 use scopes::{Found, Key, Outer, Wanted, find, scope_of, scope_outward};
 
 // A declaration: out of which of the two forms, and its DECL row there.
-#[derive(Drop)]
+#[derive(Clone, Copy)]
 pub enum Declared {
     Member(u16),
     Prelude(u16),

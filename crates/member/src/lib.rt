@@ -1,5 +1,7 @@
 // One member of a batch by itself, inside the root of its resolved prelude, in version 1. It is given the prelude and the member and nothing
 // of another member.
+#![tactic(auto)]
+
 ghost use Rattle.std.specs.Prelude.{◌≡◌, ◌+◌, ◌-◌, ◌*◌, ◌≤◌, ltb, length, take, drop};
 ghost use Rattle.kit.specs.Pick.{pick};
 ghost use Rattle.rules.specs.Versions.{base};

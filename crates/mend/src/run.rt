@@ -25,7 +25,7 @@ use refusal::{BROKEN, DEEP, NOT_A_FORM, ROOM, ROW_COUNT, Refusal};
 // How many settings there are.
 const SETTINGS: usize = 3;
 
-#[derive(Drop)]
+#[derive(Clone, Copy)]
 pub enum Answer {
     // How many changes were made.
     Mended(u32),

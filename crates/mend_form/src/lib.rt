@@ -1,4 +1,6 @@
 // The rows of the mended form of a spoilt one: which stay, what becomes of their parts, and the CLOSE rows that were missing.
+#![tactic(auto)]
+
 ghost use Rattle.std.specs.Prelude.{◌≡◌, ◌+◌, ◌*◌, ◌/◌, ◌≤◌, ◌<◌, length};
 ghost use Rattle.mending.specs.Mend.{closes_root, depth_after};
 ghost use Rattle.mend_form.specs.Kept.{kept_in};
@@ -7,7 +9,7 @@ ghost use Rattle.mend_form.specs.Filled.{part_at, stays_t, byte_t, mended_row_t,
 use rows::row::{CASE, CLOSE, DECL, EXPORT, FIELD, OPEN, OUTER, PATH};
 
 // The rows that stay, the first ones, and the scopes that are open behind them.
-#[derive(Drop)]
+#[derive(Clone, Copy)]
 pub struct Kept {
     pub rows: usize,
     pub scopes: usize,

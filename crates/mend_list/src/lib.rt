@@ -1,6 +1,8 @@
 // The list of changes: each with its byte offset, how many bytes stood there and how many stand there now, and the bytes before.
 // It is taken from the old bytes and the mended rows, which are made one at a time. What lies past the end of the list's buffer
 // is counted and not stored, so that a buffer too small tells how long the list is.
+#![tactic(auto)]
+
 ghost use Rattle.std.specs.Prelude.{◌≡◌, [], ◌∷◌, ◌++◌, ◌+◌, ◌*◌, ◌-◌, ◌/◌, ◌%◌, ◌≤◌, ◌<◌, length, take, drop, set, replicate};
 ghost use Rattle.std.proofs.lemmas.List.Edits.{sets};
 ghost use Rattle.kit.specs.Out.{◌&◌};
@@ -18,7 +20,7 @@ use stores::put_word;
 use whole_form::header::put_header;
 
 // How many bytes and how many changes there are.
-#[derive(Drop)]
+#[derive(Clone, Copy)]
 pub struct Listed {
     pub size: usize,
     pub count: u32,

@@ -1,4 +1,6 @@
 // Whether a spoilt form will be one once it is mended, told before anything is: its mended rows are made one at a time and read.
+#![tactic(auto)]
+
 ghost use Rattle.std.specs.Prelude.{◌≡◌, ◌+◌, ◌-◌, ◌/◌, ◌≤◌, ◌<◌, length};
 ghost use Rattle.kit.specs.Out.{◌&◌};
 ghost use Rattle.parts.specs.PartsAt.{parts_at};

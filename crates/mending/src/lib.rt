@@ -1,1 +1,3 @@
 // Mending a spoilt form: rules and laws. It has no code.
+#![tactic(auto)]
+

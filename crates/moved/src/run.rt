@@ -20,7 +20,7 @@ const MOVED: usize = 16;
 
 const APART: usize = 12;
 
-#[derive(Drop)]
+#[derive(Clone, Copy)]
 pub enum Answer {
     // How many numbers are on each of the two lists.
     Listed(Listed),

@@ -2,6 +2,8 @@
 //
 // The rows of the input are gone through one by one. In the output, scopes open and close in the same order, since no inserted field
 // holds one; so a row behind as many OPEN and CLOSE rows is in the same scope.
+#![tactic(auto)]
+
 ghost use Rattle.std.specs.Prelude.{◌≡◌, ◌||◌, [], ◌∷◌, ◌+◌, ◌*◌, ◌<◌, ◌≤◌, eqb};
 ghost use Rattle.std.proofs.lemmas.List.Edits.{sets};
 ghost use Rattle.kit.specs.Out.{◌&◌};
@@ -14,7 +16,7 @@ use rows::row::{CLOSE, OPEN};
 use stores::put_word;
 
 // How many entries the two lists have.
-#[derive(Drop)]
+#[derive(Clone, Copy)]
 pub struct Listed {
     pub moved: u32,
     pub apart: u32,

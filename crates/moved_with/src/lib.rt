@@ -1,4 +1,6 @@
 // The written numbers that inserted aliases have moved, in a form of any version that is in force: in working areas that are lent.
+#![tactic(auto)]
+
 ghost use Rattle.std.specs.Prelude.{◌≡◌, ◌*◌, ◌≤◌, ◌||◌, ltb, length};
 ghost use Rattle.kit.specs.Out.{◌&◌};
 ghost use Rattle.limits.specs.Held.{setting};

@@ -1,5 +1,7 @@
 // A file of names: each line gives the word for a name, `6 float-be`, or for an export name, `#1 float-be`. A number, one
 // blank, and a word of bytes from 33 to 126; a line ends with LF, or with CR and LF, and an empty line says nothing.
+#![tactic(auto)]
+
 ghost use Rattle.std.specs.Prelude.{◌≡◌, true};
 ghost use Rattle.name_file.specs.Names.{new_line, turned, is_digit, is_word_byte, longer, with_digit, at_start, in_number, in_word, behind_word, with_byte, is_sound, is_for, is_of, word_in, one_more, word_for, wrong_line};
 
@@ -17,7 +19,7 @@ const RETURN: u8 = 4;
 const WRONG: u8 = 5;
 
 // What was read of a line: its word stands from `from` up to `to`.
-#[derive(Drop)]
+#[derive(Clone, Copy)]
 struct Line {
     at: u8,
     exported: bool,
@@ -27,7 +29,7 @@ struct Line {
 }
 
 // A part of the file; nothing where it begins at its end.
-#[derive(Drop)]
+#[derive(Clone, Copy)]
 pub struct Word {
     pub from: usize,
     pub to: usize,

@@ -2,6 +2,8 @@
 //
 // In the output a scope has the input's declarations in their order, and inserted ones among them. So a number that is below that of the
 // first inserted declaration of its space stays, and any other moves.
+#![tactic(auto)]
+
 ghost use Rattle.std.specs.Prelude.{◌≡◌};
 ghost use Rattle.numbers.specs.Entries.{is_written, number_at, scope_wanted, is_pushed, gets_entry, output_entry, counted_entry, entry_at};
 
@@ -11,7 +13,7 @@ use rows::row::REF;
 use scopes::{Found, Key, Outer, Wanted, find, scope_of, scope_outward};
 
 // What is listed of a row.
-#[derive(Drop)]
+#[derive(Clone, Copy)]
 pub enum Entry {
     // Its number means another declaration than it did: place, space, the DECL row that it meant in the input, the one that it gets in
     // the output.
@@ -31,7 +33,7 @@ pub enum Entry {
 }
 
 // A number: the place of its row, the space in which it is counted.
-#[derive(Drop)]
+#[derive(Clone, Copy)]
 pub struct Number {
     pub z: u32,
     pub space: u8,

@@ -1,4 +1,6 @@
 // The operands of references on the rows of a form: where each is looked for, and by what.
+#![tactic(auto)]
+
 ghost use Rattle.std.specs.Prelude.{◌≡◌};
 ghost use Rattle.operands.specs.Operands.{space_sought, is_walked, outer_wanted, index_key, key_of, is_inserted_outer};
 

@@ -18,7 +18,7 @@ pub const JSON: u8 = 8;
 pub const SHARED: u8 = 16;
 
 // The options that are given.
-#[derive(Drop)]
+#[derive(Clone, Copy)]
 pub struct Options {
     pub set: u8,
     // The argument that is the path of a file of names; 0 if there is none.
@@ -28,14 +28,14 @@ pub struct Options {
 }
 
 // What the arguments have for options, or a sentence on standard error that says what is wrong.
-#[derive(Drop)]
+#[derive(Clone, Copy)]
 pub enum Given {
     Options(Options),
     Wrong,
 }
 
 // The next argument was an option; there is none; or it is wrong.
-#[derive(Drop)]
+#[derive(Clone, Copy)]
 enum Turn {
     More(Options),
     Done,

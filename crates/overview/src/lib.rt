@@ -1,4 +1,6 @@
 // What wnt says of itself: its commands, its version, and that a word is not one of its commands.
+#![tactic(auto)]
+
 use command::status::{DONE, said};
 use files::standard::error_noted;
 use libc::{STDERR_FILENO, STDOUT_FILENO};

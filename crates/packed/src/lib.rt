@@ -1,4 +1,6 @@
 // The one number in which a C function answers: a refusal as number and place, with room below for what is accepted.
+#![tactic(auto)]
+
 ghost use Rattle.std.specs.Prelude.{◌≡◌, ◌+◌, ◌*◌};
 
 use refusal::Refusal;

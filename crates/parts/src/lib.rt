@@ -1,11 +1,13 @@
 // The six parts of a row, out of its sixteen bytes:
 //     byte  0     1   2-3   4-7   8-11   12-15
 //     part  code  b   e     x     y      z        the lower byte first
+#![tactic(auto)]
+
 ghost use Rattle.std.specs.Prelude.{◌≡◌, ◌+◌, ◌/◌, ◌≤◌, ◌<◌, length};
 ghost use Rattle.parts.specs.PartsAt.{two, four, parts_in, parts_at};
 
 // The six parts of a row.
-#[derive(Drop)]
+#[derive(Clone, Copy)]
 pub struct Parts {
     pub code: u8,
     pub b: u8,

@@ -6,7 +6,7 @@ ghost use Rattle.picture.specs.Lanes.{overlap};
 use crate::arcs::{MOST, entry_of};
 
 // The rows from which and up to which arcs reach.
-#[derive(Drop)]
+#[derive(Clone, Copy)]
 pub struct Span {
     pub first: u16,
     pub last: u16,

@@ -32,7 +32,7 @@ const NO_FIELD: u8 = 0;
 const CORE_TYPE: u32 = 4;
 
 // How far step B of a scope has come.
-#[derive(Drop)]
+#[derive(Clone, Copy)]
 pub struct PlanState {
     // The row of the next field.
     pub at: usize,
@@ -52,7 +52,7 @@ pub struct PlanState {
     pub early: bool,
 }
 
-#[derive(Drop)]
+#[derive(Clone, Copy)]
 pub enum Planned {
     Done(PlanState),
     // The refusal, and what it tells.
@@ -60,7 +60,7 @@ pub enum Planned {
 }
 
 // A REF row, and its number among the input's rows.
-#[derive(Drop)]
+#[derive(Clone, Copy)]
 pub struct Reference {
     pub space: u32,
     pub at: Index,

@@ -1,5 +1,7 @@
 // The root of a resolved form as what lies around another form: its declarations, inserted ones too, are entered in a table with
 // their numbers. Table and index are lent by whoever has them.
+#![tactic(auto)]
+
 ghost use Rattle.std.specs.Prelude.{◌≡◌, ◌+◌, ◌/◌, ◌≤◌, ◌<◌, length};
 ghost use Rattle.kit.specs.Out.{◌&◌};
 ghost use Rattle.parts.specs.PartsAt.{parts_at};
@@ -52,7 +54,7 @@ fn enter_row(
 }
 
 // Where the rows are gone through: how many scopes are open, and how many slots are used.
-#[derive(Drop)]
+#[derive(Clone, Copy)]
 pub struct Cursor {
     pub depth: usize,
     pub used: usize,

@@ -1,4 +1,6 @@
 // How far the rows of a form are read, and what a row leads to from there.
+#![tactic(auto)]
+
 ghost use Rattle.std.specs.Prelude.{◌≡◌, get_or};
 ghost use Rattle.kit.specs.Out.{◌&◌};
 ghost use Rattle.rules.specs.Shapes as rules;
@@ -38,7 +40,7 @@ const WRONG: usize = 6;
 pub const DEEP: usize = 7;
 
 // The field at hand.
-#[derive(Drop)]
+#[derive(Clone, Copy)]
 pub struct Field {
     // Which field it is.
     pub code: usize,
@@ -51,7 +53,7 @@ pub struct Field {
 }
 
 // How far the rows are read. All are whole words, so that they stay in registers.
-#[derive(Drop)]
+#[derive(Clone, Copy)]
 pub struct ReadState {
     // How many scopes are open.
     pub depth: usize,

@@ -1,5 +1,7 @@
 // What a reference on the rows of a form means: outward where it is a walked name, by counting where it is a number, or looked up in one
 // scope. It takes any bytes. Whoever has the tables of a form lends them, and whoever has none lends nothing.
+#![tactic(auto)]
+
 ghost use Rattle.std.specs.Prelude.{◌≡◌};
 ghost use Rattle.scopes.specs.Tables.{Known};
 ghost use Rattle.readings.specs.Meaning.{reading_of, is_outward, meant, outward_for, through_outer, meaning_of, final_meaning};
@@ -11,7 +13,7 @@ use scopes::tables::scope_at;
 use scopes::{Found, Key, Outer, Wanted, find_with, scope_outward_with};
 
 // The DECL row that is meant, its number in its scope, how many scopes out that is, and its name.
-#[derive(Drop)]
+#[derive(Clone, Copy)]
 pub enum Meaning {
     At {
         row: u16,
@@ -23,7 +25,7 @@ pub enum Meaning {
 }
 
 // How the operand of a row is read.
-#[derive(Drop)]
+#[derive(Clone, Copy)]
 pub enum Reading {
     // Outward, scope by scope.
     Outward,

@@ -1,5 +1,7 @@
 // A refusal: document 01's number, and the place that it gives with it.
-#[derive(Drop)]
+#![tactic(auto)]
+
+#[derive(Clone, Copy)]
 pub struct Refusal {
     pub number: u32,
     pub place: u32,
@@ -7,7 +9,7 @@ pub struct Refusal {
 
 // What a refusal of the steps tells besides: the space of the name (6, 8 and 9), and the place of its first declaration (6); else
 // 0.
-#[derive(Drop)]
+#[derive(Clone, Copy)]
 pub struct Told {
     pub space: u32,
     pub first: u32,

@@ -1,1 +1,3 @@
 // A form whose names have gone through a mapping, and what the rules answer for it. It has no code.
+#![tactic(auto)]
+

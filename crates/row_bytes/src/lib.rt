@@ -1,4 +1,6 @@
 // The parts of the rows of a form, by the bytes in which they stand. What lies past the end is 0, so that any bytes can be looked at.
+#![tactic(auto)]
+
 ghost use Rattle.std.specs.Prelude.{◌≡◌, ◌<◌};
 ghost use Rattle.row_bytes.specs.Parts.{start_of, code_at, b_at, e_at, x_at, y_at, z_at};
 

@@ -1,4 +1,6 @@
 // The code of a row, without taking it apart.
+#![tactic(auto)]
+
 ghost use Rattle.std.specs.Prelude.{◌≡◌};
 ghost use Rattle.row_code.specs.Code.{code_at};
 

@@ -1,4 +1,6 @@
 // What the header of a form says, and how many rows there are.
+#![tactic(auto)]
+
 ghost use Rattle.std.specs.Prelude.{◌≡◌};
 ghost use Rattle.parts.specs.PartsAt.{two};
 ghost use Rattle.row_count.specs.Count.{has_header, rows_in, is_whole};

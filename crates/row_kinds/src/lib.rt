@@ -1,4 +1,6 @@
 // Single rows of a form: which are inserted DECLs, which refer to something, the row behind one; and how rows are counted.
+#![tactic(auto)]
+
 ghost use Rattle.std.specs.Prelude.{◌≡◌, ◌+◌, ◌≤◌};
 ghost use Rattle.row_kinds.specs.Kinds.{is_inserted, is_reference, next_of, count_on};
 

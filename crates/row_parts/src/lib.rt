@@ -1,5 +1,7 @@
 // The rows of a form, read with guards: what lies past the end is 0, so that any bytes can be looked at. What is asked of single rows and of
 // the header stands in crates below, and is passed on here; fields are here.
+#![tactic(auto)]
+
 ghost use Rattle.std.specs.Prelude.{◌≡◌};
 ghost use Rattle.row_parts.specs.Parts.{field_of, is_typed, is_ascribed, inserted_in};
 

@@ -58,7 +58,7 @@ fn is_all(slot: Slot, number: u32) -> bool {
 }
 
 // How many slots, links and numbers of three areas are cleared.
-#[derive(Drop)]
+#[derive(Clone, Copy)]
 struct Cleared {
     slots: usize,
     links: usize,

@@ -1,6 +1,8 @@
 // The scope of a row and the number of a declaration, found by going through the rows.
 //
 // A scope is known by its first row, the one behind its OPEN. The rows outside every OPEN have 0 for theirs.
+#![tactic(auto)]
+
 ghost use Rattle.std.specs.Prelude.{◌≡◌, ◌&&◌, ◌+◌, ◌-◌, ◌<◌, ◌≤◌, eqb};
 ghost use Rattle.scope_rows.specs.Levels.{level_on, level_above, scope_of, declares, number_of};
 

@@ -2,6 +2,8 @@
 // which number a declaration, is in `scope_rows`.
 //
 // A scope is known by its first row, the one behind its OPEN. The rows outside every OPEN have 0 for theirs.
+#![tactic(auto)]
+
 mod lookup;
 pub mod tables;
 
@@ -15,7 +17,7 @@ use scope_rows::{declares, is_bound};
 pub use scope_rows::{level_behind, number_of, scope_of};
 
 // What a declaration is looked for by.
-#[derive(Drop)]
+#[derive(Clone, Copy)]
 pub enum Key {
     Name(u32),
     Number(u32),
@@ -24,14 +26,14 @@ pub enum Key {
 }
 
 // The DECL row of a declaration, and its number.
-#[derive(Drop)]
+#[derive(Clone, Copy)]
 pub enum Found {
     At { row: u16, number: u32 },
     Nothing,
 }
 
 // Which scope is looked for, going outward.
-#[derive(Drop)]
+#[derive(Clone, Copy)]
 pub enum Wanted {
     // The one this many scopes out.
     Out(u32),
@@ -42,7 +44,7 @@ pub enum Wanted {
 }
 
 // A scope, and how many scopes out it is.
-#[derive(Drop)]
+#[derive(Clone, Copy)]
 pub enum Outer {
     At { scope: u16, out: u32 },
     Nowhere,

@@ -3,6 +3,8 @@
 // The resolver's own run gives every refusal. Where it accepts, the steps are run once more, on rows in which each later reference to
 // an outer declaration names the alias that the first one will get. What comes of that is held against the conditions on another
 // assembler's output before it is answered. That they never refuse it is proved.
+#![tactic(auto)]
+
 ghost use Rattle.std.specs.Prelude.{◌≡◌, ◌+◌, ◌*◌, ◌≤◌, length, take};
 ghost use Rattle.kit.specs.Out.{◌&◌};
 ghost use Rattle.rules.specs.Versions.{base};
@@ -150,7 +152,7 @@ fn settle(form: &[u8], out: &mut [u8], table: &mut [Slot], index: &mut [u16]) ->
 }
 
 // What the resolver answers: the number of its refusal, 0 of none.
-#[derive(Drop)]
+#[derive(Clone, Copy)]
 pub struct Own {
     pub number: u32,
     pub answer: Answer,

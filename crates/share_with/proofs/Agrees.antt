@@ -101,7 +101,7 @@ module _ (by : Setting) (able : Able by) (input old : List ℕ) (bs : Bytes inpu
         let M = one.marks by able input old bs own e (take (slots_for v) ends) part (take (slots_for v) entered) (omega arith) (omega arith) part_long in
         let size = M.size in
         let rooms : Rooms v noted M.table (take (slots_for v) names) = record { ends = omega arith; entered = omega arith; names = omega arith; entered_narrow = omega arith; names_narrow = omega arith } in
-        one.answers-shared by able input old bs own e noted M.table (take (slots_for v) names) rooms a l (rows_bytes (flatten (mark (one.tree by able input old bs own e).0))) refl
+        one.answers_shared by able input old bs own e noted M.table (take (slots_for v) names) rooms a l (rows_bytes (flatten (mark (one.tree by able input old bs own e).0))) refl
         (p ∙ rw M.answer)
 
 -- ---- under each setting in force
@@ -133,7 +133,7 @@ module _ (i : ℕ) (input : List ℕ) (asks : setting i ≡ asked input) where
     where
       go : (a : rules.Answer) → answer all input 0 ≡ a → ruled (answer all input 0) ≡ ruled (shared all input 0)
       go (refused n z c) q = ap ruled (q ∙ sym (shared_refuses all input 0 n z c q))
-      go (accepted rs) q = one.none-accepted (setting i) (able_at i) input rs (ap (λ (s : Setting). answer (s ∷ []) input 0) asks ∙ (sym (answer_asked input 0) ∙ q))
+      go (accepted rs) q = one.none_accepted (setting i) (able_at i) input rs (ap (λ (s : Setting). answer (s ∷ []) input 0) asks ∙ (sym (answer_asked input 0) ∙ q))
 
   module _ (now : List ℕ) (R : Resolved all input now) where
     resolved : Resolved (setting i ∷ []) input now
@@ -169,4 +169,4 @@ module _ (i : ℕ) (input : List ℕ) (asks : setting i ≡ asked input) where
         unfolding resolved check_with if◌then◌else◌
         refused_never slots links lent hs hl fits rows claim y r c f e =
             let w : check_answer all input claim slots links ≡ check_answer (setting i ∷ []) input claim slots links = unfold check_answer in rw (setting_asked input, asks) in
-            one.never-refused (setting i) (able_at i) input R.old bs R.own resolved.accepts a l shares.0 shares.1 slots links hs hl rows claim y r c (f ∙ (rw (fits, w))) e
+            one.never_refused (setting i) (able_at i) input R.old bs R.own resolved.accepts a l shares.0 shares.1 slots links hs hl rows claim y r c (f ∙ (rw (fits, w))) e

@@ -195,14 +195,14 @@ module _ (i : ℕ) (form : List ℕ) (bytes slots links : ℕ) (e n : List Slot)
 
   module _ (now : List ℕ) (R : Resolved all form now) (each : (j : ℕ) → Fits w8 (get_or form j 0)) where
     pub left_roomy : Roomy (setting i) form now
-    left_roomy = agrees.left-roomy i form F.asks now R (all_bytes form each)
+    left_roomy = agrees.left_roomy i form F.asks now R (all_bytes form each)
 
     module _ (marked : List ℕ) (b : bytes ≡ length marked) (a : Answer) (l : List ℕ) (p : (a & l) ≡ propose_with (setting i) form now marked m e n) where
       large : bytes_for (setting i).version ≤ length marked
       large = omega (arith, F.bytes_large, b)
 
       pub shares_with : (meaning a ≡ ruled (shared all form (length R.old))) × (l ≡ shared_output all form R.old)
-      shares_with = agrees.shares-served i form F.asks now R (all_bytes form each) marked m e n large fit_large.ends fit_large.entered fit_large.names a l p
+      shares_with = agrees.shares_served i form F.asks now R (all_bytes form each) marked m e n large fit_large.ends fit_large.entered fit_large.names a l p
 
       -- in areas as long as these
       pub never : (marked₁ : List ℕ) (e₁ n₁ : List Slot) (k₁ c₁ m₁ : List ℕ)
@@ -210,7 +210,7 @@ module _ (i : ℕ) (form : List ℕ) (bytes slots links : ℕ) (e n : List Slot)
           → (rows : ℕ) (claim : List ℕ) (y : Bool) → rows ≡ (meaning a).plain.place → claim ≡ take ((setting i).version.header + 16 * rows) l → y ≡ is_yes (check_with form claim slots links (lent_of e₁ n₁ k₁ c₁ m₁)) → y ≡ false → ⊥
       never marked₁ e₁ n₁ k₁ c₁ m₁ K rows claim y r q f z =
           let still : roomy (asked form).version (lent_of e₁ n₁ k₁ c₁ m₁) ≡ true = rw (K.1.long, K.2.long, K.3.long, K.4.long, K.5.long) F.lent_large in
-          agrees.refused-never i form F.asks now R (all_bytes form each) marked m e n large fit_large.ends fit_large.entered fit_large.names a l p slots links (lent_of e₁ n₁ k₁ c₁ m₁) F.slots_large F.links_large still rows claim y r q f z
+          agrees.refused_never i form F.asks now R (all_bytes form each) marked m e n large fit_large.ends fit_large.entered fit_large.names a l p slots links (lent_of e₁ n₁ k₁ c₁ m₁) F.slots_large F.links_large still rows claim y r q f z
 
 pub marked_left : (size : ℕ) (marked marked₁ marked₂ : List ℕ) → Kept size marked marked₁ → marked₂ ≡ cleared 0 size marked₁ → marked₂ ≡ cleared 0 size marked
 marked_left size marked marked₁ marked₂ K q = kept_cleared size 0 marked marked₁ marked₂ K q
@@ -308,7 +308,7 @@ module _ (form : List ℕ) (i : ℕ) (asks : setting i ≡ asked form) (bytes sl
     unfolding shared_with resolved.answer_with if◌then◌else◌
     small_answers old r m =
         let q : meaning r ≡ ruled (answer all form 0) = m ∙ ap (λ (n : ℕ). ruled (answer all form n)) (no_room (roomy (asked form).version lent)) in
-        rw too_small_lem (q ∙ agrees.none-shared i form asks)
+        rw too_small_lem (q ∙ agrees.none_shared i form asks)
 
     none_left : (l : List ℕ) → length l ≡ 0 → l ≡ []
     none_left [] e = refl

@@ -2,6 +2,8 @@
 //
 // As for version 1: the resolver's own run gives every refusal, the steps are run once more on the marked rows, and what comes of
 // that is held against the conditions on another assembler's output before it is answered. The marked rows are lent too.
+#![tactic(auto)]
+
 ghost use Rattle.std.specs.Prelude.{◌≡◌, true, ◌||◌, not, ◌≤◌, ltb, length};
 ghost use Rattle.kit.specs.Out.{◌&◌};
 ghost use Rattle.clearing.specs.Cleared.{cleared};

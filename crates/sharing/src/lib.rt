@@ -1,1 +1,3 @@
 // References that share one inserted alias: rules and laws. It has no code.
+#![tactic(auto)]
+

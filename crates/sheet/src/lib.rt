@@ -2,6 +2,8 @@
 //
 // Only the very bytes that document 01 writes for the input are its resolved form. So the input is resolved once more, in a working area
 // that is lent, and compared; the slots are then answered on the rows of the resolved form.
+#![tactic(auto)]
+
 ghost use Rattle.std.specs.Prelude.{◌≡◌, ◌*◌, ◌/◌, ◌≤◌, length, take, replicate};
 ghost use Rattle.rules.specs.Versions.{base};
 ghost use Rattle.rules.specs.Answer.{same_numbers, output};
@@ -23,7 +25,7 @@ pub const AREA: usize = 65480;
 // Refusal 15: no sheet, or not an accepted input and its resolved form.
 pub const NOT_ITS_SHEET: u32 = 15;
 
-#[derive(Drop)]
+#[derive(Clone, Copy)]
 pub enum Answer {
     // How many slots are not bound as written.
     Answered(usize),

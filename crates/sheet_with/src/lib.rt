@@ -1,4 +1,6 @@
 // A binding sheet held against an input and its resolved form of any version that is in force: in working areas that are lent.
+#![tactic(auto)]
+
 ghost use Rattle.std.specs.Prelude.{◌≡◌, true, ◌≤◌, length, replicate};
 ghost use Rattle.kit.specs.Out.{◌&◌};
 ghost use Rattle.limits.specs.Held.{setting};

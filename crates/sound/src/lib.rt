@@ -1,4 +1,6 @@
 // Whether six parts are those of a row: what each of the nine kinds is to be. Names reach to `top`.
+#![tactic(auto)]
+
 ghost use Rattle.std.specs.Prelude.{◌≡◌};
 ghost use Rattle.sound.specs.Sound.{is_index, is_lone, is_field, is_decl, is_ref, is_outer, is_case, is_open, is_close, is_sound};
 

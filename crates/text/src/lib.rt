@@ -1,5 +1,7 @@
 // A text of rows, which can be edited, turned into the form that it spells: each line is a row, `[code b e x y z]`, or a comment, or
 // blank.
+#![tactic(auto)]
+
 pub mod lines;
 mod numbers;
 mod store;
@@ -17,7 +19,7 @@ use fixed::{HEADER, bytes_of};
 pub const MOST: u32 = 4092;
 
 // A form, with the number of its rows; or the first line that is wrong, and why.
-#[derive(Drop)]
+#[derive(Clone, Copy)]
 pub enum Parsed {
     Rows(u32),
     Wrong { line: usize, why: Why },

@@ -6,7 +6,7 @@ use crate::numbers::number_behind;
 use parts::Parts;
 
 // What is wrong with a line, or with the text.
-#[derive(Drop)]
+#[derive(Clone, Copy)]
 pub enum Why {
     NoRow,
     Second,
@@ -21,7 +21,7 @@ pub enum Why {
 }
 
 // A blank line or a comment; a row; or neither.
-#[derive(Drop)]
+#[derive(Clone, Copy)]
 pub(crate) enum Line {
     Nothing,
     Row(Parts),

@@ -7,7 +7,7 @@ ghost use Rattle.text.specs.Numbers.{is_digit, with_digit, digits_from, number_i
 const LARGE: u64 = 4294967296;
 
 // A number, and the place in its line behind it.
-#[derive(Drop)]
+#[derive(Clone, Copy)]
 pub(crate) struct Found {
     pub value: u64,
     pub end: usize,

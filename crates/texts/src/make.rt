@@ -10,7 +10,7 @@ use text::{Parsed, parse};
 use words::say;
 
 // A form of this many rows; or none, and a sentence has said in which line of the text that lies.
-#[derive(Drop)]
+#[derive(Clone, Copy)]
 pub enum Made {
     Form(u32),
     Nothing,

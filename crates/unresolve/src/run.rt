@@ -68,7 +68,7 @@ fn resolves_to(input: &[u8], claim: &[u8], again: &mut [u8]) -> bool
     begins_with(again, claim)
 }
 
-#[derive(Drop)]
+#[derive(Clone, Copy)]
 pub enum Back {
     // No input has these bytes as its output.
     Nothing,

@@ -1,4 +1,6 @@
 // Gives an input form back for a resolved form of any version that is in force: in working areas that are lent.
+#![tactic(auto)]
+
 ghost use Rattle.std.specs.Prelude.{◌≡◌, ◌||◌, not, ◌*◌, ◌≤◌, ◌<◌, ltb, length, take, drop, set, replicate};
 ghost use Rattle.kit.specs.Out.{◌&◌};
 ghost use Rattle.rules.specs.Answer.{same_numbers, output};

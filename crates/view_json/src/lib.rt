@@ -1,4 +1,6 @@
 // Rows of a form as objects of JSON, a line each, and what a form is as one more.
+#![tactic(auto)]
+
 ghost use Rattle.std.specs.Prelude.{◌≡◌, ◌||◌};
 ghost use Rattle.view.specs.Shown.{is_there, any_there};
 

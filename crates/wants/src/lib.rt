@@ -1,4 +1,6 @@
 // The table of what a field still wants after a row. It stands alone, since antt computes each of its 2,747 entries.
+#![tactic(auto)]
+
 ghost use Rattle.wants.specs.States.{Right};
 
 // What is left, by what was wanted (from NOTHING on) and the row's column.

@@ -11,7 +11,7 @@ use limits::{Limits, of_claim, of_input};
 const SETTINGS: usize = 3;
 
 // What the header asks for.
-#[derive(Drop)]
+#[derive(Clone, Copy)]
 pub enum Asked {
     // The setting at this place in the list of all, and how many rows the header counts; the bytes have just as many.
     For { setting: usize, rows: usize },

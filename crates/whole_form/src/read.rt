@@ -11,7 +11,7 @@ use limits::{Limits, of_claim, of_input};
 use reader::{RowsRead, read_to};
 use refusal::{BROKEN, DEEP, NOT_A_FORM, ROW_COUNT, Refusal};
 
-#[derive(Drop)]
+#[derive(Clone, Copy)]
 pub enum Form {
     // A form, with this number of rows.
     Whole(usize),

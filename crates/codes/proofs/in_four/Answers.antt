@@ -1,0 +1,6 @@
+-- `codes::in_four` meets its contract.
+use mathlib.Core.Bool.{or-false}
+use Rattle.codes.proofs.in_four.Goals as goal
+
+pub returns : goal.returns
+returns c = simp or-false

@@ -1,0 +1,6 @@
+-- `codes::in_six` meets its contract.
+use mathlib.Core.Bool.{or-false}
+use Rattle.codes.proofs.in_six.Goals as goal
+
+pub returns : goal.returns
+returns c = simp or-false

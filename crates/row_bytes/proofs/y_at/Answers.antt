@@ -1,0 +1,6 @@
+-- `row_bytes::y_at` meets its contract.
+use Rattle.row_bytes.proofs.PartLaws.{part_ways}
+use Rattle.row_bytes.proofs.y_at.Goals as goal
+
+pub returns : goal.returns
+returns c = search part_ways
