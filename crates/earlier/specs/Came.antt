@@ -236,6 +236,7 @@ unfolding resolve_inserted
 instance_passed here outside {x} from name z (x₀ ∷ hs) first on =
     bind_eq _ _ _ (λ u e. bind_ok _ _ _ _ (resolved_on here outside x from name z on) (λ x' N. bind_any _ _ _ (λ hs'. record { number = N.0; timely = in_time_lem _ x.z u e; found = N.1 })))
 instance_passed here outside from name z (y ∷ hs) (behind p) on = bind_any _ _ _ (λ u. bind_any _ _ _ (λ y'. bind_ok _ _ _ _ (instance_passed here outside from name z hs p on) (λ hs' I. I)))
+instance_passed here outside {x = x} from name z [] x3 on = elim x3 [ ]
 
 -- ---- an OUTER is resolved
 

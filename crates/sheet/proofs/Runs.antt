@@ -77,7 +77,7 @@ module _ (settings : List Setting) (usual : AllUsual settings) (within : AllWith
       let B = begins settings form o v T.after T.asked_for T.forms in
       let bytes_are_lem : run.bytes ≡ form_bytes v rs = M.bytes ∙ ap (λ (u : Setting). form_bytes u rs) same in
       let size : length run.bytes ≡ head + 16 * length rs = ap length bytes_are_lem ∙ (form_long v rs T.usual.header ∙ ap (λ (n : ℕ). n + 16 * length rs) (sym (heads v T.asked_for))) in
-      let out : output settings form o ≡ run.bytes ++ B.0 = B.1 ∙ ap (λ (x : List ℕ). x ++ B.0) (ap (form_bytes v) T.of_Tree ∙ sym bytes_are_lem) in
+      let out : output settings form o ≡ run.bytes ++ B.0 = B.1 ∙ ap (λ (x : List ℕ). x ++ B.0) (ap (form_bytes v) T.of_tree ∙ sym bytes_are_lem) in
       record {
         some_rows = subst (λ (l : List Row). 1 ≤ length l) M.rows (open_first run.after);
         size = size;

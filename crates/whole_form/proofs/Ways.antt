@@ -162,7 +162,7 @@ module _ (l : Limits) (input : List ℕ) where
   unfolding read_t answer_of as_answer form_of
   reading_is rows rs n h (tree.bad p) w = let k : p % 4294967296 ≡ p = omega (arith, w.in_range) in rw k
   reading_is rows rs n h (tree.deep p) w = let k : p % 4294967296 ≡ p = omega (arith, w.in_range) in rw k
-  reading_is rows rs n h (tree.form t) w = ap Whole (sym n ∙ ap length (sym w.0.of_Tree) ∙ length-map (flatten t) some)
+  reading_is rows rs n h (tree.form t) w = ap Whole (sym n ∙ ap length (sym w.0.of_tree) ∙ length-map (flatten t) some)
 
   body_is : (rows : ℕ) → Headed (setting_in l) input rows → l.rows ≤ 4294967295 → body_t l rows input ≡ form_of (as_answer (read (setting_in l).rules (setting_in l).version.scopes (rows_in (setting_in l) input)))
   unfolding body_t read_to setting_in

@@ -112,6 +112,7 @@ same_first (i ▸ cs) (w ▸ fs) n space name (both e s b) a l low =
       Lookups.first_append (in_original n 0 (head_of w).decls) (standings (suc n) fs) space name,
       same_first cs fs (suc n) space name b a.2 l.2 low,
     )
+same_first end (w ▸ fs) n space name x8 a l low = elim x8 [ ]
 
 -- ---- the field of the claim at a place
 
@@ -168,6 +169,7 @@ module _ (here : Scope) (outside : List Env) where
       let R = right_both n i w₀ cs fs t e in
       let P = pick cs fs R.row f w b d.1 a.2 l.2 R.rest (rw (Lookups.originals_original w₀ fs (Lookups.low_original (head_of w₀) l.0.decls)) at g) in
       record { i = P.i; there = rw (Lookups.originals_original i cs t) P.there; same = P.same; bare = P.bare; added = P.added; row = P.row; right = P.right; low_head = P.low_head; low_item = P.low_item }
+  pick end (w₀ ▸ fs) n f w x12 d a l e g = elim x12 [ ]
 
 -- ---- a field of both
 

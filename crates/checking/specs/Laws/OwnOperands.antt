@@ -410,6 +410,8 @@ module _ {fs : Fields} {outside : Outside} {here : Env} {out' : Fields} (E : Clo
         let X = ones here there fz seen e.now es.now os' q in
         subst (λ (x : List Operand). not_right c beyond n x (w ∷ ws) ≡ none) X.are
         (right_next n X.now w X.rest ws (f (all_left e.inserted es.inserted a) X.now X.first) (g (all_right e.inserted es.inserted a) X.seen X.rest (suc n) X.others))))
+    operands_right fz k [] (o ∷ os) x4 t = elim x4 [ ]
+    operands_right fz k (w ∷ ws) [] x4 t = elim x4 [ ]
 
     head_operands_lem : (fz n : ℕ) (h h₀ : Head) → not_right c beyond (suc n + length h.decls) h.operands h₀.operands ≡ none → head_operands c beyond n h h₀ ≡ none
     unfolding head_operands

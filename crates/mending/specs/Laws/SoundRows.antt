@@ -353,3 +353,5 @@ rows_stay names depth (suc n) bs (r ∷ rs) a l e (f & fs) (more x y) =
     let code = row_code_lem names bs r (first_row_lem e) in
     all_append (row_pieces (take 16 bs)) _ (row_stays names bs r a f (first_row_lem e))
     (rw (code, x) (rows_stay names (depth_after (code_of r) depth) n (drop 16 bs) rs (bytes_drop 16 bs a) (omega (arith, length-drop 16 bs)) (later_rows e) fs y))
+rows_stay names depth zero bs [] a l e f x = elim x [ ]
+rows_stay names depth (suc n) bs [] a l e f x = elim x [ ]

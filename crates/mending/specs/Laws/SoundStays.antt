@@ -128,7 +128,7 @@ module _ (s : Setting) (input : List ℕ) (t : Scope) (h : 6 + s.version.countin
       let F = ((read_right s.rules s.version.scopes (rows_in s input) (form t)).0 S.reads).0 in
       let whole : length (drop s.version.header input) / 16 ≡ rows = omega (arith, behind) in
       subst (λ (n : ℕ). All Stays (all_rows 0 n (drop s.version.header input))) (sym whole)
-      (rows_stay s.version.names 0 rows (drop s.version.header input) (flatten t) (bytes_drop s.version.header input a) behind (sym F.of_Tree) (scope_field s.rules t F.good) (form_ends t))
+      (rows_stay s.version.names 0 rows (drop s.version.header input) (flatten t) (bytes_drop s.version.header input a) behind (sym F.of_tree) (scope_field s.rules t F.good) (form_ends t))
 
   form_stays : All Stays (form_pieces s input)
   unfolding form_pieces

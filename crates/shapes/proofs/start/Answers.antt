@@ -44,25 +44,25 @@ pub returns-in-13 : goal.returns-in-13
 returns-in-13 c = by_start _ _ _ 13 1 _ refl (unfold left_of states pick parts_by if◌then◌else◌ in refl) (omega arith) (omega arith)
 
 pub returns-in-16 : goal.returns-in-16
-returns-in-16 c = by_start _ _ _ 16 1 _ c.resource-of.ensures (unfold parts_by in refl) (omega arith) (omega arith)
+returns-in-16 c = by_start _ _ _ 16 1 _ c.resource_of.ensures (unfold parts_by in refl) (omega arith) (omega arith)
 
 pub returns-in-18 : goal.returns-in-18
 returns-in-18 c = by_start _ _ _ 18 1 _ refl (unfold left_of states pick parts_by if◌then◌else◌ in refl) (omega arith) (omega arith)
 
 pub returns-in-19 : goal.returns-in-19
-returns-in-19 c = by_start _ _ _ 19 1 _ c.builtin-of.ensures (unfold parts_by in refl) (omega arith) (omega arith)
+returns-in-19 c = by_start _ _ _ 19 1 _ c.builtin_of.ensures (unfold parts_by in refl) (omega arith) (omega arith)
 
 pub returns-in-20 : goal.returns-in-20
 returns-in-20 c = by_start _ _ _ 20 1 _ refl (unfold left_of states pick parts_by if◌then◌else◌ in refl) (omega arith) (omega arith)
 
 pub returns-in-21 : goal.returns-in-21
-returns-in-21 c = signature_start _ _ _ _ _ (inl (cc)) c.signature-of.ensures
+returns-in-21 c = signature_start _ _ _ _ _ (inl (cc)) c.signature_of.ensures
 
 pub returns-in-22 : goal.returns-in-22
-returns-in-22 c = by_start _ _ _ 22 1 _ c.export-of.ensures (unfold parts_by in refl) (omega arith) (omega arith)
+returns-in-22 c = by_start _ _ _ 22 1 _ c.export_of.ensures (unfold parts_by in refl) (omega arith) (omega arith)
 
 pub returns-in-23 : goal.returns-in-23
-returns-in-23 c = signature_start _ _ _ _ _ (inr (cc)) c.signature-of2.ensures
+returns-in-23 c = signature_start _ _ _ _ _ (inr (cc)) c.signature_of-in-23.ensures
 
 pub returns-in-24 : goal.returns-in-24
 returns-in-24 c = by_start _ _ _ 24 1 _ refl (unfold left_of states pick parts_by if◌then◌else◌ in refl) (omega arith) (omega arith)

@@ -146,6 +146,8 @@ module _ (Q : ℕ → Type 0) (ds : List Declaration) (here : Env) (outside : Ou
       ap (λ (l : List Operand). restored (table_of here) (tables outside) l (groups (table_of here) (tables outside) hs)) T.are ∙ B.is in
       subst (Ascribed t) (sym is)
       (two_again t T.o T.o' B.x B.x' (subst (Ascribed t) T.are A) (subst (AllCame (T.o ∷ (T.o' ∷ []))) is (subst (λ (l : List Operand). AllCame l xs) T.are c)) B.bare)
+  ascribed_restored t [] os hs x4 A L c = elim x4 [ ]
+  ascribed_restored t (a ∷ (a' ∷ (_ ∷ _))) os hs x17 A L c = elim x17 [ ]
 
 -- ---- the rows
 

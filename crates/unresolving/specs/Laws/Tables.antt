@@ -389,3 +389,5 @@ ascribed_fits s (o ∷ (o' ∷ [])) (pair f g) = rw (after_is (typed s ∷ []) o
   where
     go : (c : Bool) → (left : List Part) × ((after_operand ((if c then opt (r (s ∷ [])) else one (r (s ∷ []))) ∷ []) o' then λ q. some q) ≡ some left) × (complete left ≡ true)
     go c = rw (after_is ((if c then opt (r (s ∷ [])) else one (r (s ∷ []))) ∷ []) o', either_last s c o', g) ([], refl, refl)
+ascribed_fits s [] x' = elim x' [ ]
+ascribed_fits s (o ∷ (o' ∷ (_ ∷ _))) x8 = elim x8 [ ]
