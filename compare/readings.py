@@ -1,7 +1,7 @@
 #!/usr/bin/env python3
 """Holds what `wnt show` says of every reference to a second reading of the same rows, written from docs/RULES.md; and what a walked
 name of an input means to what its number means in the output. The forms are those that `compare --samples FOLDER` writes. From the
-repository's root, after `rt check wnt`:
+repository's root, after `rt run -- --version` in crates/wnt:
 
     python3 compare/readings.py FOLDER"""
 import glob

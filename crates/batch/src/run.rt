@@ -80,8 +80,8 @@ pub fn batch_in(
     ends: &mut [u32],
 ) -> u64
     requires { SuitsIf i (length resolved.old) entered.old names.old known.old chains.old ends.old }
-    ensures value { result ≡ batch_call (setting i ∷ []) false prelude.entry.now members.now lengths.now (record { prelude = resolved.old; outs = outs.old; answers = answers.old }) }
-    ensures answers_after { record { prelude = resolved.new; outs = outs.new; answers = answers.new } ≡ batch_leaves (setting i ∷ []) false prelude.entry.now members.now lengths.now (record { prelude = resolved.old; outs = outs.old; answers = answers.old }) }
+    ensures value { result ≡ batch_call (setting i ∷ []) false prelude.now members.now lengths.now (record { prelude = resolved.old; outs = outs.old; answers = answers.old }) }
+    ensures answers_after { record { prelude = resolved.new; outs = outs.new; answers = answers.new } ≡ batch_leaves (setting i ∷ []) false prelude.now members.now lengths.now (record { prelude = resolved.old; outs = outs.old; answers = answers.old }) }
     ensures same { Same entered.old entered.new names.old names.new known.old known.new chains.old chains.new ends.old ends.new }
 {
     if are_bad(lengths, members) {
@@ -105,8 +105,8 @@ pub fn batch(
     outs: &mut [u8],
     answers: &mut [u8],
 ) -> u64
-    ensures value { result ≡ batch_call base false prelude.entry.now members.now lengths.now (record { prelude = resolved.old; outs = outs.old; answers = answers.old }) }
-    ensures answers_after { record { prelude = resolved.new; outs = outs.new; answers = answers.new } ≡ batch_leaves base false prelude.entry.now members.now lengths.now (record { prelude = resolved.old; outs = outs.old; answers = answers.old }) }
+    ensures value { result ≡ batch_call base false prelude.now members.now lengths.now (record { prelude = resolved.old; outs = outs.old; answers = answers.old }) }
+    ensures answers_after { record { prelude = resolved.new; outs = outs.new; answers = answers.new } ≡ batch_leaves base false prelude.now members.now lengths.now (record { prelude = resolved.old; outs = outs.old; answers = answers.old }) }
 {
     let mut entered: [Slot; 1024] = [[0u32; 6]; 1024];
     let mut names: [Slot; 2048] = [[0u32; 6]; 2048];

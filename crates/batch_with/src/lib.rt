@@ -31,8 +31,8 @@ fn run_lent(
     ends: &mut [u32],
 ) -> u64
     requires { Large i (length resolved.old) (lent_of entered.old names.old known.old chains.old ends.old) }
-    ensures value { result ≡ batch_call (setting i ∷ []) false prelude.entry.now members.now lengths.now (record { prelude = resolved.old; outs = outs.old; answers = answers.old }) }
-    ensures answers_after { record { prelude = resolved.new; outs = outs.new; answers = answers.new } ≡ batch_leaves (setting i ∷ []) false prelude.entry.now members.now lengths.now (record { prelude = resolved.old; outs = outs.old; answers = answers.old }) }
+    ensures value { result ≡ batch_call (setting i ∷ []) false prelude.now members.now lengths.now (record { prelude = resolved.old; outs = outs.old; answers = answers.old }) }
+    ensures answers_after { record { prelude = resolved.new; outs = outs.new; answers = answers.new } ≡ batch_leaves (setting i ∷ []) false prelude.now members.now lengths.now (record { prelude = resolved.old; outs = outs.old; answers = answers.old }) }
     ensures tables_cleared { TablesCleared (setting i).version entered.old entered.new names.old names.new known.old known.new chains.old chains.new ends.old ends.new }
 {
     let a = least(slots_for(i), entered.len());
@@ -80,8 +80,8 @@ pub fn batch_with(
     chains: &mut [u16],
     ends: &mut [u32],
 ) -> u64
-    ensures value { result ≡ batch_call all (is_small (asked prelude.entry.now).version (lent_of entered.old names.old known.old chains.old ends.old)) prelude.entry.now members.now lengths.now (record { prelude = resolved.old; outs = outs.old; answers = answers.old }) }
-    ensures answers_after { record { prelude = resolved.new; outs = outs.new; answers = answers.new } ≡ batch_leaves all (is_small (asked prelude.entry.now).version (lent_of entered.old names.old known.old chains.old ends.old)) prelude.entry.now members.now lengths.now (record { prelude = resolved.old; outs = outs.old; answers = answers.old }) }
+    ensures value { result ≡ batch_call all (is_small (asked prelude.now).version (lent_of entered.old names.old known.old chains.old ends.old)) prelude.now members.now lengths.now (record { prelude = resolved.old; outs = outs.old; answers = answers.old }) }
+    ensures answers_after { record { prelude = resolved.new; outs = outs.new; answers = answers.new } ≡ batch_leaves all (is_small (asked prelude.now).version (lent_of entered.old names.old known.old chains.old ends.old)) prelude.now members.now lengths.now (record { prelude = resolved.old; outs = outs.old; answers = answers.old }) }
     ensures tables_cleared { TablesCleared (asked prelude.now).version entered.old entered.new names.old names.new known.old known.new chains.old chains.new ends.old ends.new }
 {
     let i = asked_for(prelude);

@@ -1,4 +1,4 @@
-// The C functions that give an input back for a resolved form.
+// The functions that give an input back for a resolved form.
 ghost use Rattle.std.specs.Prelude.{◌≡◌, length};
 ghost use Rattle.resolver_with.specs.Asked.{asked};
 ghost use Rattle.resolver_with.specs.Areas.{lent_of, Cleared};
@@ -14,21 +14,14 @@ use unresolve::run::unresolve;
 use unresolve_with::unresolve_with;
 
 // Writes an input that resolves to the form to the front of `out`. After every return the areas are zero up to their sizes.
-#[unsafe(no_mangle)]
-pub extern "C" fn wnt_unresolve(
-    form: &[u8],
-    out: &mut [u8],
-    restored: &mut [u8],
-    again: &mut [u8],
-) -> u64
+pub fn wnt_unresolve(form: &[u8], out: &mut [u8], restored: &mut [u8], again: &mut [u8]) -> u64
     ensures { (result ≡ packed (returned (back_with form.now (length out.old) (length restored.old) (length again.old))).plain) × (out.new ≡ out_with form.now out.old (length restored.old) (length again.old)) × (restored.new ≡ restored_after restored.old) × (again.new ≡ again_after again.old) }
 {
     packed_in(unresolve(form, out, restored, again))
 }
 
 // The same for every setting in force, in notes that are lent too and the areas of `wnt_resolve_with` besides.
-#[unsafe(no_mangle)]
-pub extern "C" fn wnt_unresolve_with(
+pub fn wnt_unresolve_with(
     form: &[u8],
     out: &mut [u8],
     restored: &mut [u8],

@@ -1,4 +1,4 @@
-// The C functions that hold a binding sheet against an input and its resolved form.
+// The functions that hold a binding sheet against an input and its resolved form.
 ghost use Rattle.std.specs.Prelude.{◌≡◌, length};
 ghost use Rattle.rules.specs.Versions.{base, all};
 ghost use Rattle.binding.specs.Sheet.{sheet_answer, answers_after, work_after};
@@ -24,8 +24,7 @@ fn packed_slots(answer: Answer) -> u64
 }
 
 // Answers each slot of the sheet in `answers`. After every return the working area is zero.
-#[unsafe(no_mangle)]
-pub extern "C" fn wnt_sheet(
+pub fn wnt_sheet(
     form: &[u8],
     resolved: &[u8],
     sheet: &[u8],
@@ -40,8 +39,7 @@ pub extern "C" fn wnt_sheet(
 }
 
 // The same for forms of any version. After every return all areas are zero up to the sizes of the form's version.
-#[unsafe(no_mangle)]
-pub extern "C" fn wnt_sheet_with(
+pub fn wnt_sheet_with(
     form: &[u8],
     resolved: &[u8],
     sheet: &[u8],

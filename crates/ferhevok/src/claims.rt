@@ -1,4 +1,4 @@
-// The C functions that check another assembler's output.
+// The functions that check another assembler's output.
 ghost use Rattle.std.specs.Prelude.{◌≡◌, length};
 ghost use Rattle.rules.specs.Versions.{base, all};
 ghost use Rattle.checking.specs.CheckAnswer.{check_answer, table_after, index_after};
@@ -26,16 +26,14 @@ fn packed_verdict(verdict: Verdict) -> u64
 }
 
 // Says whether `claim` is an output of the form. After every return the areas are zero up to the sizes of the form's version.
-#[unsafe(no_mangle)]
-pub extern "C" fn wnt_check(form: &[u8], claim: &[u8], table: &mut [Slot], index: &mut [u16]) -> u64
+pub fn wnt_check(form: &[u8], claim: &[u8], table: &mut [Slot], index: &mut [u16]) -> u64
     ensures { (result ≡ packed_verdict (ruled (check_answer base form.now claim.now (length table.old) (length index.old)))) × (table.new ≡ table_after base form.now table.old) × (index.new ≡ index_after base form.now index.old) }
 {
     packed_verdict(check(form, claim, table, index))
 }
 
 // The same for every setting in force, in the areas of `wnt_resolve_with` besides.
-#[unsafe(no_mangle)]
-pub extern "C" fn wnt_check_with(
+pub fn wnt_check_with(
     form: &[u8],
     claim: &[u8],
     table: &mut [Slot],

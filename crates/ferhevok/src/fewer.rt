@@ -1,4 +1,4 @@
-// The C functions that resolve a form with fewer aliases.
+// The functions that resolve a form with fewer aliases.
 ghost use Rattle.std.specs.Prelude.{◌≡◌, length};
 ghost use Rattle.rules.specs.Versions.{base, all};
 ghost use Rattle.checking.specs.CheckAnswer.{table_after, index_after};
@@ -16,13 +16,7 @@ use share::share;
 use share_with::share_with;
 
 // Resolves the form into `out` so that references in one scope share aliases. After every return the areas are zero up to their sizes.
-#[unsafe(no_mangle)]
-pub extern "C" fn wnt_share(
-    form: &[u8],
-    out: &mut [u8],
-    table: &mut [Slot],
-    index: &mut [u16],
-) -> u64
+pub fn wnt_share(form: &[u8], out: &mut [u8], table: &mut [Slot], index: &mut [u16]) -> u64
     ensures value { (result ≡ packed (ruled (shared_with form.now (length out.old) (length table.old) (length index.old))).plain) × (out.new ≡ output_with form.now out.old (length table.old) (length index.old)) }
     ensures table_after { (table.new ≡ table_after base form.now table.old) × (index.new ≡ index_after base form.now index.old) }
 {
@@ -30,8 +24,7 @@ pub extern "C" fn wnt_share(
 }
 
 // The same for every setting in force. The marked rows are lent besides the areas of the check and those of `wnt_resolve_with`.
-#[unsafe(no_mangle)]
-pub extern "C" fn wnt_share_with(
+pub fn wnt_share_with(
     form: &[u8],
     out: &mut [u8],
     marked: &mut [u8],

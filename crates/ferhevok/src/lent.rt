@@ -1,4 +1,4 @@
-// The C function that resolves a form of any version and rule set, in working areas that are lent.
+// The function that resolves a form of any version and rule set, in working areas that are lent.
 ghost use Rattle.std.specs.Prelude.{◌≡◌, length};
 ghost use Rattle.resolver.specs.Meaning.{ruled};
 ghost use Rattle.resolver_with.specs.Asked.{asked};
@@ -11,8 +11,7 @@ use names::Slot;
 use resolver_with::run::resolve_with;
 
 // Resolves the form into `out`. After every return the areas are zero up to the sizes of the form's version.
-#[unsafe(no_mangle)]
-pub extern "C" fn wnt_resolve_with(
+pub fn wnt_resolve_with(
     form: &[u8],
     out: &mut [u8],
     entered: &mut [Slot],

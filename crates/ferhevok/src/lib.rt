@@ -1,4 +1,4 @@
-// What other languages link: the library's C functions, each a thin one over a function of the crates below.
+// The library's functions, each a thin one over a function of the crates below. `ferhevok_c` exports them for other languages to link.
 #![tactic(auto)]
 
 pub mod back;
@@ -33,8 +33,7 @@ pub(crate) fn packed_in(answer: Answer) -> u64
 }
 
 // Resolves the form into `out`.
-#[unsafe(no_mangle)]
-pub extern "C" fn wnt_resolve(form: &[u8], out: &mut [u8]) -> u64
+pub fn wnt_resolve(form: &[u8], out: &mut [u8]) -> u64
     ensures { (result ≡ packed (ruled (answer base form.now (length out.old))).plain) × (out.new ≡ output base form.now out.old) }
 {
     packed_in(resolve(form, out))

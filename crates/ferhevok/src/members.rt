@@ -1,4 +1,4 @@
-// The C functions for members inside a prelude.
+// The functions for members inside a prelude.
 ghost use Rattle.std.specs.Prelude.{◌≡◌, false, ltb, length};
 ghost use Rattle.rules.specs.Versions.{base, all};
 ghost use Rattle.clearing.specs.Cleared.{cleared};
@@ -36,8 +36,7 @@ fn packed_declared(declared: Declared) -> u64
 }
 
 // Which declaration the name in a row of the member means, where the member lies inside the prelude's root.
-#[unsafe(no_mangle)]
-pub extern "C" fn wnt_meant(prelude: &[u8], member: &[u8], row: u32) -> u64
+pub fn wnt_meant(prelude: &[u8], member: &[u8], row: u32) -> u64
     ensures { result ≡ packed_declared (meant_row prelude.now member.now row) }
 {
     if LAST < row {
@@ -47,8 +46,7 @@ pub extern "C" fn wnt_meant(prelude: &[u8], member: &[u8], row: u32) -> u64
 }
 
 // Resolves one member as if its root lay inside the resolved prelude's root. `work` is where the prelude is resolved.
-#[unsafe(no_mangle)]
-pub extern "C" fn wnt_member(prelude: &[u8], member: &[u8], out: &mut [u8], work: &mut [u8]) -> u64
+pub fn wnt_member(prelude: &[u8], member: &[u8], out: &mut [u8], work: &mut [u8]) -> u64
     ensures value { result ≡ member_call base (ltb (length work.old) 65480) prelude.now 65480 member.now (length out.old) }
     ensures out_after { out.new ≡ member_leaves base (ltb (length work.old) 65480) prelude.now 65480 member.now out.old }
     ensures work_after { work.new ≡ cleared 0 65480 work.old }
@@ -58,8 +56,7 @@ pub extern "C" fn wnt_member(prelude: &[u8], member: &[u8], out: &mut [u8], work
 
 // The same of any version and rule set, in working areas that are lent. After every return all of them are zero up to the sizes of the
 // prelude's version.
-#[unsafe(no_mangle)]
-pub extern "C" fn wnt_member_with(
+pub fn wnt_member_with(
     prelude: &[u8],
     member: &[u8],
     out: &mut [u8],
@@ -81,8 +78,7 @@ pub extern "C" fn wnt_member_with(
 }
 
 // Resolves a batch: the prelude into `resolved`, and each member into its share of `outs`.
-#[unsafe(no_mangle)]
-pub extern "C" fn wnt_batch(
+pub fn wnt_batch(
     prelude: &[u8],
     members: &[u8],
     lengths: &[u32],
@@ -90,16 +86,15 @@ pub extern "C" fn wnt_batch(
     outs: &mut [u8],
     answers: &mut [u8],
 ) -> u64
-    ensures value { result ≡ batch_call base false prelude.entry.now members.now lengths.now (record { prelude = resolved.old; outs = outs.old; answers = answers.old }) }
-    ensures answers_after { record { prelude = resolved.new; outs = outs.new; answers = answers.new } ≡ batch_leaves base false prelude.entry.now members.now lengths.now (record { prelude = resolved.old; outs = outs.old; answers = answers.old }) }
+    ensures value { result ≡ batch_call base false prelude.now members.now lengths.now (record { prelude = resolved.old; outs = outs.old; answers = answers.old }) }
+    ensures answers_after { record { prelude = resolved.new; outs = outs.new; answers = answers.new } ≡ batch_leaves base false prelude.now members.now lengths.now (record { prelude = resolved.old; outs = outs.old; answers = answers.old }) }
 {
     batch(prelude, members, lengths, resolved, outs, answers)
 }
 
 // The same of any version and rule set, in tables that are lent. After every return they are zero up to the sizes of the prelude's
 // version.
-#[unsafe(no_mangle)]
-pub extern "C" fn wnt_batch_with(
+pub fn wnt_batch_with(
     prelude: &[u8],
     members: &[u8],
     lengths: &[u32],
@@ -112,8 +107,8 @@ pub extern "C" fn wnt_batch_with(
     chains: &mut [u16],
     ends: &mut [u32],
 ) -> u64
-    ensures value { result ≡ batch_call all (is_small (asked prelude.entry.now).version (lent_of entered.old names.old known.old chains.old ends.old)) prelude.entry.now members.now lengths.now (record { prelude = resolved.old; outs = outs.old; answers = answers.old }) }
-    ensures answers_after { record { prelude = resolved.new; outs = outs.new; answers = answers.new } ≡ batch_leaves all (is_small (asked prelude.entry.now).version (lent_of entered.old names.old known.old chains.old ends.old)) prelude.entry.now members.now lengths.now (record { prelude = resolved.old; outs = outs.old; answers = answers.old }) }
+    ensures value { result ≡ batch_call all (is_small (asked prelude.now).version (lent_of entered.old names.old known.old chains.old ends.old)) prelude.now members.now lengths.now (record { prelude = resolved.old; outs = outs.old; answers = answers.old }) }
+    ensures answers_after { record { prelude = resolved.new; outs = outs.new; answers = answers.new } ≡ batch_leaves all (is_small (asked prelude.now).version (lent_of entered.old names.old known.old chains.old ends.old)) prelude.now members.now lengths.now (record { prelude = resolved.old; outs = outs.old; answers = answers.old }) }
     ensures tables_cleared { TablesCleared (asked prelude.now).version entered.old entered.new names.old names.new known.old known.new chains.old chains.new ends.old ends.new }
 {
     batch_with(

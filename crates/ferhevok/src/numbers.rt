@@ -1,4 +1,4 @@
-// The C functions that list the numbers that have moved.
+// The functions that list the numbers that have moved.
 ghost use Rattle.std.specs.Prelude.{◌≡◌};
 ghost use Rattle.rules.specs.Versions.{base};
 ghost use Rattle.moving.specs.MovedAnswer.{moved_answer, rooms_of, buffers};
@@ -24,8 +24,7 @@ fn packed_lists(answer: Answer) -> u64
 }
 
 // Resolves the form into `out`, and lists its written numbers that have moved and, apart from them, those that count to nothing.
-#[unsafe(no_mangle)]
-pub extern "C" fn wnt_moved(form: &[u8], out: &mut [u8], moved: &mut [u8], apart: &mut [u8]) -> u64
+pub fn wnt_moved(form: &[u8], out: &mut [u8], moved: &mut [u8], apart: &mut [u8]) -> u64
     ensures value { result ≡ packed (ruled (moved_answer base form.now (rooms_of (held out.old moved.old apart.old)))) }
     ensures apart_after { held out.new moved.new apart.new ≡ buffers base form.now (held out.old moved.old apart.old) }
 {
@@ -33,8 +32,7 @@ pub extern "C" fn wnt_moved(form: &[u8], out: &mut [u8], moved: &mut [u8], apart
 }
 
 // The same for a form of any version. After every return the areas are zero up to the sizes of the form's version.
-#[unsafe(no_mangle)]
-pub extern "C" fn wnt_moved_with(
+pub fn wnt_moved_with(
     form: &[u8],
     out: &mut [u8],
     moved: &mut [u8],

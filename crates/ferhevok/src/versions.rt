@@ -1,4 +1,4 @@
-// The C function that converts a form from one version to another.
+// The function that converts a form from one version to another.
 ghost use Rattle.std.specs.Prelude.{◌≡◌, length};
 ghost use Rattle.rules.specs.Answer.{map_answer};
 ghost use Rattle.rules.specs.Versions.{all};
@@ -20,8 +20,7 @@ fn packed_rows(answer: Answer) -> u64
 }
 
 // Writes the form to the front of `out`, as a form of the version with this number.
-#[unsafe(no_mangle)]
-pub extern "C" fn wnt_convert(form: &[u8], version: u32, out: &mut [u8]) -> u64
+pub fn wnt_convert(form: &[u8], version: u32, out: &mut [u8]) -> u64
     ensures { (result ≡ packed_answer (map_answer (rows_said all) (converted all version form.now (length out.old)))) × (out.new ≡ converted_output all version form.now out.old) }
 {
     packed_rows(convert(form, version, out))

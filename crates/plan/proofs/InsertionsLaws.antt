@@ -25,7 +25,7 @@ use Rattle.plan.specs.declared.insertions.PlanState.{PlanState}
 use Rattle.plan.specs.declared.insertions.Reference.{Reference}
 use Rattle.plan.specs.declared.insertions.Planned.{Planned}
 use Rattle.plan.specs.declared.insertions.Planned.TheVariants.{Done, Refused}
-use Rattle.plan.proofs.Rows.{Tagged, not_field, not_decl, not_operand, other_field, other_decl, other_operand, field_alone, decl_alone, ref_alone}
+use Rattle.plan.proofs.Rows.{Tagged, not_field, not_decl, other_field, other_decl, other_operand, field_alone, decl_alone, ref_alone}
 
 -- ---- bump, declare, insert
 
@@ -163,8 +163,8 @@ module _ (field : List ℕ) (entered names : List Slot) (scopes : List (List ℕ
     unfolding plan_operands_t
     turn = rw got (ref_alone _ _ _ _ ∙ (rw (left_suc i n h) at inv))
 
-    pub operands_other : Tagged not_operand r → plan_operands_t field entered names scopes counts p row (i + 1) (n - (i + 1)) ≡ T
-    operands_other k = other_operand r _ _ _ k ∙ turn
+    pub operands_other : ((s : ℕ) (at : Index) (q z : ℕ) → r ≡ Ref s at q z → ⊥) → ((k x : ℕ) → r ≡ Open k x → ⊥) → plan_operands_t field entered names scopes counts p row (i + 1) (n - (i + 1)) ≡ T
+    operands_other k o = other_operand r _ _ _ k o ∙ turn
 
     pub operands_open : (k x : ℕ) → r ≡ Open k x → (Done p & names & counts) ≡ T
     unfolding if_ref

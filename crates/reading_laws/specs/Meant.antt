@@ -8,7 +8,7 @@ use Rattle.kit.specs.Pick.{pick}
 use Rattle.kit.proofs.Laws.{tests}
 use Rattle.rules.specs.Tools.{if◌then◌else◌, ◌then◌}
 use Rattle.rules.specs.Rows.{Ref, Id, encode, flag, number}
-use Rattle.rules.specs.Tree.{Declaration, Operand, ref, Scope, scope, Fields, end, ◌▸◌, Item, plain, holds, head_of, flatten}
+use Rattle.rules.specs.Tree.{Declaration, Operand, ref, Scope, scope, Fields, end, ◌▸◌, Item, plain, holds, head_of, item_rows, flatten}
 use Rattle.rules.specs.Shapes.{here_only}
 use Rattle.rules.specs.Readings
 use Rattle.rules.specs.Readings.{Place, held, in_original, walked, walked_at, outward_reading}
@@ -56,7 +56,7 @@ none_inserted : (row n : ℕ) (fs : Fields) → LowFields fs → All (λ (x : Lo
 unfolding located if◌then◌else◌
 none_inserted row n end l = done
 none_inserted row n (i ▸ fs) l =
-    rw (low_original (head_of i) l.0.decls) (all_append _ _ (old_rows (suc row) n 0 (head_of i).decls) (none_inserted _ (suc n) fs l.2))
+    rw (low_original (head_of i) l.0.decls) (all_append _ _ (old_rows (suc row) n 0 (head_of i).decls) (none_inserted (row + length (item_rows i)) (suc n) fs l.2))
 
 low_floors : (s : Scope) → LowScope s → (way : List ℕ) (fs : List Floor) → floors_at s way ≡ some fs → All (λ (f : Floor). LowFields f.level.fields) fs
 low_floors (scope kind name gs) l way fs e = of_floors LowFields (λ (i : Item). LowHead (head_of i) × LowItem i) low_first low_rest low_held (scope kind name gs) way fs l.1 e

@@ -77,6 +77,7 @@ get_d_but P (x ∷ xs) zero zero d (but a) q e = absurd (e refl)
 get_d_but P (x ∷ xs) zero (suc n) d (but a) q e = get_d_all P xs n d a q
 get_d_but P (x ∷ xs) (suc k) zero d (h also a) q e = h
 get_d_but P (x ∷ xs) (suc k) (suc n) d (h also a) q e = get_d_but P xs k n d a q (λ s. e (ap suc s))
+get_d_but {A = A} P [] k n d x3 q e = elim x3 [ ]
 
 signature_outless : (space : ℕ) → Outless (Shapes.signature space)
 unfolding Shapes.signature outless other

@@ -56,7 +56,7 @@ item_of n h false e a = original_of n 0 h.decls
 standings_of : (n : ℕ) (cs : Fields) → AddedFields cs → All StandingOf (standings n cs)
 unfolding standings
 standings_of n end a = done
-standings_of n (i ▸ cs) a = all_append _ _ (item_of n (head_of i) (is_inserted (head_of i)) refl (λ e. added_head i (a.0 e))) (standings_of _ cs a.2)
+standings_of n (i ▸ cs) a = all_append _ _ (item_of n (head_of i) (is_inserted (head_of i)) refl (λ e. added_head i (a.0 e))) (standings_of (if is_inserted (head_of i) then n else suc n) cs a.2)
 
 spots_of : (space : ℕ) (ss : List Standing) → All StandingOf ss → All (SpotOf space) (of_space ss space)
 unfolding of_space

@@ -186,7 +186,7 @@ module _ (c : Choice) where
 
   fields_alike : (ls rs : List Item) → map (map (blur c)) (map item_rows ls) ≡ map (map (blur c)) (map item_rows rs) → All Alike (field_pairs c ls rs)
   unfolding field_pairs mirrored front rest
-  fields_alike ls rs e = front_alike _ refl ls rs e
+  fields_alike ls rs e = front_alike (mirrored (front c (mirrored rest))) refl ls rs e
 
   open_alike : (l r : List Row) → map (blur c) l ≡ map (blur c) r → Alike (open_pair c l r)
   unfolding open_pair if◌then◌else◌

@@ -117,7 +117,7 @@ module _ (settings : List Setting) (w : Coherent settings) where
     pub is_new : recast from to input ≡ new
 
   pub was_converted : (version : ℕ) (input new : List ℕ) (room : ℕ) → converted settings version input room ≡ accepted new → Converted version input new room
-  unfolding converted
+  unfolding converted converted_in
   was_converted version input new room e = go (setting_of settings input) refl (version_of settings version) refl e
     where
       at_end : (s t : Setting) (v : Version) (tree tree' : Scope) → setting_of settings input ≡ some s → version_of settings version ≡ some v → Numbered settings version s.rules.number t
@@ -169,7 +169,7 @@ module _ (settings : List Setting) (w : Coherent settings) where
 
       sized : (s : Setting) (v : Version) → setting_of settings input ≡ some s → version_of settings version ≡ some v → converted_in s (setting_with settings version s.rules.number) v.header input room ≡ accepted new
           → Converted version input new room
-      sized s v q z e = unfold converted_in in
+      sized s v q z e =
           let a = past (not (between 1 s.version.rows (row_count s.version input)) || not (eqb (length input) (s.version.header + 16 * row_count s.version input))) 2 0 [] _ new e in
           let b = past (ltb room (v.header + 16 * row_count s.version input)) 3 0 [] _ new a.1 in
           let n = neither (between 1 s.version.rows (row_count s.version input)) (eqb (length input) (s.version.header + 16 * row_count s.version input)) a.0 in

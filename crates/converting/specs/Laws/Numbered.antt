@@ -92,6 +92,10 @@ all_coherent = record { in_force = all_in_force; one_rules = rules_agree; one_ve
     rules_agree s t (there (there here)) here e = other 0 1 (omega arith) (sym e)
     rules_agree s t (there (there here)) (there here) e = other 0 1 (omega arith) (sym e)
     rules_agree s t (there (there here)) (there (there here)) e = refl
+    rules_agree _ t here (there (there (there x24))) e = elim x24 [ ]
+    rules_agree _ t (there here) (there (there (there x29))) e = elim x29 [ ]
+    rules_agree _ t (there (there here)) (there (there (there x39))) e = elim x39 [ ]
+    rules_agree s t (there (there (there x31))) _ e = elim x31 [ ]
 
     versions_agree : (s t : Setting) → Among s all → Among t all → s.version.number ≡ t.version.number → s.version ≡ t.version
     versions_agree s t here here e = refl
@@ -103,3 +107,7 @@ all_coherent = record { in_force = all_in_force; one_rules = rules_agree; one_ve
     versions_agree s t (there (there here)) here e = other 1 2 (omega arith) (sym e)
     versions_agree s t (there (there here)) (there here) e = refl
     versions_agree s t (there (there here)) (there (there here)) e = refl
+    versions_agree _ t here (there (there (there x24))) e = elim x24 [ ]
+    versions_agree _ t (there here) (there (there (there x29))) e = elim x29 [ ]
+    versions_agree _ t (there (there here)) (there (there (there x39))) e = elim x39 [ ]
+    versions_agree s t (there (there (there x31))) _ e = elim x31 [ ]

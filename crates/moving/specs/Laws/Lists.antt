@@ -62,7 +62,7 @@ collected {A} {B} f (x ∷ xs) y i = go (f x) refl i (λ j. collected f xs y j)
     go (some z) q first below = (x, first, q)
     go (some z) q (later j) below = onwards (below j)
 
-collects : {A B : Type 0} (f : A → Option B) {xs : List A} (x : A) (y : B) → In x xs → f x ≡ some y → In y (collect f xs)
+collects : {A B : Type 0} (f : A → Option B) (x : A) {xs : List A} (y : B) → In x xs → f x ≡ some y → In y (collect f xs)
 unfolding collect if_any
 collects f x y first q = rw q first
 collects {A} {B} f x y (later {y = z} {xs = xs} i) q = go (f z) (collects f x y i q)

@@ -67,6 +67,4 @@ pub returns-then-left-eq0 : goal.returns-then-left-eq0
 returns-then-left-eq0 c = search ways
 
 pub returns-then-s-space : goal.returns-then-s-space
-returns-then-s-space c = let turn = c.before.before.before.before in
-    let scope = turn.before.before.before in
-    walk_hit _ _ _ _ _ _ _ scope.before.scopes.invariant.0 scope.if1.false _ (first_hit _ _ _ _ _ _ _ turn.loop.invariant.1 turn.loop.invariant.0 c.loop-i-test.true c.if-s-name.true c.if-s-space.true)
+returns-then-s-space c = walk_hit _ _ _ _ _ _ _ c.scopes.invariant.0 c.if-left-eq0.false _ (first_hit _ _ _ _ _ _ _ c.loop-i.invariant.1 c.loop-i.invariant.0 c.loop-i-test.true c.if-s-name.true c.if-s-space.true)

@@ -21,7 +21,7 @@ use Rattle.rules.specs.Rules.{Refusal, Result, ok, ◌>>=◌, Entry, decls_in, E
 use Rattle.sharing.specs.Sharing.{Served, served_by, Marked, mark_outer, mark_operand, mark_operands, mark_head, insertions, mark_scope, mark_fields, mark_item, mark, propose}
 use Rattle.rules.specs.Laws.ToolLaws.{Ok, ok_at, false_not, eqb_same, leb_le, leb-false, and-false, All, done, ◌&◌, all_append, or-true}
 use Rattle.rules.specs.Laws.RowLaws.{LegalIndex}
-use Rattle.rules.specs.Laws.Results.{OkR, bind_ok, bind_any, bind_eq, if_both, holds_of, bind_inv, bind_known, no_result, ok_same, no_option}
+use Rattle.rules.specs.Laws.Results.{OkR, bind_ok, bind_any, bind_eq, if_both, holds_of, bind_inv, bind_known, no_result, ok_same, no_option, some_same}
 use Rattle.rules.specs.Laws.Entries
 use Rattle.rules.specs.Laws.Entries.{number_is}
 use Rattle.rules.specs.Laws.Meaning.Names.{LowOperand, LowOperands, LowScope, LowFields, LowItem, DeclFields, low_fields}
@@ -84,17 +84,23 @@ walk_like : (es₀ es : List Env) (d space n : ℕ) → LikeEnvs es₀ es → n 
 unfolding walk
 walk_like [] [] d space n nowhere l = refl
 walk_like (e₀ ∷ es₀) (e ∷ es) d space n (outward h b a) l = just_or (find (table_of e) space n) (find (table_of e₀) space n) d _ _ (h.finds space n l) (walk_like es₀ es (suc d) space n a l)
+walk_like [] (e ∷ es) d space n x4 l = elim x4 [ ]
+walk_like (e₀ ∷ es₀) [] d space n x4 l = elim x4 [ ]
 
 named_like : (es₀ es : List Env) (n : ℕ) → LikeEnvs es₀ es → named es n ≡ named es₀ n
 unfolding named
 named_like [] [] n nowhere = refl
 named_like (e₀ ∷ es₀) (e ∷ es) n (outward h b a) = rw (h.name, named_like es₀ es n a)
+named_like [] (e ∷ es) n x'' = elim x'' [ ]
+named_like (e₀ ∷ es₀) [] n x3 = elim x3 [ ]
 
 nth_like : (es₀ es : List Env) (n : ℕ) → LikeEnvs es₀ es → Ok (λ e₀. (e : Env) × (nth es n ≡ some e) × LikeEnv e₀ e × (e.before ≡ e₀.before)) (nth es₀ n)
 unfolding nth
 nth_like [] [] n nowhere = tt
 nth_like (e₀ ∷ es₀) (e ∷ es) zero (outward h b a) = (e, refl, h, b)
 nth_like (e₀ ∷ es₀) (e ∷ es) (suc n) (outward h b a) = nth_like es₀ es n a
+nth_like [] (e ∷ es) n x'' = elim x'' [ ]
+nth_like (e₀ ∷ es₀) [] n x3 = elim x3 [ ]
 
 refused_some : (o o₀ : Option ℕ) (why : Refusal) (z : ℕ) → is_just o ≡ is_just o₀ → IsOk (Rules.or_refused o₀ why z) → IsOk (Rules.or_refused o why z)
 unfolding Rules.or_refused
@@ -128,6 +134,8 @@ unfolding Rules.comes_later_out
 out_like [] [] space n nowhere l = refl
 out_like (e₀ ∷ es₀) (e ∷ es) space n (outward h b a) l =
     rw (h.finds space n l, comes_like (table_of e) (table_of e₀) e.before e₀.before space n (h.finds space n l) b, out_like es₀ es space n a l)
+out_like [] (e ∷ es) space n x4 l = elim x4 [ ]
+out_like (e₀ ∷ es₀) [] space n x4 l = elim x4 [ ]
 
 late_like : (ds : List Declaration) (o₀ o : Outside) (space n : ℕ) → LikeOutside o₀ o → n ≤ top_name → Rules.late_name ds o space n ≡ Rules.late_name ds o₀ space n
 unfolding Rules.late_name
@@ -189,7 +197,8 @@ outer_like early early₀ es₀ es fz space up at z same_early L l h =
     there (some y) x e = unfold Rules.or_refused in ap {B = Option Env} some (ok_same y x e)
 
     found : (o : Option Env) (x : Env) → o ≡ some x → Rules.or_refused o Rules.too_far fz ≡ ok x
-    found o x e = unfold Rules.or_refused in rw e
+    found none x e = no_option x e
+    found (some y) x e = unfold Rules.or_refused in ap {B = Result Env} ok (some_same y x e)
 
 resolve_outer_like : (early early₀ : Bool) (es₀ es : List Env) (fz space : ℕ) (up at : Index) (z : ℕ) → early ≡ early₀ → LikeEnvs es₀ es → LegalIndex top_name at
     → IsOk (resolve_outer early₀ es₀ fz space up at z) → IsOk (resolve_outer early es fz space up at z)
@@ -565,6 +574,10 @@ module _ (here₀ here : Env) (outside₀ outside : Outside) (likes : LikeOutsid
       case_go : (b : Bool) (m₀ m : Result (List Operand)) → IsOk (if b then Result.refused Rules.case_twice z else (m₀ >>= λ os'. ok (case n z ∷ os'))) → (IsOk m₀ → IsOk m) → IsOk (if b then Result.refused Rules.case_twice z else (m >>= λ os'. ok (case n z ∷ os')))
       case_go true m₀ m h f = unfold if◌then◌else◌ in h
       case_go false m₀ m h f = unfold if◌then◌else◌ in (let s₁ = bind_inv m₀ _ h.0 h.1 in ok_bind m _ (f (s₁.0, s₁.1)) (λ x q. is_ok _))
+  pairs_go fz cases [] (o ∷ os) x4 h = elim x4 [ ]
+  pairs_go fz cases (ref space at paths z ∷ os₀) [] x6 h = elim x6 [ ]
+  pairs_go fz cases (outer space up at z ∷ os₀) [] x7 h = elim x7 [ ]
+  pairs_go fz cases (case n z ∷ os₀) [] x8 h = elim x8 [ ]
 
   -- ---- a field
 

@@ -134,6 +134,8 @@ module _ (top : ℕ) where
       go : (x : Option (List Part)) → ((ps' : List Part) → after_operands ps' os' ≡ after_operands ps' os) → (x then λ ps'. after_operands ps' os') ≡ (x then λ ps'. after_operands ps' os)
       go none f = refl
       go (some ps') f = f ps'
+  like_afters ps [] (o' ∷ os') x'' = elim x'' [ ]
+  like_afters ps (o ∷ os) [] x3 = elim x3 [ ]
 
   like_good : (rules : RuleSet) (kind : ℕ) (h h' : Head) → LikeHead h h' → GoodHead rules kind h → GoodHead rules kind h'
   unfolding with_operands
@@ -202,6 +204,8 @@ module _ (top : ℕ) where
   like_blank_operands [] [] stop = refl
   like_blank_operands (o ∷ os) (o' ∷ os') (next alike ls) = ap (λ (l : List Operand). blank_operand o ∷ l) (like_blank_operands os os' ls)
   like_blank_operands (o ∷ os) (o' ∷ os') (next (renamed {space} {name} {z} j h) ls) = ap (λ (l : List Operand). ref space (Num 0) [] z ∷ l) (like_blank_operands os os' ls)
+  like_blank_operands [] (o' ∷ os') x'' = elim x'' [ ]
+  like_blank_operands (o ∷ os) [] x3 = elim x3 [ ]
 
   like_blank_head : (h h' : Head) → LikeHead h h' → blank_head h' ≡ blank_head h
   unfolding blank_head with_operands
@@ -237,6 +241,8 @@ module _ (top : ℕ) where
   like_operand_rows [] [] stop = refl
   like_operand_rows (o ∷ os) (o' ∷ os') (next l ls) =
       omega (arith, length-append (operand_row o) (operand_rows os), length-append (operand_row o') (operand_rows os'), like_row o o' l, like_operand_rows os os' ls)
+  like_operand_rows [] (o' ∷ os') x'' = elim x'' [ ]
+  like_operand_rows (o ∷ os) [] x3 = elim x3 [ ]
 
   like_head_rows : (h h' : Head) → LikeHead h h' → length (head_rows h') ≡ length (head_rows h)
   like_head_rows h h' l =
@@ -293,6 +299,8 @@ module _ (top : ℕ) where
     fits_operands [] [] stop a = a
     fits_operands (o ∷ os) (o' ∷ os') (next l ls) a =
         all_append (operand_row o') (operand_rows os') (fits_operand o o' l (all_left (operand_row o) (operand_rows os) a)) (fits_operands os os' ls (all_right (operand_row o) (operand_rows os) a))
+    fits_operands [] (o' ∷ os') x4 a = elim x4 [ ]
+    fits_operands (o ∷ os) [] x4 a = elim x4 [ ]
 
     fits_with : (h : Head) (os : List Operand) → (Fits (operand_rows h.operands) → Fits (operand_rows os)) → Fits (head_rows h) → Fits (head_rows (with_operands h os))
     unfolding head_rows with_operands

@@ -124,7 +124,7 @@ module _ (start : ℕ) where
     pub late_operands : (seen : List Served) (k : ℕ) (os : List Operand) → Late seen → start ≤ k → Lately (mark_operands ds seen k os)
     unfolding mark_operands
     late_operands seen k [] a h = (a, h)
-    late_operands seen k (o ∷ os) a h = let l = late_operand seen k o a h in late_operands _ _ os l.0 l.1
+    late_operands seen k (o ∷ os) a h = let l = late_operand seen k o a h in late_operands (mark_operand ds seen k o).seen (mark_operand ds seen k o).k os l.0 l.1
 
     pub late_head : (seen : List Served) (k : ℕ) (h : Head) → Late seen → start ≤ k → Lately (mark_head ds seen k h)
     unfolding mark_head
@@ -133,7 +133,7 @@ module _ (start : ℕ) where
     pub late_insertions : (seen : List Served) (k : ℕ) (fs : Fields) → Late seen → start ≤ k → start ≤ insertions ds seen k fs
     unfolding insertions
     late_insertions seen k end a h = h
-    late_insertions seen k (i ▸ fs) a h = let l = late_head seen k (head_of i) a h in late_insertions _ _ fs l.0 l.1
+    late_insertions seen k (i ▸ fs) a h = let l = late_head seen k (head_of i) a h in late_insertions (mark_head ds seen k (head_of i)).seen (mark_head ds seen k (head_of i)).k fs l.0 l.1
 
 -- ---- what becomes of an operand that is marked
 

@@ -1,0 +1,15 @@
+-- `areas::clear_numbers` meets its contract.
+use mathlib.Core.Path.{sym}
+use native.Mathlib.Omega.{arith}
+use lib.Seq.{length-take-le}
+use Rattle.areas.proofs.Zeros.{fronts}
+use Rattle.areas.proofs.clear_numbers.Goals as goal
+
+pub returns-then-numbers-size : goal.returns-then-numbers-size
+returns-then-numbers-size c = search fronts
+
+pub slice_bounds-zero_numbers-end-2 : goal.slice_bounds-zero_numbers-end-2
+slice_bounds-zero_numbers-end-2 c = sym (length-take-le _ _ (omega arith))
+
+pub returns : goal.returns
+returns c = search fronts

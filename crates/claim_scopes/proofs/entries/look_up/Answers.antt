@@ -1,0 +1,12 @@
+-- `claim_scopes::entries::look_up` meets its contract.
+use Rattle.claim_scopes.proofs.Ways.{looks}
+use Rattle.claim_scopes.proofs.entries.look_up.Goals as goal
+
+pub find-requires : goal.find-requires
+find-requires c = search looks
+
+pub returns-in-At : goal.returns-in-At
+returns-in-At c = search looks
+
+pub returns-in-Nothing : goal.returns-in-Nothing
+returns-in-Nothing c = search looks

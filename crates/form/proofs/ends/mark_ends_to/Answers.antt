@@ -1,0 +1,6 @@
+-- `form::ends::mark_ends_to` meets its contract.
+use Rattle.form.proofs.MarkEnds.{ways}
+use Rattle.form.proofs.ends.mark_ends_to.Goals as goal
+
+pub returns : goal.returns
+returns c = search ways

@@ -1,0 +1,15 @@
+-- `index::position` meets its contract.
+use Rattle.index.proofs.Storey.{follows}
+use Rattle.index.proofs.position.Goals as goal
+
+pub heads_of-heads-requires : goal.heads_of-heads-requires
+heads_of-heads-requires c = search follows
+
+pub returns-then-p-from : goal.returns-then-p-from
+returns-then-p-from c = search follows
+
+pub returns-then-at-from : goal.returns-then-at-from
+returns-then-at-from c = search follows
+
+pub returns : goal.returns
+returns c = search follows

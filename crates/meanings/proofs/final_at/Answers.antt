@@ -1,0 +1,12 @@
+-- `meanings::final_at` meets its contract.
+use Rattle.meanings.proofs.EntryLaws.{final_ways}
+use Rattle.meanings.proofs.final_at.Goals as goal
+
+pub returns-then-is_inserted_outer : goal.returns-then-is_inserted_outer
+returns-then-is_inserted_outer c = search final_ways
+
+pub returns-else-is_inserted_outer : goal.returns-else-is_inserted_outer
+returns-else-is_inserted_outer c = search final_ways
+
+pub returns-in-Nowhere : goal.returns-in-Nowhere
+returns-in-Nowhere c = search final_ways

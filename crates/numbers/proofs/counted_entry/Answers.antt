@@ -1,0 +1,9 @@
+-- `numbers::counted_entry` meets its contract.
+use Rattle.numbers.proofs.Ways.{ways}
+use Rattle.numbers.proofs.counted_entry.Goals as goal
+
+pub returns-in-At : goal.returns-in-At
+returns-in-At c = search ways
+
+pub returns-in-Nothing : goal.returns-in-Nothing
+returns-in-Nothing c = search ways

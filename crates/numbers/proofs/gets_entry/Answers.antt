@@ -1,0 +1,12 @@
+-- `numbers::gets_entry` meets its contract.
+use Rattle.numbers.proofs.Ways.{ways}
+use Rattle.numbers.proofs.gets_entry.Goals as goal
+
+pub returns-in-At : goal.returns-in-At
+returns-in-At c = search ways
+
+pub returns-in-Nothing : goal.returns-in-Nothing
+returns-in-Nothing c = search ways
+
+pub returns-else-is_pushed : goal.returns-else-is_pushed
+returns-else-is_pushed c = search ways

@@ -1,0 +1,6 @@
+-- `plan::enter::declared` meets its contract.
+use Rattle.plan.proofs.EnterLaws.{ways}
+use Rattle.plan.proofs.enter.declared.Goals as goal
+
+pub returns : goal.returns
+returns c = search ways

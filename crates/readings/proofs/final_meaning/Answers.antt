@@ -1,0 +1,12 @@
+-- `readings::final_meaning` meets its contract.
+use Rattle.readings.proofs.MeaningLaws.{final_ways}
+use Rattle.readings.proofs.final_meaning.Goals as goal
+
+pub returns-then-is_inserted_outer : goal.returns-then-is_inserted_outer
+returns-then-is_inserted_outer c = search final_ways
+
+pub returns-else-is_inserted_outer : goal.returns-else-is_inserted_outer
+returns-else-is_inserted_outer c = search final_ways
+
+pub returns-in-Nowhere : goal.returns-in-Nowhere
+returns-in-Nowhere c = search final_ways

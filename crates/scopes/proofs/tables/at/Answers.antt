@@ -1,0 +1,6 @@
+-- `scopes::tables::at` meets its contract.
+use Rattle.scopes.proofs.TableLaws.{table_ways}
+use Rattle.scopes.proofs.tables.at.Goals as goal
+
+pub returns-else-i-table : goal.returns-else-i-table
+returns-else-i-table c = search table_ways

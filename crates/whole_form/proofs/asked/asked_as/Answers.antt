@@ -1,0 +1,19 @@
+-- `whole_form::asked::asked_as` meets its contract. The invariant: what is asked for from here on is what is asked for.
+use Prim.Native.Nat.{◌-◌}
+use Rattle.whole_form.proofs.Ways.{asked_ways}
+use Rattle.whole_form.proofs.asked.asked_as.Goals as goal
+
+pub loop-next-init : goal.loop-next-init
+loop-next-init c = search asked_ways
+
+pub returns-in-Rows : goal.returns-in-Rows
+returns-in-Rows c = search asked_ways
+
+pub returns-in-Count : goal.returns-in-Count
+returns-in-Count c = search asked_ways
+
+pub loop-next-preserved : goal.loop-next-preserved
+loop-next-preserved c = search asked_ways
+
+pub returns : goal.returns
+returns c = search asked_ways

@@ -1,0 +1,21 @@
+-- `whole_form::header::mark_byte` meets its contract.
+use Rattle.whole_form.proofs.Headers.{byte_ways}
+use Rattle.whole_form.proofs.header.mark_byte.Goals as goal
+
+pub returns-in-0 : goal.returns-in-0
+returns-in-0 c = search byte_ways
+
+pub returns-in-1 : goal.returns-in-1
+returns-in-1 c = search byte_ways
+
+pub returns-in-2 : goal.returns-in-2
+returns-in-2 c = search byte_ways
+
+pub returns-in-3 : goal.returns-in-3
+returns-in-3 c = search byte_ways
+
+pub returns-in-5 : goal.returns-in-5
+returns-in-5 c = search byte_ways
+
+pub returns-in_default : goal.returns-in_default
+returns-in_default c = search byte_ways
