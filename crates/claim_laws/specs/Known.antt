@@ -82,7 +82,7 @@ same_head h n field false e = same_original h (suc n) field 0 h.decls e
 same_fields : (j n : ℕ) (fs : Fields) → Same (standings j fs) (declared_in n fs)
 unfolding standings declared_in
 same_fields j n end = none_same
-same_fields j n (i ▸ fs) = same_append _ _ (head_declared n (head_of i)) (declared_in (n + length (item_rows i)) fs) (same_head (head_of i) n j (is_inserted (head_of i)) refl) (same_fields _ (n + length (item_rows i)) fs)
+same_fields j n (i ▸ fs) = same_append _ _ (head_declared n (head_of i)) (declared_in (n + length (item_rows i)) fs) (same_head (head_of i) n j (is_inserted (head_of i)) refl) (same_fields (if is_inserted (head_of i) then j else suc j) (n + length (item_rows i)) fs)
 
 same_space : (s : Standing) (x : Declared) → s.decl ≡ x.decl → (space : ℕ) → eqb s.decl.space space ≡ eqb x.decl.space space
 same_space s x e space = ap (λ (d : Declaration). eqb d.space space) e
