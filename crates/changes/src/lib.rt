@@ -4,7 +4,7 @@
 
 ghost use Rattle.std.specs.Prelude.{◌<◌};
 
-use words::{say, say_number};
+use words::{Talk, say, say_number};
 
 // More than a list of changes has bytes: what is taken from a list stays below it, so that no sum can wrap.
 const MOST: usize = 1048576;
@@ -45,13 +45,13 @@ fn value_at(bytes: &[u8], a: usize, width: u32) -> u32 {
 }
 
 // The number of the row that a byte behind the header is in.
-fn say_row(fd: i32, at: u32) {
+fn say_row(fd: Talk<'_>, at: u32) {
     say(fd, b"row ");
     say_number(fd, (at - at % 16) / 16);
 }
 
 // The part of a row that begins this many bytes behind the row's first.
-fn say_part(fd: i32, offset: u32) {
+fn say_part(fd: Talk<'_>, offset: u32) {
     match offset {
         1 => say(fd, b"b"),
         2 => say(fd, b"e"),
@@ -63,7 +63,7 @@ fn say_part(fd: i32, offset: u32) {
 }
 
 // Of the header: byte 5, or the row count.
-fn say_header(fd: i32, at: u32) {
+fn say_header(fd: Talk<'_>, at: u32) {
     if at == 6 {
         say(fd, b"the row count");
     } else {
@@ -74,7 +74,7 @@ fn say_header(fd: i32, at: u32) {
 }
 
 // What a number was, and what it is.
-fn say_values(fd: i32, was: u32, is: u32) {
+fn say_values(fd: Talk<'_>, was: u32, is: u32) {
     say(fd, b" was ");
     say_number(fd, was);
     say(fd, b" and is ");
@@ -83,7 +83,7 @@ fn say_values(fd: i32, was: u32, is: u32) {
 }
 
 // A number in the header or in a row.
-fn say_number_changed(fd: i32, at: u32, was: u32, is: u32) {
+fn say_number_changed(fd: Talk<'_>, at: u32, was: u32, is: u32) {
     if at < 8 {
         say_header(fd, at);
     } else {
@@ -96,7 +96,7 @@ fn say_number_changed(fd: i32, at: u32, was: u32, is: u32) {
 }
 
 // Rows that are cut or added at the end; `behind` is how many bytes behind the header they begin.
-fn say_end(fd: i32, behind: u32, before: u32, now: u32) {
+fn say_end(fd: Talk<'_>, behind: u32, before: u32, now: u32) {
     say_row(fd, behind);
     if 0 < before {
         say(fd, b": bytes cut: ");
@@ -110,7 +110,7 @@ fn say_end(fd: i32, behind: u32, before: u32, now: u32) {
 }
 
 // The change at byte i of the list; `form` is the mended form.
-fn say_change(fd: i32, list: &[u8], i: usize, form: &[u8]) {
+fn say_change(fd: Talk<'_>, list: &[u8], i: usize, form: &[u8]) {
     let start = i % MOST;
     let at = word_at(list, start);
     let before = word_at(list, start + 4);
@@ -138,7 +138,7 @@ fn next_change(list: &[u8], i: usize) -> usize {
 }
 
 // Writes a line for each of this many changes.
-pub fn say_changes(fd: i32, list: &[u8], changes: u32, form: &[u8]) {
+pub fn say_changes(fd: Talk<'_>, list: &[u8], changes: u32, form: &[u8]) {
     let mut i = 0;
     let mut said = 0;
     while said < changes {

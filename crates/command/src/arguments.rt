@@ -1,7 +1,7 @@
 // The program's arguments, from the one at `first` on, which is the command's name.
 ghost use Rattle.std.specs.Prelude.{◌≡◌, ◌+◌};
 
-use libc::STDERR_FILENO;
+use files::host::{Host, arg_count};
 use words::say;
 
 // The number of an argument that is `i` behind the first.
@@ -12,16 +12,16 @@ pub fn behind(first: u8, i: u8) -> usize
 }
 
 // Whether there are this many arguments from the command's name on.
-pub fn has_words(first: u8, count: u8) -> bool {
-    os::arg_count() == behind(first, count)
+pub fn has_words(host: Host<'_>, first: u8, count: u8) -> bool {
+    arg_count(host) == behind(first, count)
 }
 
 // A command that was given too many or too few arguments.
-pub fn wrong_count(usage: &[u8]) {
+pub fn wrong_count(host: Host<'_>, usage: &[u8]) {
     say(
-        STDERR_FILENO,
+        host.err(),
         b"That is not the number of arguments that this command takes. Its usage is: ",
     );
-    say(STDERR_FILENO, usage);
-    say(STDERR_FILENO, b"\n");
+    say(host.err(), usage);
+    say(host.err(), b"\n");
 }

@@ -3,7 +3,7 @@ ghost use Rattle.std.specs.Prelude.{◌≡◌, take};
 ghost use Rattle.command.specs.Status.{talk_beside};
 
 use files::parts::{front, is_dash};
-use libc::{STDERR_FILENO, STDOUT_FILENO};
+use words::{STDERR_FILENO, STDOUT_FILENO};
 
 // The first bytes of a buffer, this many.
 pub fn part(buffer: &[u8; 65536], count: usize) -> &[u8]

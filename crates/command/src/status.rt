@@ -3,7 +3,8 @@ ghost use Rattle.std.specs.Prelude.{◌≡◌};
 ghost use Rattle.command.specs.Status.{worse_of};
 
 use files::errors::say_failure;
-use words::say;
+use files::host::Host;
+use files::standard::error_since;
 
 // Accepted, or done.
 pub const DONE: u8 = 0;
@@ -25,19 +26,21 @@ pub fn worse(one: u8, other: u8) -> u8
 }
 
 // What an answer on standard output came to: `before` is what was noted as an error before the first word of it, so a write has failed if it has changed.
-pub fn said(status: u8, before: i32) -> u8 {
-    if os::errno() == before {
-        return status;
+pub fn said(host: Host<'_>, status: u8, before: i32) -> u8 {
+    match error_since(host, before) {
+        None => status,
+        Some(error) => {
+            say_failure(host, b"the answer", b" cannot be written", error);
+            FAILED
+        }
     }
-    say_failure(b"the answer", b" cannot be written");
-    FAILED
 }
 
 // Tells whoever started the program.
 pub fn tell(status: u8) {
     match status {
-        DONE => say(STATUS_FILENO, b"0"),
-        NO => say(STATUS_FILENO, b"1"),
-        _ => say(STATUS_FILENO, b"2"),
-    }
+        DONE => io::write_all(STATUS_FILENO, b"0"),
+        NO => io::write_all(STATUS_FILENO, b"1"),
+        _ => io::write_all(STATUS_FILENO, b"2"),
+    };
 }

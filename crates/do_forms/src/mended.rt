@@ -4,6 +4,7 @@ use command::arguments::{behind, has_words, wrong_count};
 use command::forms::{part, talk_beside};
 use command::status::{DONE, FAILED, said};
 use command::topic::{Task, say_topic};
+use files::host::{Host, arg};
 use files::read::{Loaded, load};
 use files::standard::error_noted;
 use files::write::save;
@@ -12,9 +13,9 @@ use known::file::refuse_form;
 use mend::run::{Answer, mend};
 use refusal::{NOT_A_FORM, Refusal};
 use row_parts::rows_said;
-use words::say;
+use words::{Talk, say};
 
-fn say_mended(talk: i32, form: &[u8], list: &[u8], changes: u32) {
+fn say_mended(talk: Talk<'_>, form: &[u8], list: &[u8], changes: u32) {
     if changes == 0 {
         say(talk, b"this form is sound\n");
     } else {
@@ -22,11 +23,11 @@ fn say_mended(talk: i32, form: &[u8], list: &[u8], changes: u32) {
     }
 }
 
-fn save_mended(form: &[u8], path: &[u8], list: &[u8], changes: u32) -> u8 {
-    if save(path, form) {
-        let before = error_noted();
-        say_mended(talk_beside(path), form, list, changes);
-        said(DONE, before)
+fn save_mended(host: Host<'_>, form: &[u8], path: &[u8], list: &[u8], changes: u32) -> u8 {
+    if save(host, path, form) {
+        let before = error_noted(host);
+        say_mended(host.to(talk_beside(path)), form, list, changes);
+        said(host, DONE, before)
     } else {
         FAILED
     }
@@ -38,49 +39,50 @@ fn is_second(buffer: &[u8; 65536]) -> bool {
 }
 
 // Mends the form in the first bytes of a buffer, this many. The list has room for every change that such a form can need.
-fn mend_loaded(mut buffer: [u8; 65536], length: usize, path: &[u8]) -> u8 {
+fn mend_loaded(host: Host<'_>, mut buffer: [u8; 65536], length: usize, path: &[u8]) -> u8 {
     if is_second(&buffer) {
         let refusal = Refusal {
             number: NOT_A_FORM,
             place: 0,
         };
-        return refuse_form(part(&buffer, length), path, refusal);
+        return refuse_form(host, part(&buffer, length), path, refusal);
     }
     let mut list = [0u8; 163840];
     match mend(&mut buffer, length, &mut list) {
         Answer::Mended(changes) => {
             let rows = rows_said(&buffer);
-            save_mended(part(&buffer, bytes_of(rows)), path, &list, changes)
+            save_mended(host, part(&buffer, bytes_of(rows)), path, &list, changes)
         }
-        Answer::Refused(refusal) => refuse_form(part(&buffer, length), path, refusal),
+        Answer::Refused(refusal) => refuse_form(host, part(&buffer, length), path, refusal),
     }
 }
 
 // Mends the form in a file into another file.
-fn mend_paths(from: &[u8], to: &[u8]) -> u8 {
+fn mend_paths(host: Host<'_>, from: &[u8], to: &[u8]) -> u8 {
     let mut buffer = io::large_buffer();
-    match load(from, &mut buffer) {
-        Loaded::Bytes(length) => mend_loaded(buffer, length, to),
+    match load(host, from, &mut buffer) {
+        Loaded::Bytes(length) => mend_loaded(host, buffer, length, to),
         Loaded::Failed => FAILED,
     }
 }
 
-fn run_mend(first: u8) -> u8 {
-    if !has_words(first, 3) {
-        wrong_count(b"wnt mend IN OUT");
+fn run_mend(host: Host<'_>, first: u8) -> u8 {
+    if !has_words(host, first, 3) {
+        wrong_count(host, b"wnt mend IN OUT");
         return FAILED;
     }
     let mut from = io::buffer();
-    let from_length = os::arg(behind(first, 1), &mut from);
+    let from_length = arg(host, behind(first, 1), &mut from);
     let mut to = io::buffer();
-    let to_length = os::arg(behind(first, 2), &mut to);
-    mend_paths(&from[..from_length], &to[..to_length])
+    let to_length = arg(host, behind(first, 2), &mut to);
+    mend_paths(host, &from[..from_length], &to[..to_length])
 }
 
-pub fn mend_command(task: Task, first: u8) -> u8 {
+pub fn mend_command(host: Host<'_>, task: Task, first: u8) -> u8 {
     match task {
-        Task::Run => run_mend(first),
+        Task::Run => run_mend(host, first),
         Task::Help => say_topic(
+            host,
             b"mend IN OUT",
             b"Mends a form that an editor has spoilt and writes it to OUT, a file whole or not at all: a\npart row is dropped, rows behind the root's CLOSE are cut, missing CLOSE rows are added, the\nrow count is set, and what must be zero is zeroed. Prints each change with its row and part.\nA sound form is written as it is. What is no form even so is refused, and not written. Forms of\nversion 2 are refused too: of those the library takes care (wnt_mend).\n",
             b"mended or sound, and written",

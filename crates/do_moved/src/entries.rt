@@ -2,14 +2,14 @@
 // row of the form that was meant, and the row of the resolved form that the number gets. One of the second is three: the
 // place, the space, and the number.
 use form_bytes::word_at;
-use json::{say_count, say_null};
+use json_parts::{say_count, say_null};
 use readings::{Meaning, through_outer};
 use row_parts::{OUTER, b_at, code_at, is_inserted, next, x_at};
 use scopes::number_of;
 use words::kinds::say_space;
 use words::names::say_export;
 use words::rows::say_declaration;
-use words::{say, say_number};
+use words::{Talk, say, say_number};
 
 // More entries than a list has: what is taken from a list stays below it, so that no sum can wrap.
 const MOST: u32 = 65536;
@@ -35,7 +35,7 @@ fn row_in(word: u32) -> u16 {
 }
 
 // A declaration and its row.
-fn say_row(fd: i32, names: &[u8], form: &[u8], decl: u16) {
+fn say_row(fd: Talk<'_>, names: &[u8], form: &[u8], decl: u16) {
     say(fd, b"row ");
     say_number(fd, decl as u32);
     say(fd, b", ");
@@ -49,7 +49,7 @@ fn say_row(fd: i32, names: &[u8], form: &[u8], decl: u16) {
 }
 
 // What an inserted outer alias leads to: the declaration that its OUTER counts to.
-fn say_outer_item(fd: i32, names: &[u8], out: &[u8], outer: u16) {
+fn say_outer_item(fd: Talk<'_>, names: &[u8], out: &[u8], outer: u16) {
     match through_outer(out, outer) {
         Meaning::At {
             row,
@@ -62,7 +62,7 @@ fn say_outer_item(fd: i32, names: &[u8], out: &[u8], outer: u16) {
 }
 
 // What an inserted alias of an export leads to: the export of the instance that its REF counts to.
-fn say_export_item(fd: i32, names: &[u8], out: &[u8], reference: u16) {
+fn say_export_item(fd: Talk<'_>, names: &[u8], out: &[u8], reference: u16) {
     say(fd, b"export ");
     say_export(fd, names, x_at(out, next(reference)));
     say(fd, b" of ");
@@ -72,7 +72,7 @@ fn say_export_item(fd: i32, names: &[u8], out: &[u8], reference: u16) {
 }
 
 // What the number gets: a row of the resolved form.
-fn say_gets(fd: i32, names: &[u8], out: &[u8], decl: u16) {
+fn say_gets(fd: Talk<'_>, names: &[u8], out: &[u8], decl: u16) {
     if !is_inserted(out, decl) {
         say_row(fd, names, out, decl);
         return;
@@ -88,7 +88,7 @@ fn say_gets(fd: i32, names: &[u8], out: &[u8], decl: u16) {
 }
 
 // The place of an entry, and the number as it was written.
-fn say_written(fd: i32, place: u32, space: u8, number: u32) {
+fn say_written(fd: Talk<'_>, place: u32, space: u8, number: u32) {
     say(fd, b"place ");
     say_number(fd, place);
     say(fd, b": ");
@@ -97,7 +97,7 @@ fn say_written(fd: i32, place: u32, space: u8, number: u32) {
     say_number(fd, number);
 }
 
-fn say_moved_entry(fd: i32, names: &[u8], form: &[u8], out: &[u8], list: &[u8], entry: u32) {
+fn say_moved_entry(fd: Talk<'_>, names: &[u8], form: &[u8], out: &[u8], list: &[u8], entry: u32) {
     let meant = row_in(moved_part(list, entry, 8));
     say_written(
         fd,
@@ -113,7 +113,14 @@ fn say_moved_entry(fd: i32, names: &[u8], form: &[u8], out: &[u8], list: &[u8], 
 }
 
 // Writes a line for each of the numbers that have moved, this many.
-pub(crate) fn say_moved(fd: i32, names: &[u8], form: &[u8], out: &[u8], list: &[u8], count: u32) {
+pub(crate) fn say_moved(
+    fd: Talk<'_>,
+    names: &[u8],
+    form: &[u8],
+    out: &[u8],
+    list: &[u8],
+    count: u32,
+) {
     let mut entry = 0;
     while entry < count {
         say_moved_entry(fd, names, form, out, list, entry);
@@ -122,7 +129,7 @@ pub(crate) fn say_moved(fd: i32, names: &[u8], form: &[u8], out: &[u8], list: &[
 }
 
 // The same as an object of JSON.
-fn tell_moved_entry(fd: i32, form: &[u8], list: &[u8], entry: u32) {
+fn tell_moved_entry(fd: Talk<'_>, form: &[u8], list: &[u8], entry: u32) {
     let meant = row_in(moved_part(list, entry, 8));
     say_count(
         fd,
@@ -136,7 +143,7 @@ fn tell_moved_entry(fd: i32, form: &[u8], list: &[u8], entry: u32) {
     say(fd, b"}\n");
 }
 
-pub(crate) fn tell_moved(fd: i32, form: &[u8], list: &[u8], count: u32) {
+pub(crate) fn tell_moved(fd: Talk<'_>, form: &[u8], list: &[u8], count: u32) {
     let mut entry = 0;
     while entry < count {
         tell_moved_entry(fd, form, list, entry);
@@ -144,7 +151,7 @@ pub(crate) fn tell_moved(fd: i32, form: &[u8], list: &[u8], count: u32) {
     }
 }
 
-fn say_apart_entry(fd: i32, list: &[u8], entry: u32) {
+fn say_apart_entry(fd: Talk<'_>, list: &[u8], entry: u32) {
     say_written(
         fd,
         apart_part(list, entry, 0),
@@ -155,7 +162,7 @@ fn say_apart_entry(fd: i32, list: &[u8], entry: u32) {
 }
 
 // Writes a line for each of the numbers without an item, this many.
-pub(crate) fn say_apart(fd: i32, list: &[u8], count: u32) {
+pub(crate) fn say_apart(fd: Talk<'_>, list: &[u8], count: u32) {
     let mut entry = 0;
     while entry < count {
         say_apart_entry(fd, list, entry);
@@ -164,7 +171,7 @@ pub(crate) fn say_apart(fd: i32, list: &[u8], count: u32) {
 }
 
 // The same as an object of JSON.
-fn tell_apart_entry(fd: i32, list: &[u8], entry: u32) {
+fn tell_apart_entry(fd: Talk<'_>, list: &[u8], entry: u32) {
     say_count(
         fd,
         b"{\"moved\":false,\"place\":",
@@ -177,7 +184,7 @@ fn tell_apart_entry(fd: i32, list: &[u8], entry: u32) {
     say(fd, b"}\n");
 }
 
-pub(crate) fn tell_apart(fd: i32, list: &[u8], count: u32) {
+pub(crate) fn tell_apart(fd: Talk<'_>, list: &[u8], count: u32) {
     let mut entry = 0;
     while entry < count {
         tell_apart_entry(fd, list, entry);

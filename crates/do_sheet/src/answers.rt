@@ -6,7 +6,7 @@ use readings::{Meaning, final_meaning};
 use row_parts::{b_at, x_at};
 use scopes::number_of;
 use words::rows::say_declaration;
-use words::{say, say_number};
+use words::{Talk, say, say_number};
 
 // More slots than a sheet has: what is taken from it stays below, so that no sum can wrap.
 const MOST: u32 = 65536;
@@ -21,7 +21,7 @@ pub(crate) fn answer_part(answers: &[u8], slot: u32, offset: u32) -> u32 {
     word_at(answers, slot % MOST * 8 + offset % 16)
 }
 
-fn say_row(fd: i32, names: &[u8], form: &[u8], decl: u16) {
+fn say_row(fd: Talk<'_>, names: &[u8], form: &[u8], decl: u16) {
     say(fd, b"row ");
     say_number(fd, decl as u32);
     say(fd, b" declares ");
@@ -34,7 +34,7 @@ fn say_row(fd: i32, names: &[u8], form: &[u8], decl: u16) {
     );
 }
 
-fn say_meaning(fd: i32, names: &[u8], form: &[u8], reference: u16) {
+fn say_meaning(fd: Talk<'_>, names: &[u8], form: &[u8], reference: u16) {
     match final_meaning(form, reference) {
         Meaning::At {
             row,
@@ -47,7 +47,7 @@ fn say_meaning(fd: i32, names: &[u8], form: &[u8], reference: u16) {
 }
 
 // What the one reference at a place reaches.
-fn say_reached(fd: i32, names: &[u8], form: &[u8], place: u32) {
+fn say_reached(fd: Talk<'_>, names: &[u8], form: &[u8], place: u32) {
     match reference_at(form, place) {
         Reference::Nothing => {}
         Reference::At(row) => say_meaning(fd, names, form, row),
@@ -56,7 +56,7 @@ fn say_reached(fd: i32, names: &[u8], form: &[u8], place: u32) {
 }
 
 // An answer of a kind, with its row.
-fn say_answer(fd: i32, names: &[u8], form: &[u8], place: u32, kind: u32) {
+fn say_answer(fd: Talk<'_>, names: &[u8], form: &[u8], place: u32, kind: u32) {
     match kind {
         0 => {
             say(fd, b"bound as written: ");
@@ -71,7 +71,7 @@ fn say_answer(fd: i32, names: &[u8], form: &[u8], place: u32, kind: u32) {
     }
 }
 
-fn say_slot(fd: i32, names: &[u8], form: &[u8], sheet: &[u8], answers: &[u8], slot: u32) {
+fn say_slot(fd: Talk<'_>, names: &[u8], form: &[u8], sheet: &[u8], answers: &[u8], slot: u32) {
     let place = slot_part(sheet, slot, 4);
     say(fd, b"family ");
     say_number(fd, slot_part(sheet, slot, 0));
@@ -84,7 +84,7 @@ fn say_slot(fd: i32, names: &[u8], form: &[u8], sheet: &[u8], answers: &[u8], sl
 
 // Writes a line for each of this many slots.
 pub(crate) fn say_slots(
-    fd: i32,
+    fd: Talk<'_>,
     names: &[u8],
     form: &[u8],
     sheet: &[u8],

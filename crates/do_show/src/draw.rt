@@ -7,10 +7,10 @@ use command::forms::part;
 use command::status::{DONE, FAILED, NO, said};
 use command::topic::{Task, say_topic};
 use drawing::whole::{begin_heading, draw, end, write_rows};
+use files::host::{Host, arg};
 use files::read::{Loaded, load};
 use files::standard::error_noted;
 use known::file::{Known, say_told, what_is};
-use libc::{STDERR_FILENO, STDOUT_FILENO};
 use moved::run::{Answer, moved as list_moved};
 use options::given::{Given, NAMES, Options, read_options};
 use options::names::load_names;
@@ -24,112 +24,120 @@ const LEGEND: u32 = 740;
 const REFUSAL: u32 = 1140;
 
 // A form of which a refusal is the heading.
-fn draw_refused(names: &[u8], form: &[u8], shown: &[u8], refusal: Refusal, told: Told) {
-    draw(names, shown, b"", 0, REFUSAL);
-    begin_heading();
-    say_told(STDOUT_FILENO, form, refusal, told);
-    end();
+fn draw_refused(
+    host: Host<'_>,
+    names: &[u8],
+    form: &[u8],
+    shown: &[u8],
+    refusal: Refusal,
+    told: Told,
+) {
+    draw(host.out(), names, shown, b"", 0, REFUSAL);
+    begin_heading(host.out());
+    say_told(host.out(), form, refusal, told);
+    end(host.out());
 }
 
-fn draw_resolved(names: &[u8], form: &[u8]) {
-    draw(names, form, b"", 0, LEGEND);
-    begin_heading();
-    say_resolved(STDOUT_FILENO, form);
-    end();
+fn draw_resolved(host: Host<'_>, names: &[u8], form: &[u8]) {
+    draw(host.out(), names, form, b"", 0, LEGEND);
+    begin_heading(host.out());
+    say_resolved(host.out(), form);
+    end(host.out());
 }
 
 // By what a file is that the resolver refuses. Where that is no form, standard error has the refusal as well.
-fn draw_known(names: &[u8], form: &[u8], refusal: Refusal, told: Told) -> u8 {
+fn draw_known(host: Host<'_>, names: &[u8], form: &[u8], refusal: Refusal, told: Told) -> u8 {
     match what_is(refusal.number, is_resolved(form)) {
         Known::NoForm => {
-            say_told(STDERR_FILENO, form, refusal, told);
-            draw_refused(names, form, b"", refusal, told);
+            say_told(host.err(), form, refusal, told);
+            draw_refused(host, names, form, b"", refusal, told);
             NO
         }
         Known::Whole => {
-            draw_refused(names, form, form, refusal, told);
+            draw_refused(host, names, form, form, refusal, told);
             DONE
         }
         Known::Resolved => {
-            draw_resolved(names, form);
+            draw_resolved(host, names, form);
             DONE
         }
         Known::Broken => {
-            say_told(STDERR_FILENO, form, refusal, told);
-            draw_refused(names, form, form, refusal, told);
+            say_told(host.err(), form, refusal, told);
+            draw_refused(host, names, form, form, refusal, told);
             NO
         }
     }
 }
 
-fn draw_other(names: &[u8], form: &[u8]) -> u8 {
+fn draw_other(host: Host<'_>, names: &[u8], form: &[u8]) -> u8 {
     let mut out = io::large_buffer();
     match resolve(form, &mut out) {
         Resolved::Accepted(_) => FAILED,
-        Resolved::Refused(refusal, told) => draw_known(names, form, refusal, told),
+        Resolved::Refused(refusal, told) => draw_known(host, names, form, refusal, told),
     }
 }
 
 // The lists have room for every form that is not refused.
-fn draw_form(names: &[u8], form: &[u8]) -> u8 {
+fn draw_form(host: Host<'_>, names: &[u8], form: &[u8]) -> u8 {
     let mut out = io::large_buffer();
     let mut moved = [0u8; 16384];
     let mut apart = [0u8; 12288];
     match list_moved(form, &mut out, &mut moved, &mut apart) {
         Answer::Listed(listed) => {
-            draw(names, form, &moved, listed.moved, LEGEND);
-            begin_heading();
-            write_rows(form);
-            end();
+            draw(host.out(), names, form, &moved, listed.moved, LEGEND);
+            begin_heading(host.out());
+            write_rows(host.out(), form);
+            end(host.out());
             DONE
         }
-        Answer::Refused(_) => draw_other(names, form),
+        Answer::Refused(_) => draw_other(host, names, form),
     }
 }
 
-fn draw_path(names: &[u8], path: &[u8]) -> u8 {
+fn draw_path(host: Host<'_>, names: &[u8], path: &[u8]) -> u8 {
     let mut buffer = io::large_buffer();
-    match load(path, &mut buffer) {
+    match load(host, path, &mut buffer) {
         Loaded::Bytes(length) => {
-            let before = error_noted();
-            said(draw_form(names, part(&buffer, length)), before)
+            let before = error_noted(host);
+            said(host, draw_form(host, names, part(&buffer, length)), before)
         }
         Loaded::Failed => FAILED,
     }
 }
 
 // Draws the form of the argument behind the options, with these names.
-fn draw_called(options: Options, names: &[u8]) -> u8 {
+fn draw_called(host: Host<'_>, options: Options, names: &[u8]) -> u8 {
     let mut path = io::buffer();
-    let length = os::arg(behind(options.first, 1), &mut path);
+    let length = arg(host, behind(options.first, 1), &mut path);
     let mut escaped = [0u8; ROOM];
     let count = escape(names, &mut escaped);
-    draw_path(escaped_part(&escaped, count), &path[..length])
+    draw_path(host, escaped_part(&escaped, count), &path[..length])
 }
 
-fn draw_with(options: Options) -> u8 {
-    if !has_words(options.first, 2) {
-        wrong_count(b"wnt draw [--names FILE] FORM");
+fn draw_with(host: Host<'_>, options: Options) -> u8 {
+    if !has_words(host, options.first, 2) {
+        wrong_count(host, b"wnt draw [--names FILE] FORM");
         return FAILED;
     }
     let mut names = io::large_buffer();
-    match load_names(options, &mut names) {
-        Loaded::Bytes(count) => draw_called(options, part(&names, count)),
+    match load_names(host, options, &mut names) {
+        Loaded::Bytes(count) => draw_called(host, options, part(&names, count)),
         Loaded::Failed => FAILED,
     }
 }
 
-fn run_draw(first: u8) -> u8 {
-    match read_options(first, NAMES) {
-        Given::Options(given) => draw_with(given),
+fn run_draw(host: Host<'_>, first: u8) -> u8 {
+    match read_options(host, first, NAMES) {
+        Given::Options(given) => draw_with(host, given),
         Given::Wrong => FAILED,
     }
 }
 
-pub fn draw_command(task: Task, first: u8) -> u8 {
+pub fn draw_command(host: Host<'_>, task: Task, first: u8) -> u8 {
     match task {
-        Task::Run => run_draw(first),
+        Task::Run => run_draw(host, first),
         Task::Help => say_topic(
+            host,
             b"draw [--names FILE] FORM",
             b"Writes a picture of a form to standard output, as SVG: scopes as boxes, declarations in them, an\narc from each reference to the declaration that it means, inserted fields on orange ground. Of an\ninput the numbers that wnt moved lists are red. Of what is no form it draws the rows that are\nthere, and the refusal stands above them and on standard error. With --names the words of FILE\nstand for names.\n",
             b"drawn",

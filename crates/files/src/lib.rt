@@ -2,9 +2,11 @@
 #![tactic(auto)]
 
 pub mod errors;
+pub mod host;
 mod links;
 mod mode;
 pub mod parts;
 pub mod read;
 pub mod standard;
+mod temporary;
 pub mod write;

@@ -2,24 +2,30 @@
 ghost use Rattle.std.specs.Prelude.{◌≡◌};
 ghost use Rattle.files.specs.Paths.{folder_of, start_of};
 
-use crate::parts::{copy, ended, front};
+use crate::errors::text_of;
+use crate::host::Host;
+use crate::parts::{copy, front};
+use std::fs;
+use std::io::Error;
 
 // The most links that are followed, as many as Linux follows.
 const LINKS: u8 = 40;
 
-// What following links came to: a path of this many bytes that is no link, or none.
+// What following links came to: a path of this many bytes that is no link, or none; or a link could not be read.
 #[derive(Clone, Copy)]
 pub(crate) enum Target {
     At(usize),
     Nowhere,
+    Unread(Error),
 }
 
-// What one link came to: a path of this many bytes, or one that there is no room for, or that it was no link.
+// What one link came to: a path of this many bytes, or one that there is no room for, or that it was no link; or it could not be read.
 #[derive(Clone, Copy)]
 enum Step {
     To(usize),
     TooLong,
     NoLink,
+    Unread(Error),
 }
 
 // How many bytes of a path name its folder, with the last slash.
@@ -63,31 +69,34 @@ fn step_by(path: &mut [u8], length: usize, text: &[u8]) -> Step {
     put_text(path, start, text)
 }
 
-fn read_link(path: &[u8], text: &mut [u8]) -> isize {
-    let array = ended(path);
-    libc::readlink(&array, text)
-}
-
-// Goes along one link.
-fn go_on(path: &mut [u8], length: usize) -> Step {
-    let mut text = io::buffer();
-    let got = read_link(front(&path[..], length), &mut text);
-    if got < 0 {
-        return Step::NoLink;
+// Goes along one link. Its text is copied to memory first, and has to be UTF-8.
+fn go_on(host: Host<'_>, path: &mut [u8], length: usize) -> Step {
+    let own = match text_of(front(&path[..], length)) {
+        Ok(text) => fs::read_link(&host.rt, text),
+        Err(error) => Err(error),
+    };
+    match own {
+        Ok(text) => step_by(path, length, text.as_str().as_bytes()),
+        Err(error) => {
+            if error.raw_os_error().is_some() {
+                Step::NoLink
+            } else {
+                Step::Unread(error)
+            }
+        }
     }
-    let count = io::count(got, &text);
-    step_by(path, length, &text[..count])
 }
 
 // Follows the links from a path, whose bytes are at the start of a buffer, and leaves there the path to which they lead.
-pub(crate) fn follow(path: &mut [u8], length: usize) -> Target {
+pub(crate) fn follow(host: Host<'_>, path: &mut [u8], length: usize) -> Target {
     let mut end = length;
     let mut links: u8 = 0;
     while links < LINKS {
-        match go_on(path, end) {
+        match go_on(host, path, end) {
             Step::To(next) => end = next,
             Step::TooLong => return Target::Nowhere,
             Step::NoLink => return Target::At(end),
+            Step::Unread(error) => return Target::Unread(error),
         }
         links += 1;
     }

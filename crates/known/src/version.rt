@@ -3,7 +3,7 @@ ghost use Rattle.std.specs.Prelude.{◌≡◌};
 ghost use Rattle.known.specs.Version.{is_second};
 
 use form_bytes::begins_as;
-use words::say;
+use words::{Talk, say};
 
 // Whether bytes begin as a form of version 2 does.
 pub fn is_second(bytes: &[u8]) -> bool
@@ -13,7 +13,7 @@ pub fn is_second(bytes: &[u8]) -> bool
 }
 
 // The one sentence on it.
-pub fn say_second(talk: i32) {
+pub fn say_second(talk: Talk<'_>) {
     say(
         talk,
         b"this form is of version 2; wnt takes version 1: see wnt convert\n",

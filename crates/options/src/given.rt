@@ -3,7 +3,7 @@ ghost use Rattle.std.specs.Prelude.{◌≡◌};
 ghost use Rattle.options.specs.Given.{is_in};
 
 use check::same;
-use libc::STDERR_FILENO;
+use files::host::{Host, arg};
 use words::say;
 
 // An option, as a bit of those that a command takes.
@@ -103,16 +103,16 @@ fn with_option(options: Options, option: u8) -> Options {
     }
 }
 
-fn say_wrong(word: &[u8]) {
-    say(STDERR_FILENO, word);
+fn say_wrong(host: Host<'_>, word: &[u8]) {
+    say(host.err(), word);
     say(
-        STDERR_FILENO,
+        host.err(),
         b" is no option of this command, or stands there twice\n",
     );
 }
 
 // By the word of the next argument. A command takes some of the options, each once.
-fn by_word(options: Options, takes: u8, word: &[u8]) -> Turn {
+fn by_word(host: Host<'_>, options: Options, takes: u8, word: &[u8]) -> Turn {
     if !begins_with_dashes(word) {
         return Turn::Done;
     }
@@ -120,18 +120,18 @@ fn by_word(options: Options, takes: u8, word: &[u8]) -> Turn {
     if has(takes, option) & !has(options.set, option) {
         return Turn::More(with_option(options, option));
     }
-    say_wrong(word);
+    say_wrong(host, word);
     Turn::Wrong
 }
 
-fn by_next(options: Options, takes: u8) -> Turn {
+fn by_next(host: Host<'_>, options: Options, takes: u8) -> Turn {
     let mut word = io::buffer();
-    let length = os::arg(after(options.first) as usize, &mut word);
-    by_word(options, takes, &word[..length])
+    let length = arg(host, after(options.first) as usize, &mut word);
+    by_word(host, options, takes, &word[..length])
 }
 
 // The options behind a command's name, which is the argument at `first`; `takes` are those that it takes.
-pub fn read_options(first: u8, takes: u8) -> Given {
+pub fn read_options(host: Host<'_>, first: u8, takes: u8) -> Given {
     let mut given = Options {
         set: 0,
         names: 0,
@@ -139,7 +139,7 @@ pub fn read_options(first: u8, takes: u8) -> Given {
     };
     let mut turns: u8 = 0;
     while turns < 16 {
-        match by_next(given, takes) {
+        match by_next(host, given, takes) {
             Turn::More(more) => given = more,
             Turn::Done => return Given::Options(given),
             Turn::Wrong => return Given::Wrong,

@@ -2,12 +2,12 @@
 #![tactic(auto)]
 
 use command::status::{DONE, said};
+use files::host::Host;
 use files::standard::error_noted;
-use libc::{STDERR_FILENO, STDOUT_FILENO};
-use words::say;
+use words::{Talk, say};
 
 // The commands that look at one form, and the one that resolves it.
-fn say_of_one(talk: i32) {
+fn say_of_one(talk: Talk<'_>) {
     say(
         talk,
         b"  wnt resolve IN OUT      resolve the form IN, and write OUT whole or not at all\n",
@@ -35,7 +35,7 @@ fn say_of_one(talk: i32) {
 }
 
 // Those that hold one against another.
-fn say_of_two(talk: i32) {
+fn say_of_two(talk: Talk<'_>) {
     say(
         talk,
         b"  wnt sheet FORM RESOLVED SHEET\n                          say what each slot of a binding sheet is bound to\n",
@@ -51,7 +51,7 @@ fn say_of_two(talk: i32) {
 }
 
 // Those that write one.
-fn say_writing(talk: i32) {
+fn say_writing(talk: Talk<'_>) {
     say(
         talk,
         b"  wnt convert FORM VERSION OUT\n                          write the form to OUT as one of version 1 or 2\n",
@@ -83,7 +83,7 @@ fn say_writing(talk: i32) {
 }
 
 // What tells of the program itself.
-fn say_telling(talk: i32) {
+fn say_telling(talk: Talk<'_>) {
     say(talk, b"  wnt help                print this\n");
     say(
         talk,
@@ -92,7 +92,7 @@ fn say_telling(talk: i32) {
     say(talk, b"  wnt --version           print the version\n\n");
 }
 
-fn say_commands(talk: i32) {
+fn say_commands(talk: Talk<'_>) {
     say_of_one(talk);
     say_of_two(talk);
     say_writing(talk);
@@ -100,7 +100,7 @@ fn say_commands(talk: i32) {
 }
 
 // The whole help.
-fn help(talk: i32) {
+fn help(talk: Talk<'_>) {
     say(
         talk,
         b"wnt turns the names of a WebAssembly component into index numbers.\n\n",
@@ -128,27 +128,27 @@ fn help(talk: i32) {
     );
 }
 
-pub fn say_version() -> u8 {
-    let before = error_noted();
-    say(STDOUT_FILENO, b"wnt 0.2.0\n");
-    said(DONE, before)
+pub fn say_version(host: Host<'_>) -> u8 {
+    let before = error_noted(host);
+    say(host.out(), b"wnt 0.2.0\n");
+    said(host, DONE, before)
 }
 
 // Where the first word is no command, or there is none.
-pub fn no_command(word: &[u8]) {
+pub fn no_command(host: Host<'_>, word: &[u8]) {
     if word.len() == 0 {
-        help(STDERR_FILENO);
+        help(host.err());
     } else {
-        say(STDERR_FILENO, word);
+        say(host.err(), word);
         say(
-            STDERR_FILENO,
+            host.err(),
             b" is no command of wnt: wnt help prints those that are\n",
         );
     }
 }
 
-pub fn say_help() -> u8 {
-    let before = error_noted();
-    help(STDOUT_FILENO);
-    said(DONE, before)
+pub fn say_help(host: Host<'_>) -> u8 {
+    let before = error_noted(host);
+    help(host.out());
+    said(host, DONE, before)
 }

@@ -2,6 +2,7 @@
 ghost use Rattle.std.specs.Prelude.{◌≡◌, take};
 ghost use Rattle.files.specs.Loaded.{Fits};
 
+use files::host::Host;
 use files::parts::front;
 use files::read::{Loaded, load_within};
 
@@ -10,10 +11,11 @@ use files::read::{Loaded, load_within};
 const LARGEST: usize = 524288;
 
 // Reads the text of a path into a buffer.
-pub fn load_text(path: &[u8], text: &mut [u8; 524289]) -> Loaded
+pub fn load_text(host: Host<'_>, path: &[u8], text: &mut [u8; 524289]) -> Loaded
     ensures { Fits 524288 result }
 {
     load_within(
+        host,
         path,
         text,
         LARGEST,

@@ -7,7 +7,7 @@ ghost use Rattle.texts.specs.Made.{made};
 use crate::wrong::say_why;
 use text::lines::Why;
 use text::{Parsed, parse};
-use words::say;
+use words::{Talk, say, say_long};
 
 // A form of this many rows; or none, and a sentence has said in which line of the text that lies.
 #[derive(Clone, Copy)]
@@ -16,17 +16,17 @@ pub enum Made {
     Nothing,
 }
 
-fn say_line(fd: i32, path: &[u8], line: usize, why: Why) {
+fn say_line(fd: Talk<'_>, path: &[u8], line: usize, why: Why) {
     say(fd, path);
     say(fd, b": line ");
-    io::print_decimal(fd, line as u64);
+    say_long(fd, line as u64);
     say(fd, b": ");
     say_why(fd, why);
     say(fd, b"\n");
 }
 
 // Makes the form that a text spells. The text's path is for the sentence.
-pub fn make_form(fd: i32, path: &[u8], text: &[u8], out: &mut [u8]) -> Made
+pub fn make_form(fd: Talk<'_>, path: &[u8], text: &[u8], out: &mut [u8]) -> Made
     ensures { (result & out.new) ≡ made (parsed text.now out.old) }
 {
     match parse(text, out) {

@@ -9,14 +9,14 @@ use rows::row::{DECL, FIELD};
 use words::kinds::{say_scope, say_space};
 use words::names::{say_export, say_name_if_any, say_operand};
 use words::rows::{say_field_row, say_outer};
-use words::{say, say_number};
+use words::{Talk, say, say_number};
 
-fn say_next(fd: i32, part: u32) {
+fn say_next(fd: Talk<'_>, part: u32) {
     say(fd, b" ");
     say_number(fd, part);
 }
 
-fn say_parts(fd: i32, row: Parts) {
+fn say_parts(fd: Talk<'_>, row: Parts) {
     say(fd, b"[");
     say_number(fd, row.code as u32);
     say_next(fd, row.b as u32);
@@ -27,7 +27,7 @@ fn say_parts(fd: i32, row: Parts) {
     say(fd, b"]");
 }
 
-fn say_reference(fd: i32, row: Parts) {
+fn say_reference(fd: Talk<'_>, row: Parts) {
     say(fd, b"refers to ");
     say_space(fd, row.b);
     say(fd, b" ");
@@ -39,30 +39,30 @@ fn say_reference(fd: i32, row: Parts) {
 }
 
 // A word, and the name of what may have none.
-fn say_named(fd: i32, word: &[u8], name: u32) {
+fn say_named(fd: Talk<'_>, word: &[u8], name: u32) {
     say(fd, word);
     say_name_if_any(fd, b"", name);
 }
 
-fn say_exported(fd: i32, word: &[u8], name: u32) {
+fn say_exported(fd: Talk<'_>, word: &[u8], name: u32) {
     say(fd, word);
     say_export(fd, b"", name);
 }
 
-fn say_declared(fd: i32, row: Parts) {
+fn say_declared(fd: Talk<'_>, row: Parts) {
     say(fd, b"declares ");
     say_space(fd, row.b);
     say_name_if_any(fd, b"", row.x);
 }
 
-fn say_opened(fd: i32, row: Parts) {
+fn say_opened(fd: Talk<'_>, row: Parts) {
     say(fd, b"open ");
     say_scope(fd, row.b);
     say_name_if_any(fd, b"", row.x);
 }
 
 // What a row of a field says: a reference, a name, a scope.
-fn say_content(fd: i32, row: Parts) {
+fn say_content(fd: Talk<'_>, row: Parts) {
     let code = row.code;
     match code {
         2 => say_declared(fd, row),
@@ -88,7 +88,7 @@ fn is_inserted(row: Parts) -> bool
 }
 
 // What a row says; `next` is the row behind it.
-fn say_row(fd: i32, row: Parts, next: Parts) {
+fn say_row(fd: Talk<'_>, row: Parts, next: Parts) {
     say_parts(fd, row);
     if row.code == FIELD {
         say(fd, b"  ");
@@ -100,7 +100,7 @@ fn say_row(fd: i32, row: Parts, next: Parts) {
     say(fd, b"\n");
 }
 
-fn say_rows(fd: i32, rows: &[u8], count: usize) {
+fn say_rows(fd: Talk<'_>, rows: &[u8], count: usize) {
     let mut i = 0;
     while i < count {
         say_row(fd, parts_at(rows, i), parts_at(rows, i + 1));
@@ -109,7 +109,7 @@ fn say_rows(fd: i32, rows: &[u8], count: usize) {
 }
 
 // Writes the rows behind a form's header as a text.
-pub fn print(fd: i32, form: &[u8]) {
+pub fn print(fd: Talk<'_>, form: &[u8]) {
     say(
         fd,
         b"# [code b e x y z], and what the row says: wnt form makes a form of this text\n",

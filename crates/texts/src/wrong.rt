@@ -1,15 +1,15 @@
 // What is wrong with a line of a text.
 use text::lines::Why;
-use words::say;
+use words::{Talk, say};
 
-fn say_large(fd: i32, part: &[u8], most: &[u8]) {
+fn say_large(fd: Talk<'_>, part: &[u8], most: &[u8]) {
     say(fd, part);
     say(fd, b" is too large: it is at most ");
     say(fd, most);
 }
 
 // In words, as the end of a sentence.
-pub(crate) fn say_why(fd: i32, why: Why) {
+pub(crate) fn say_why(fd: Talk<'_>, why: Why) {
     match why {
         Why::NoRow => say(
             fd,

@@ -7,10 +7,10 @@ use rows::row::REF;
 use words::kinds::say_space;
 use words::names::{say_export, say_operand};
 use words::rows::{say_alias_of, say_found, say_outer};
-use words::say;
+use words::{Talk, say};
 
 // What an alias of an export stands for, where a DECL is that of one: its REF and its EXPORT follow.
-fn say_alias(fd: i32, names: &[u8], form: &[u8], decl: u16) {
+fn say_alias(fd: Talk<'_>, names: &[u8], form: &[u8], decl: u16) {
     let instance = next(decl);
     let export = next(instance);
     if code_at(form, instance) == REF {
@@ -28,7 +28,7 @@ fn say_alias(fd: i32, names: &[u8], form: &[u8], decl: u16) {
 }
 
 // A meaning, or the words for there being none.
-fn say_meaning(fd: i32, names: &[u8], form: &[u8], meaning: Meaning, missing: &[u8]) {
+fn say_meaning(fd: Talk<'_>, names: &[u8], form: &[u8], meaning: Meaning, missing: &[u8]) {
     match meaning {
         Meaning::At {
             row,
@@ -45,7 +45,7 @@ fn say_meaning(fd: i32, names: &[u8], form: &[u8], meaning: Meaning, missing: &[
 
 // Where a number counts to an inserted outer alias: what the reference means in the end.
 fn say_behind(
-    fd: i32,
+    fd: Talk<'_>,
     names: &[u8],
     form: &[u8],
     entries: &[Entry],
@@ -78,7 +78,7 @@ fn say_behind(
 
 // What a REF or an OUTER means, in one or two phrases, each with `before` in front.
 pub(crate) fn say_reading(
-    fd: i32,
+    fd: Talk<'_>,
     names: &[u8],
     form: &[u8],
     entries: &[Entry],
@@ -104,13 +104,13 @@ pub(crate) fn say_reading(
     }
 }
 
-fn say_step(fd: i32, names: &[u8], export: u32) {
+fn say_step(fd: Talk<'_>, names: &[u8], export: u32) {
     say(fd, b" ");
     say_export(fd, names, export);
 }
 
 // The export names of the PATHs behind a REF.
-fn say_path(fd: i32, names: &[u8], form: &[u8], reference: u16) {
+fn say_path(fd: Talk<'_>, names: &[u8], form: &[u8], reference: u16) {
     let rows = rows_in(form);
     let mut row = next(reference);
     while row < rows {
@@ -122,7 +122,7 @@ fn say_path(fd: i32, names: &[u8], form: &[u8], reference: u16) {
     }
 }
 
-fn say_ref(fd: i32, names: &[u8], form: &[u8], row: u16) {
+fn say_ref(fd: Talk<'_>, names: &[u8], form: &[u8], row: u16) {
     say_space(fd, b_at(form, row));
     if y_at(form, row) != 0 {
         say(fd, b", by path");
@@ -138,7 +138,7 @@ fn say_ref(fd: i32, names: &[u8], form: &[u8], row: u16) {
 }
 
 // What a REF or an OUTER names, as it was written.
-pub fn say_reference(fd: i32, names: &[u8], form: &[u8], row: u16) {
+pub fn say_reference(fd: Talk<'_>, names: &[u8], form: &[u8], row: u16) {
     if code_at(form, row) == OUTER {
         say_outer(
             fd,

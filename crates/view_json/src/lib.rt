@@ -4,7 +4,7 @@
 ghost use Rattle.std.specs.Prelude.{◌≡◌, ◌||◌};
 ghost use Rattle.view.specs.Shown.{is_there, any_there};
 
-use json::{say_count, say_null, say_string, say_truth};
+use json_parts::{say_count, say_null, say_string, say_truth};
 use meanings::entries::Entry;
 use meanings::{MOST, final_at, meaning_at, note_meanings, number_at};
 use name_file::find;
@@ -15,9 +15,9 @@ use row_parts::{
 };
 use rows::row::{DECL, OPEN};
 use view::accepted::is_resolved;
-use words::say;
+use words::{Talk, say};
 
-fn say_parts(fd: i32, form: &[u8], row: u16) {
+fn say_parts(fd: Talk<'_>, form: &[u8], row: u16) {
     say_count(fd, b"{\"row\":", row as u32);
     say_count(fd, b",\"code\":", code_at(form, row) as u32);
     say_count(fd, b",\"b\":", b_at(form, row) as u32);
@@ -28,7 +28,7 @@ fn say_parts(fd: i32, form: &[u8], row: u16) {
 }
 
 // The word that the file has for a name, or for an export name.
-pub fn say_word(fd: i32, names: &[u8], number: u32, is_export: bool) {
+pub fn say_word(fd: Talk<'_>, names: &[u8], number: u32, is_export: bool) {
     let word = find(names, number, is_export);
     let from = word.from;
     let to = word.to;
@@ -54,7 +54,7 @@ fn is_naming(form: &[u8], row: u16) -> bool {
 }
 
 // The word for x, where that is a name or an export name.
-fn say_called(fd: i32, names: &[u8], form: &[u8], row: u16) {
+fn say_called(fd: Talk<'_>, names: &[u8], form: &[u8], row: u16) {
     let is_export = is_exporting(code_at(form, row));
     if is_export | is_naming(form, row) {
         say_word(fd, names, x_at(form, row), is_export);
@@ -64,7 +64,7 @@ fn say_called(fd: i32, names: &[u8], form: &[u8], row: u16) {
 }
 
 // The number of a declaration, in its space and its scope.
-fn say_declared(fd: i32, form: &[u8], entries: &[Entry], row: u16) {
+fn say_declared(fd: Talk<'_>, form: &[u8], entries: &[Entry], row: u16) {
     if code_at(form, row) == DECL {
         say_count(fd, b",\"number\":", number_at(form, entries, row));
     } else {
@@ -73,7 +73,7 @@ fn say_declared(fd: i32, form: &[u8], entries: &[Entry], row: u16) {
 }
 
 // The declaration that is meant.
-pub fn say_meaning(fd: i32, key: &[u8], form: &[u8], meaning: Meaning) {
+pub fn say_meaning(fd: Talk<'_>, key: &[u8], form: &[u8], meaning: Meaning) {
     match meaning {
         Meaning::At {
             row,
@@ -92,7 +92,7 @@ pub fn say_meaning(fd: i32, key: &[u8], form: &[u8], meaning: Meaning) {
     }
 }
 
-fn say_how(fd: i32, form: &[u8], row: u16) {
+fn say_how(fd: Talk<'_>, form: &[u8], row: u16) {
     match reading_of(form, row) {
         Reading::Outward => say(fd, b",\"reading\":\"outward\""),
         Reading::LookedUp => say(fd, b",\"reading\":\"looked up\""),
@@ -101,7 +101,7 @@ fn say_how(fd: i32, form: &[u8], row: u16) {
 }
 
 // What a reference means, and what in the end, behind an inserted outer alias.
-fn say_reading(fd: i32, form: &[u8], entries: &[Entry], row: u16) {
+fn say_reading(fd: Talk<'_>, form: &[u8], entries: &[Entry], row: u16) {
     if is_reference(form, row) {
         say_how(fd, form, row);
         say_meaning(fd, b",\"meant\":", form, meaning_at(form, entries, row));
@@ -114,7 +114,7 @@ fn say_reading(fd: i32, form: &[u8], entries: &[Entry], row: u16) {
 }
 
 // Writes a row as an object; what it means is told by its entry.
-fn tell_row(fd: i32, names: &[u8], form: &[u8], entries: &[Entry], row: u16) {
+fn tell_row(fd: Talk<'_>, names: &[u8], form: &[u8], entries: &[Entry], row: u16) {
     say_parts(fd, form, row);
     say_count(fd, b",\"field\":", field_of(form, row) as u32);
     say_truth(
@@ -128,7 +128,7 @@ fn tell_row(fd: i32, names: &[u8], form: &[u8], entries: &[Entry], row: u16) {
     say(fd, b"}\n");
 }
 
-fn tell_noted(fd: i32, names: &[u8], form: &[u8], entries: &[Entry]) {
+fn tell_noted(fd: Talk<'_>, names: &[u8], form: &[u8], entries: &[Entry]) {
     let rows = rows_in(form);
     let mut row: u16 = 0;
     while row < rows {
@@ -138,21 +138,21 @@ fn tell_noted(fd: i32, names: &[u8], form: &[u8], entries: &[Entry]) {
 }
 
 // Writes every row as an object.
-pub fn tell_rows(fd: i32, names: &[u8], form: &[u8]) {
+pub fn tell_rows(fd: Talk<'_>, names: &[u8], form: &[u8]) {
     let mut entries: [Entry; MOST] = [[0; 4]; MOST];
     note_meanings(form, &mut entries);
     tell_noted(fd, names, form, &entries);
 }
 
 // What the resolver answers: a refusal's number and place, or 0 and 0.
-pub fn say_answer(fd: i32, number: u32, place: u32) {
+pub fn say_answer(fd: Talk<'_>, number: u32, place: u32) {
     say_truth(fd, b",\"accepted\":", number == 0);
     say_count(fd, b",\"number\":", number);
     say_count(fd, b",\"place\":", place);
 }
 
 // How many rows and inserted fields a form has.
-pub fn say_size(fd: i32, form: &[u8]) {
+pub fn say_size(fd: Talk<'_>, form: &[u8]) {
     say_count(fd, b",\"rows\":", rows_in(form) as u32);
     say_count(fd, b",\"inserted\":", inserted_in(form));
 }
@@ -166,7 +166,7 @@ fn is_there(form: &[u8], row: u16, place: u32) -> bool
 
 // Writes a row that is a reference with that place, and answers whether this or an earlier row was one.
 fn told(
-    fd: i32,
+    fd: Talk<'_>,
     names: &[u8],
     form: &[u8],
     entries: &[Entry],
@@ -183,7 +183,7 @@ fn told(
     earlier | is_one
 }
 
-fn tell_each(fd: i32, names: &[u8], form: &[u8], entries: &[Entry], place: u32) -> bool
+fn tell_each(fd: Talk<'_>, names: &[u8], form: &[u8], entries: &[Entry], place: u32) -> bool
     ensures { result ≡ any_there form.now place }
 {
     let rows = rows_in(form);
@@ -197,7 +197,7 @@ fn tell_each(fd: i32, names: &[u8], form: &[u8], entries: &[Entry], place: u32) 
 }
 
 // Writes the references with that place as objects, and answers whether there is one.
-pub fn tell_place(fd: i32, names: &[u8], form: &[u8], place: u32) -> bool
+pub fn tell_place(fd: Talk<'_>, names: &[u8], form: &[u8], place: u32) -> bool
     ensures { result ≡ any_there form.now place }
 {
     let mut entries: [Entry; MOST] = [[0; 4]; MOST];
@@ -207,7 +207,7 @@ pub fn tell_place(fd: i32, names: &[u8], form: &[u8], place: u32) -> bool
 
 // Writes what a form is: whether it is resolved already, what the resolver answers to it (a refusal's number and place, or
 // 0 and 0), and how many rows and inserted fields it has.
-pub fn tell_form(fd: i32, form: &[u8], number: u32, place: u32) {
+pub fn tell_form(fd: Talk<'_>, form: &[u8], number: u32, place: u32) {
     say_truth(fd, b"{\"resolved\":", is_resolved(form));
     say_answer(fd, number, place);
     say_size(fd, form);

@@ -1,9 +1,9 @@
 // The entries of the list of what differs, in words. An entry is five numbers of four bytes, its kind, the first row and how
 // many of the left, the same of the right, and then the right's rows of 16 bytes each.
 use form_bytes::word_at;
-use json::say_count;
+use json_parts::say_count;
 use view::show::show_rows;
-use words::{say, say_number};
+use words::{Talk, say, say_number};
 
 // More than a list has bytes, or a form rows: what is taken from a list stays below it, so that no sum can wrap.
 const MOST: u32 = 1048576;
@@ -38,7 +38,7 @@ fn open_before(first: u32) -> u32 {
 }
 
 // The rows of one side.
-fn say_side(fd: i32, names: &[u8], side: &[u8], form: &[u8], first: u32, count: u32) {
+fn say_side(fd: Talk<'_>, names: &[u8], side: &[u8], form: &[u8], first: u32, count: u32) {
     if count == 0 {
         return;
     }
@@ -57,7 +57,7 @@ fn say_side(fd: i32, names: &[u8], side: &[u8], form: &[u8], first: u32, count: 
     );
 }
 
-fn say_kind(fd: i32, kind: u32) {
+fn say_kind(fd: Talk<'_>, kind: u32) {
     match kind {
         OPENING => say(fd, b"the root is opened otherwise\n"),
         LEFT => say(fd, b"a field is in the left alone\n"),
@@ -66,7 +66,7 @@ fn say_kind(fd: i32, kind: u32) {
     }
 }
 
-fn say_entry(fd: i32, names: &[u8], left: &[u8], right: &[u8], list: &[u8], at: u32) {
+fn say_entry(fd: Talk<'_>, names: &[u8], left: &[u8], right: &[u8], list: &[u8], at: u32) {
     say_kind(fd, part_at(list, at, 0));
     say_side(
         fd,
@@ -97,7 +97,7 @@ fn end_in(list: &[u8]) -> u32 {
 }
 
 // Writes the entries of a list in words. There are more turns than a list can have entries.
-pub(crate) fn say_entries(fd: i32, names: &[u8], left: &[u8], right: &[u8], list: &[u8]) {
+pub(crate) fn say_entries(fd: Talk<'_>, names: &[u8], left: &[u8], right: &[u8], list: &[u8]) {
     let end = end_in(list);
     let mut at: u32 = 0;
     let mut turns: u32 = 0;
@@ -111,7 +111,7 @@ pub(crate) fn say_entries(fd: i32, names: &[u8], left: &[u8], right: &[u8], list
     }
 }
 
-fn tell_kind(fd: i32, kind: u32) {
+fn tell_kind(fd: Talk<'_>, kind: u32) {
     match kind {
         OPENING => say(fd, b"{\"kind\":\"opening\""),
         LEFT => say(fd, b"{\"kind\":\"left\""),
@@ -121,7 +121,7 @@ fn tell_kind(fd: i32, kind: u32) {
 }
 
 // An entry as an object of JSON.
-fn tell_entry(fd: i32, list: &[u8], at: u32) {
+fn tell_entry(fd: Talk<'_>, list: &[u8], at: u32) {
     tell_kind(fd, part_at(list, at, 0));
     say_count(fd, b",\"left\":", part_at(list, at, 4));
     say_count(fd, b",\"left_rows\":", part_at(list, at, 8));
@@ -130,7 +130,7 @@ fn tell_entry(fd: i32, list: &[u8], at: u32) {
     say(fd, b"}\n");
 }
 
-pub(crate) fn tell_entries(fd: i32, list: &[u8]) {
+pub(crate) fn tell_entries(fd: Talk<'_>, list: &[u8]) {
     let end = end_in(list);
     let mut at: u32 = 0;
     let mut turns: u32 = 0;

@@ -10,10 +10,10 @@ use whole_form::read::{Form, read_claim};
 use words::kinds::say_space;
 use words::names::say_operand;
 use words::refusals::say_meaning;
-use words::{say, say_number};
+use words::{Talk, say, say_number};
 
 // A row of a form as it is shown, in a line of its own.
-fn say_row(fd: i32, names: &[u8], form: &[u8], row: u16) {
+fn say_row(fd: Talk<'_>, names: &[u8], form: &[u8], row: u16) {
     if row < rows_in(form) {
         show_rows(fd, names, form, row, next(row), 0);
     } else {
@@ -23,7 +23,7 @@ fn say_row(fd: i32, names: &[u8], form: &[u8], row: u16) {
 
 // ---- condition 1
 
-fn say_no_form(fd: i32, number: u32) {
+fn say_no_form(fd: Talk<'_>, number: u32) {
     match number {
         1 => say(fd, b"its header is not that of the form"),
         2 => say(
@@ -34,7 +34,7 @@ fn say_no_form(fd: i32, number: u32) {
     }
 }
 
-fn say_first(fd: i32, claim: &[u8]) {
+fn say_first(fd: Talk<'_>, claim: &[u8]) {
     match read_claim(claim, 0) {
         Form::Whole(_) => say(fd, b"it is a form"),
         Form::Refused(refusal) => say_no_form(fd, refusal.number),
@@ -44,7 +44,7 @@ fn say_first(fd: i32, claim: &[u8]) {
 
 // ---- condition 2
 
-fn say_second(fd: i32, names: &[u8], form: &[u8], claim: &[u8], row: u16) {
+fn say_second(fd: Talk<'_>, names: &[u8], form: &[u8], claim: &[u8], row: u16) {
     if code_at(claim, row) == PATH {
         say(fd, b"a PATH row is left\n");
         say_row(fd, names, claim, row);
@@ -61,7 +61,7 @@ fn say_second(fd: i32, names: &[u8], form: &[u8], claim: &[u8], row: u16) {
 
 // ---- condition 3
 
-fn say_third(fd: i32, names: &[u8], claim: &[u8], row: u16) {
+fn say_third(fd: Talk<'_>, names: &[u8], claim: &[u8], row: u16) {
     match code_at(claim, row) {
         FIELD => say(fd, b"an added field is no alias\n"),
         DECL => say(
@@ -76,7 +76,7 @@ fn say_third(fd: i32, names: &[u8], claim: &[u8], row: u16) {
 // ---- condition 4
 
 // The declaration that is meant, as the claim numbers it.
-fn say_declared(fd: i32, form: &[u8], claim: &[u8], decl: u16, out: u32) {
+fn say_declared(fd: Talk<'_>, form: &[u8], claim: &[u8], decl: u16, out: u32) {
     let row = claim_row(form, claim, decl);
     say_space(fd, b_at(form, decl));
     say(fd, b" ");
@@ -89,7 +89,7 @@ fn say_declared(fd: i32, form: &[u8], claim: &[u8], decl: u16, out: u32) {
     }
 }
 
-fn say_meant(fd: i32, form: &[u8], claim: &[u8], row: u16) {
+fn say_meant(fd: Talk<'_>, form: &[u8], claim: &[u8], row: u16) {
     match meaning_of(form, row) {
         Meaning::At {
             row: decl,
@@ -102,7 +102,7 @@ fn say_meant(fd: i32, form: &[u8], claim: &[u8], row: u16) {
 }
 
 // What a name of the form means: of a path, where it begins.
-fn say_name(fd: i32, names: &[u8], form: &[u8], claim: &[u8], row: u16) {
+fn say_name(fd: Talk<'_>, names: &[u8], form: &[u8], claim: &[u8], row: u16) {
     say(fd, b"the name ");
     if code_at(form, row) == OUTER {
         say_reference(fd, names, form, row);
@@ -121,7 +121,7 @@ fn say_name(fd: i32, names: &[u8], form: &[u8], claim: &[u8], row: u16) {
     }
 }
 
-fn say_fourth(fd: i32, names: &[u8], form: &[u8], claim: &[u8], row: u16) {
+fn say_fourth(fd: Talk<'_>, names: &[u8], form: &[u8], claim: &[u8], row: u16) {
     let own = row_of(form, claim, row);
     say(fd, b"row ");
     say_number(fd, row as u32);
@@ -138,7 +138,14 @@ fn say_fourth(fd: i32, names: &[u8], form: &[u8], claim: &[u8], row: u16) {
 }
 
 // Writes a no: the condition, the row, and why.
-pub(crate) fn say_no(fd: i32, names: &[u8], form: &[u8], claim: &[u8], condition: u32, row: u32) {
+pub(crate) fn say_no(
+    fd: Talk<'_>,
+    names: &[u8],
+    form: &[u8],
+    claim: &[u8],
+    condition: u32,
+    row: u32,
+) {
     let at = (row % 65536) as u16;
     say(fd, b"no, by condition ");
     say_number(fd, condition);
