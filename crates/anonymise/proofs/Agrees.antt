@@ -21,8 +21,8 @@ use Rattle.rules.specs.Tree.{Scope, flatten, RowsRead, bad, deep, form}
 use Rattle.rules.specs.Begins.{IsForm, Right}
 use Rattle.rules.specs.Reader.{read}
 use Rattle.rules.specs.Answer.{AnswerOf, refused, accepted, map_answer, has_header, setting_of, row_count, rows_of, rows_in}
-use Rattle.rules.specs.Laws.Read.ReadRight.{read_right}
-use Rattle.rules.specs.Laws.Read.BeginsWritten.{rows_length}
+use Rattle.rules.proofs.Laws.Read.ReadRight.{read_right}
+use Rattle.rules.proofs.Laws.Read.BeginsWritten.{rows_length}
 use Rattle.renaming.specs.Renaming.{renamed_index, renamed_row, renamed_part, renamed_rows, renamed, renamed_in, renamed_for, renamed_bytes, names_of, firsts, place_of}
 use Rattle.renaming.specs.Anonymous.{key_in, after_reading, anonymous_in, anonymous_for, anonymous, anonymous_after, anonymous_output, over, key_after}
 use Rattle.form.specs.Header.{header_in, header_for, header_of}

@@ -4,7 +4,7 @@ use Rattle.std.proofs.Common.{sym, ap, ap₂, ◌∙◌, arith, add-one, drop-dr
 use mathlib.Core.List.{List, [], ◌∷◌, ◌++◌, append_assoc, append-nil, reverse_aux}
 use Rattle.rules.specs.Rows.{Raw, raw, Row, encode, encode_row}
 use Rattle.rules.specs.Answer.{rows_bytes}
-use Rattle.read_form.specs.Laws.OutputLength.{rows_length}
+use Rattle.read_form.proofs.Laws.OutputLength.{rows_length}
 use Rattle.parts.specs.declared.Parts.{Parts}
 use Rattle.parts.specs.PartsAt.{parts_at}
 use Rattle.matched.specs.Counted.{raw_of}

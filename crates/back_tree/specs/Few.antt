@@ -7,10 +7,10 @@ use Rattle.rules.specs.Versions.{RuleSet}
 use Rattle.rules.specs.Tree.{Declaration, Head, Scope, scope, Fields, end, ◌▸◌, Item, plain, holds, head_of, head_rows, flatten, fields_rows, item_rows}
 use Rattle.rules.specs.Rules.{ok, Env, Outside, at_root, onward, inward, declarations, heads_decls, prepare, resolve_inserted, ◌before◌, resolve_scope, resolve_fields, resolve_item, resolve}
 use Rattle.rules.specs.Laws.Results.{holds_of, bind_inv, ok_same}
-use Rattle.rules.specs.Laws.Meaning.Runs
-use Rattle.rules.specs.Laws.Meaning.Runs.{Ran, ran, ran_end, ran_decls}
-use Rattle.rules.specs.Laws.Output.FourTimes.{inner, item_size, fields_size}
-use Rattle.rules.specs.Laws.Output.Counts.{head_counts, HeadCounts}
+use Rattle.rules.proofs.Laws.Meaning.Runs
+use Rattle.rules.proofs.Laws.Meaning.Runs.{Ran, ran, ran_end, ran_decls}
+use Rattle.rules.proofs.Laws.Output.FourTimes.{inner, item_size, fields_size}
+use Rattle.rules.proofs.Laws.Output.Counts.{head_counts, HeadCounts}
 use Rattle.claim_laws.specs.RowParts.{scope_size}
 use Rattle.names.specs.Table.{Slot}
 use Rattle.back_laws.specs.Entered.{decl_slots, scope_slots, fields_slots, item_slots}

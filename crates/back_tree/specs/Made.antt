@@ -15,12 +15,12 @@ use Rattle.rules.specs.Rules.{ok, ◌>>=◌, Env, Outside, at_root, onward, inwa
 use Rattle.rules.specs.Laws.ToolLaws.{or_cases, or-false, eqb-true}
 use Rattle.rules.specs.Laws.Results.{bind_inv, ok_same}
 use Rattle.rules.specs.Laws.Meaning.Names.{LowDecls, LowHead, LowScope, LowFields, LowItem}
-use Rattle.rules.specs.Laws.Meaning.Runs.{Ran, ran, ran_end, ran_decls}
-use Rattle.rules.specs.Laws.Output.Well.{own_good}
-use Rattle.unresolving.specs.Laws.Shaped.{AllMay}
-use Rattle.unresolving.specs.Laws.Tables.{MayPath, head_may}
-use Rattle.unresolving.specs.Laws.Aliases.{path_alias, Alias, outward, exported, Aliases}
-use Rattle.unresolving.specs.Laws.Divided.{divided}
+use Rattle.rules.proofs.Laws.Meaning.Runs.{Ran, ran, ran_end, ran_decls}
+use Rattle.rules.proofs.Laws.Output.Well.{own_good}
+use Rattle.unresolving.proofs.Laws.Shaped.{AllMay}
+use Rattle.unresolving.proofs.Laws.Tables.{MayPath, head_may}
+use Rattle.unresolving.proofs.Laws.Aliases.{path_alias, Alias, outward, exported, Aliases}
+use Rattle.unresolving.proofs.Laws.Divided.{divided}
 
 -- ---- what is said
 

@@ -17,7 +17,7 @@ use Rattle.rules.specs.Rules.{find, fresh, outer_alias, export_alias}
 use Rattle.rules.specs.Laws.Meaning.Names.{LowDecls}
 use Rattle.rules.specs.Laws.ToolLaws.{eqb_same}
 use Rattle.unresolving.specs.Back.{is_number, names_in}
-use Rattle.unresolving.specs.Laws.Aliases.{code_of, from_of, path_alias}
+use Rattle.unresolving.proofs.Laws.Aliases.{code_of, from_of, path_alias}
 use Rattle.claim_laws.specs.RowParts.{as_parts}
 use Rattle.names.specs.Table.{Slot}
 use Rattle.back_notes.specs.Note.{Note, note, no_note, Noted}

@@ -17,7 +17,7 @@ use Rattle.rules.specs.Tree.{Declaration, Head, Scope, scope, Fields, end, ◌�
 use Rattle.rules.specs.Good.{height, GoodScope}
 use Rattle.rules.specs.Answer.{rows_bytes}
 use Rattle.rules.specs.Laws.ToolLaws.{All, done, ◌&◌ as ◌also◌, all_append}
-use Rattle.rules.specs.Laws.Output.Numbers.{NumberedScope}
+use Rattle.rules.proofs.Laws.Output.Numbers.{NumberedScope}
 use Rattle.unresolving.specs.Back.{names_in, unresolve_scope, unresolve}
 use Rattle.parts.specs.PartsAt.{parts_at}
 use Rattle.parts.specs.declared.Parts.{Parts}

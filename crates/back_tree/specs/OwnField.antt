@@ -11,7 +11,7 @@ use Rattle.rules.specs.Rows.{Num, Id, Row, Field, Decl, Ref, Outer, Case, Export
 use Rattle.rules.specs.Tree.{Declaration, Operand, ref, outer, case, Head, with_operands, decl_rows, path_rows, operand_row, operand_rows, export_rows, head_rows}
 use Rattle.rules.specs.Laws.ToolLaws.{All, done, ◌&◌ as ◌also◌}
 use Rattle.rules.specs.Laws.Meaning.Names.{LowDecls}
-use Rattle.rules.specs.Laws.Output.Numbers.{Numbered, AllNumbered}
+use Rattle.rules.proofs.Laws.Output.Numbers.{Numbered, AllNumbered}
 use Rattle.unresolving.specs.Back.{groups, first_fit, restored, restored_head}
 use Rattle.claim_laws.specs.RowParts.{as_parts, code_in}
 use Rattle.names.specs.Table.{Slot}

@@ -15,11 +15,11 @@ use Rattle.rules.specs.Rules.{declarations, outer_alias, export_alias, fresh}
 use Rattle.rules.specs.Readings.{is_fresh, any_fresh, is_inserted}
 use Rattle.rules.specs.Laws.ToolLaws.{leb-true, or-true, or_cases}
 use Rattle.rules.specs.Laws.Meaning.Names.{LowDecls}
-use Rattle.rules.specs.Laws.Meaning.Lookups.{low_original}
-use Rattle.rules.specs.Laws.Output.Numbers.{AllNumbered, NumberedScope, NumberedFields, NumberedItem}
+use Rattle.rules.proofs.Laws.Meaning.Lookups.{low_original}
+use Rattle.rules.proofs.Laws.Output.Numbers.{AllNumbered, NumberedScope, NumberedFields, NumberedItem}
 use Rattle.unresolving.specs.Back.{restored_head, unresolve_scope, unresolve_fields, unresolve_item}
-use Rattle.unresolving.specs.Laws.Aliases.{path_alias}
-use Rattle.unresolving.specs.Laws.Returns.{unresolve_own, unresolve_inserted}
+use Rattle.unresolving.proofs.Laws.Aliases.{path_alias}
+use Rattle.unresolving.proofs.Laws.Returns.{unresolve_own, unresolve_inserted}
 use Rattle.claim_laws.specs.RowParts.{as_parts, code_in, scope_size, fields_size}
 use Rattle.claim_laws.specs.AliasShape.{AliasOf, of_export, of_outer, alias_of_lem}
 use Rattle.names.specs.Table.{Slot}

@@ -12,9 +12,9 @@ use Rattle.rules.specs.Versions.{Setting}
 use Rattle.rules.specs.Rows.{bytes}
 use Rattle.rules.specs.Rules.{Env}
 use Rattle.rules.specs.Answer.{output_inside}
-use Rattle.rules.specs.Laws.Output.OutBytes.{bytes_length}
-use Rattle.rules.specs.Laws.InputLaws.{Usual}
-use Rattle.read_form.specs.Laws.OutputLength.{output_length}
+use Rattle.rules.proofs.Laws.Output.OutBytes.{bytes_length}
+use Rattle.rules.proofs.Laws.InputLaws.{Usual}
+use Rattle.read_form.proofs.Laws.OutputLength.{output_length}
 use Rattle.batching.specs.Batch.{inside_answer, inside_output, member_answers, member_outputs}
 use Rattle.batching.specs.BatchBytes.{packed, answers_bytes}
 

@@ -18,12 +18,12 @@ use Rattle.rules.specs.Rows.{bytes}
 use Rattle.rules.specs.Tree.{Scope}
 use Rattle.rules.specs.Answer.{answer, output}
 use Rattle.rules.specs.Laws.ToolLaws.{and_right, leb_le}
-use Rattle.rules.specs.Laws.InputLaws.{Usual}
+use Rattle.rules.proofs.Laws.InputLaws.{Usual}
 use Rattle.limits.specs.Held.{setting}
 use Rattle.batching.specs.Batch.{root_of, prelude_of, inside_answer, inside_output, member_answers, member_outputs, share_of, after_prelude, shares_after, batch_answer, batch_outputs}
 use Rattle.batching.specs.BatchBytes.{cut, packed, answers_bytes, packed_batch, bad_members, few_bytes, Buffers, answers_after, bytes_answer, bytes_buffers}
 use Rattle.batching.specs.BatchCalls.{room_with, batch_call, batch_leaves}
-use Rattle.batching.specs.Laws.BytesLaws.{cut_count, bad_members_lem, few_bytes_lem, good_count, answers_length, members_length, enough}
+use Rattle.batching.proofs.Laws.BytesLaws.{cut_count, bad_members_lem, few_bytes_lem, good_count, answers_length, members_length, enough}
 use Rattle.refusal.specs.declared.Refusal.{Refusal}
 use Rattle.names.specs.Table.{Slot}
 use Rattle.resolver.specs.Meaning.{numbers, Said, meaning, ruled}

@@ -9,12 +9,12 @@ use lib.Seq.{take_all, length-take-le}
 use Rattle.rules.specs.Tools.{if◌then◌else◌, between}
 use Rattle.rules.specs.Versions.{Setting, all}
 use Rattle.rules.specs.Answer.{output, output_inside}
-use Rattle.rules.specs.Laws.InputLaws.{Usual}
-use Rattle.read_form.specs.Laws.OutputLength.{output_length}
+use Rattle.rules.proofs.Laws.InputLaws.{Usual}
+use Rattle.read_form.proofs.Laws.OutputLength.{output_length}
 use Rattle.batching.specs.Batch.{after_prelude, shares_after, batch_answer, batch_outputs}
 use Rattle.batching.specs.BatchBytes.{cut, bad_members, few_bytes, Buffers, answers_after, bytes_answer, bytes_buffers}
 use Rattle.batching.specs.BatchCalls.{room_with, batch_call, batch_leaves}
-use Rattle.batching.specs.Laws.CallLaws.{short_prelude}
+use Rattle.batching.proofs.Laws.CallLaws.{short_prelude}
 use Rattle.limits.specs.Held.{setting}
 use Rattle.names.specs.Table.{Slot}
 use Rattle.resolver_with.specs.Asked.{asked}

@@ -5,5 +5,3 @@ pub mod BatchCalls
 pub mod BatchReadings
 -- Runs that antt computes.
 pub mod BatchRuns
--- What is proved of it.
-pub mod Laws

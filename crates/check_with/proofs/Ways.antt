@@ -21,7 +21,7 @@ use Rattle.rules.specs.Answer.{AnswerOf, refused, accepted, row_count, rows_of}
 use Rattle.rules.specs.Laws.ToolLaws.{and_left, and_right}
 use Rattle.rules.specs.Laws.RowLaws.{Bytes, bytes_drop}
 use Rattle.read_form.specs.ReadForm.{read_form}
-use Rattle.read_form.specs.Laws.ReadFormLaws.{ReadAs, read_exactly}
+use Rattle.read_form.proofs.Laws.ReadFormLaws.{ReadAs, read_exactly}
 use Rattle.clearing.specs.Cleared.{cleared}
 use Rattle.clearing.specs.Laws.{cleared_kept}
 use Rattle.checking.specs.CheckAnswer.{slots_of, links_of}

@@ -17,7 +17,7 @@ use Rattle.rules.specs.Tree.{Scope}
 use Rattle.rules.specs.Answer.{AnswerOf, refused, accepted, has_header, setting_of}
 use Rattle.rules.specs.Laws.ToolLaws.{and_left, and_right}
 use Rattle.read_form.specs.ReadForm.{read_form}
-use Rattle.read_form.specs.Laws.ReadFormLaws.{read_exactly}
+use Rattle.read_form.proofs.Laws.ReadFormLaws.{read_exactly}
 use Rattle.clearing.specs.Cleared.{cleared}
 use Rattle.checking.specs.CheckAnswer.{slots_of, links_of, check_for, check_answer, sized_by, area_for, table_after, index_after}
 use Rattle.refusal.specs.declared.Refusal.{Refusal}

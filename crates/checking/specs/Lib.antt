@@ -3,5 +3,3 @@ pub mod Check
 pub mod CheckAnswer
 -- Runs that antt computes.
 pub mod CheckRuns
--- What is proved of it.
-pub mod Laws

@@ -20,9 +20,9 @@ use Rattle.rules.specs.Rules.{Result, ok, resolve}
 use Rattle.rules.specs.Answer.{AnswerOf, refused, accepted, has_header, setting_of, row_count}
 use Rattle.rules.specs.Laws.ToolLaws.{and_right}
 use Rattle.rules.specs.Laws.RowLaws.{Bytes, bytes_drop}
-use Rattle.rules.specs.Laws.InputLaws.{Usual, all_usual}
+use Rattle.rules.proofs.Laws.InputLaws.{Usual, all_usual}
 use Rattle.read_form.specs.ReadForm.{read_form}
-use Rattle.read_form.specs.Laws.ReadFormLaws.{ReadAs, read_exactly}
+use Rattle.read_form.proofs.Laws.ReadFormLaws.{ReadAs, read_exactly}
 use Rattle.checking.specs.Check
 use Rattle.checking.specs.Check.{Verdict as Ruled, unless, conditions, of_claim, of_steps, of_input, verdict_for, condition2, condition3, condition4}
 use Rattle.clearing.specs.Cleared.{cleared}

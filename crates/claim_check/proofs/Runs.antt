@@ -11,7 +11,7 @@ use Rattle.kit.specs.Pick.{pick}
 use Rattle.names.specs.Table.{Slot}
 use Rattle.rules.specs.Versions.{Setting, as_claimed}
 use Rattle.read_form.specs.ReadForm.{read_form}
-use Rattle.read_form.specs.Laws.ReadFormLaws.{read_exactly}
+use Rattle.read_form.proofs.Laws.ReadFormLaws.{read_exactly}
 use Rattle.refusal.specs.declared.Refusal.{Refusal}
 use Rattle.limits.specs.Held.{limits_of, setting}
 use Rattle.limits.specs.declared.Limits.{Limits}

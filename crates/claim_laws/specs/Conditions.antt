@@ -12,18 +12,18 @@ use Rattle.rules.specs.Rules.{ok, resolve}
 use Rattle.rules.specs.Answer.{accepted, row_count, rows_in}
 use Rattle.rules.specs.Laws.RowLaws.{Bytes, bytes_drop}
 use Rattle.rules.specs.Laws.Results.{no_option}
-use Rattle.rules.specs.Laws.InputLaws.{Usual}
-use Rattle.rules.specs.Laws.Output.Well.{well}
-use Rattle.rules.specs.Laws.Output.Numbers.{numbers}
-use Rattle.rules.specs.Laws.Output.Kept.{kept}
+use Rattle.rules.proofs.Laws.InputLaws.{Usual}
+use Rattle.rules.proofs.Laws.Output.Well.{well}
+use Rattle.rules.proofs.Laws.Output.Numbers.{numbers}
+use Rattle.rules.proofs.Laws.Output.Kept.{kept}
 use Rattle.rules.specs.Laws.Meaning.Names.{LowScope, low_scope}
-use Rattle.rules.specs.Laws.Meaning.ReadNames.{read_low}
+use Rattle.rules.proofs.Laws.Meaning.ReadNames.{read_low}
 use Rattle.read_form.specs.ReadForm.{read_form}
-use Rattle.read_form.specs.Laws.ReadFormLaws.{ReadAs, read_exactly, read_read}
+use Rattle.read_form.proofs.Laws.ReadFormLaws.{ReadAs, read_exactly, read_read}
 use Rattle.checking.specs.Check.{Claimed, scope_claimed, condition2, condition3, condition4}
-use Rattle.checking.specs.Laws.SameFields.{SameFields, same_fields, numbered_scope_bare, scope_length}
-use Rattle.checking.specs.Laws.AddedFields.{AddedScope, scope_added_lem}
-use Rattle.checking.specs.Laws.RowsNamed.{row_2, row_3, row_4, RowIs}
+use Rattle.checking.proofs.Laws.SameFields.{SameFields, same_fields, numbered_scope_bare, scope_length}
+use Rattle.checking.proofs.Laws.AddedFields.{AddedScope, scope_added_lem}
+use Rattle.checking.proofs.Laws.RowsNamed.{row_2, row_3, row_4, RowIs}
 use Rattle.claim_rows.specs.Left.{rows_at}
 use Rattle.claim_rows.specs.Same.{differs_t}
 use Rattle.claim_aliases.specs.Aliases.{try_aliases_t}

@@ -7,9 +7,9 @@ use Rattle.rules.specs.Versions.{RuleSet}
 use Rattle.rules.specs.Tree.{Declaration, Head, Scope, scope, Fields, end, ◌▸◌, Item, plain, holds, head_of, head_rows, flatten, fields_rows, item_rows}
 use Rattle.rules.specs.Good.{GoodHead, GoodScope, GoodFields, GoodItem}
 use Rattle.rules.specs.Readings.{is_inserted}
-use Rattle.rules.specs.Laws.Output.Kept.{blank_head, blank, blank_item, without, without_item}
-use Rattle.checking.specs.Laws.AddedFields.{Added, IsAdded, added_head, AddedScope, AddedFields, AddedItem}
-use Rattle.checking.specs.Laws.Beside.{Beside, stop, skip, both, same_head, same_decls}
+use Rattle.rules.proofs.Laws.Output.Kept.{blank_head, blank, blank_item, without, without_item}
+use Rattle.checking.proofs.Laws.AddedFields.{Added, IsAdded, added_head, AddedScope, AddedFields, AddedItem}
+use Rattle.checking.proofs.Laws.Beside.{Beside, stop, skip, both, same_head, same_decls}
 use Rattle.claim_numbers.specs.Count.{no_counts}
 use Rattle.claim_laws.specs.RowParts.{scope_size, fields_size, holds_size, head_size, head_decls_size, item_size}
 use Rattle.claim_laws.specs.Pairs.{other_kinds, kinds_other, same_inner, beside_scope}

@@ -22,7 +22,7 @@ use Rattle.rules.specs.Laws.ToolLaws.{All, done, ◌&◌, all_append, all_map, O
 use Rattle.agree.specs.Fit.Spaces.{SpacesDecls}
 use Rattle.agree.specs.Fit.GoodSpaces.{head_decls}
 use Rattle.checking.specs.Check.{if_added, reached, not_number}
-use Rattle.checking.specs.Laws.AddedFields.{Added, IsAdded, added_head, AddedScope, AddedFields, AddedItem}
+use Rattle.checking.proofs.Laws.AddedFields.{Added, IsAdded, added_head, AddedScope, AddedFields, AddedItem}
 use Rattle.claim_scopes.specs.Entries.{entry_key_t, slot_t}
 use Rattle.claim_numbers.specs.Count.{no_counts, more_count_t}
 use Rattle.claim_numbers.specs.Enter.{decl_slot}

@@ -9,7 +9,7 @@ use Rattle.rules.specs.Tree.{Head, Scope, scope, Fields, end, ◌▸◌, Item, p
 use Rattle.rules.specs.Good.{height, heights, height_item}
 use Rattle.rules.specs.Readings.{is_inserted}
 use Rattle.rules.specs.Laws.ToolLaws.{All, done, ◌&◌}
-use Rattle.checking.specs.Laws.AddedFields.{IsAdded, AddedScope, AddedFields, AddedItem}
+use Rattle.checking.proofs.Laws.AddedFields.{IsAdded, AddedScope, AddedFields, AddedItem}
 use Rattle.claim_rows.specs.Added.{is_added_t}
 use Rattle.claim_scopes.specs.Open.{open_scope_t, open_closed_t, open_one_t}
 use Rattle.claim_laws.specs.RowParts.{as_parts, all_parts, code_in, NoDecl, behind_field, operands_no_decl, any_fresh_lem, fields_no_decl, scope_no_decl, Inner, inner_behind}

@@ -27,10 +27,10 @@ use Rattle.rules.specs.Readings
 use Rattle.rules.specs.Readings.{is_fresh, is_inserted}
 use Rattle.rules.specs.Laws.ToolLaws.{All, done, ◌&◌ as ◌also◌, all_append, leb_le, leb_lt, and-false, false_not, or_cases, or-false}
 use Rattle.rules.specs.Laws.Results.{no_option}
-use Rattle.rules.specs.Laws.Meaning.Lookups.{has}
-use Rattle.rules.specs.Laws.Meaning.Unknown.{find_has, has_append}
+use Rattle.rules.proofs.Laws.Meaning.Lookups.{has}
+use Rattle.rules.proofs.Laws.Meaning.Unknown.{find_has, has_append}
 use Rattle.checking.specs.Check.{is_number, has_numbers, not_new, not_number, no_alias, scope_added, fields_added, item_added, condition3}
-use Rattle.checking.specs.Laws.AddedFields.{closed}
+use Rattle.checking.proofs.Laws.AddedFields.{closed}
 use Rattle.claim_rows.specs.Added.{any_fresh, is_added_t}
 use Rattle.claim_rows.specs.declared.Tried.{Tried}
 use Rattle.claim_rows.specs.declared.Tried.TheVariants.{Passes, Breaks}

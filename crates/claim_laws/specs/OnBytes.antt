@@ -16,9 +16,9 @@ use Rattle.rules.specs.Tree.{Operand, ref, outer, case, Head, Scope, scope, Fiel
 use Rattle.rules.specs.Answer.{accepted, row_count}
 use Rattle.rules.specs.Laws.ToolLaws.{and_right, get_d_all}
 use Rattle.rules.specs.Laws.RowLaws.{Bytes}
-use Rattle.rules.specs.Laws.Read.BeginsWritten.{rows_length}
+use Rattle.rules.proofs.Laws.Read.BeginsWritten.{rows_length}
 use Rattle.read_form.specs.ReadForm.{read_form}
-use Rattle.read_form.specs.Laws.ReadFormLaws.{ReadAs, read_exactly}
+use Rattle.read_form.proofs.Laws.ReadFormLaws.{ReadAs, read_exactly}
 use Rattle.matched.proofs.Ends.{At}
 use Rattle.diff.proofs.Lists.{at_rows}
 use Rattle.claim_rows.specs.Left.{rows_from, rows_at}

@@ -23,12 +23,12 @@ use Rattle.rules.specs.Readings.{fields_of}
 use Rattle.rules.specs.Laws.RowLaws.{LegalIndex}
 use Rattle.rules.specs.Laws.Entries.{number_is}
 use Rattle.rules.specs.Laws.Meaning.Names.{LowOperand}
-use Rattle.rules.specs.Laws.Output.Kept.{blank_operand}
-use Rattle.rules.specs.Laws.Output.Numbers.{Bare}
-use Rattle.read_form.specs.Laws.Parting.{cons_head}
+use Rattle.rules.proofs.Laws.Output.Kept.{blank_operand}
+use Rattle.rules.proofs.Laws.Output.Numbers.{Bare}
+use Rattle.read_form.proofs.Laws.Parting.{cons_head}
 use Rattle.checking.specs.Check
 use Rattle.checking.specs.Check.{ref_number, found, same, same_pair, through_outer, through_paths, plainly, table, name_right, ref_right, ref_now_right, operand_right}
-use Rattle.checking.specs.Laws.Plainly.{plain_table, never_late}
+use Rattle.checking.proofs.Laws.Plainly.{plain_table, never_late}
 use Rattle.claim_scopes.specs.Open.{open_scope_t, row_in, here_t, open_closed_t}
 use Rattle.claim_scopes.specs.Entries.{look_t}
 use Rattle.claim_scopes.specs.declared.entries.Entry.{Entry}

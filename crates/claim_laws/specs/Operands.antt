@@ -20,13 +20,13 @@ use Rattle.rules.specs.Rules.{Env}
 use Rattle.rules.specs.Readings.{is_inserted}
 use Rattle.rules.specs.Laws.ToolLaws.{All, done, ◌&◌}
 use Rattle.rules.specs.Laws.Meaning.Names.{LowOperand, LowOperands, LowHead, LowScope, LowFields, LowItem}
-use Rattle.rules.specs.Laws.Output.Kept.{blank_operand, blank_head, blank, blank_item, without, without_item}
-use Rattle.rules.specs.Laws.Output.Numbers.{Bare, AllBare}
-use Rattle.read_form.specs.Laws.Parting.{no_cons, cons_head, cons_tail}
+use Rattle.rules.proofs.Laws.Output.Kept.{blank_operand, blank_head, blank, blank_item, without, without_item}
+use Rattle.rules.proofs.Laws.Output.Numbers.{Bare, AllBare}
+use Rattle.read_form.proofs.Laws.Parting.{no_cons, cons_head, cons_tail}
 use Rattle.checking.specs.Check.{is_path, table, operand_right, not_right, head_operands, scope_operands, fields_operands, item_operands, condition4}
-use Rattle.checking.specs.Laws.SameFields.{BareScope, BareFields, BareItem}
-use Rattle.checking.specs.Laws.AddedFields.{IsAdded, AddedScope, AddedFields, AddedItem}
-use Rattle.checking.specs.Laws.Beside.{Beside, stop, skip, both, same_head, same_operands, same_decls, same_export}
+use Rattle.checking.proofs.Laws.SameFields.{BareScope, BareFields, BareItem}
+use Rattle.checking.proofs.Laws.AddedFields.{IsAdded, AddedScope, AddedFields, AddedItem}
+use Rattle.checking.proofs.Laws.Beside.{Beside, stop, skip, both, same_head, same_operands, same_decls, same_export}
 use Rattle.claim_rows.specs.Added.{is_added_t}
 use Rattle.claim_rows.specs.Same.{past_paths, same_next_t}
 use Rattle.claim_rows.specs.declared.Tried.{Tried}

@@ -2,8 +2,8 @@
 use Rattle.std.specs.Prelude.{◌≡◌, ℕ}
 use Rattle.std.proofs.Common.{sym}
 use Rattle.rules.specs.Tree.{Head, Scope, scope, Fields, plain, holds}
-use Rattle.rules.specs.Laws.Output.Kept.{blank, blank_item, without, without_item}
-use Rattle.checking.specs.Laws.Beside.{Beside, beside, same_scope, no_holds, same_inside}
+use Rattle.rules.proofs.Laws.Output.Kept.{blank, blank_item, without, without_item}
+use Rattle.checking.proofs.Laws.Beside.{Beside, beside, same_scope, no_holds, same_inside}
 
 pub other_kinds : {X : Type 0} (h w : Head) (s : Scope) → blank_item (without_item (holds h s)) ≡ blank_item (plain w) → X
 unfolding blank without

@@ -29,7 +29,7 @@ use Rattle.rules.specs.Laws.ToolLaws.{then_then}
 use Rattle.rules.specs.Laws.Results.{no_option}
 use Rattle.checking.specs.Check
 use Rattle.checking.specs.Check.{is_number, has_numbers, not_number, ref_number, first, same, same_pair, reached, through_outer, through_export, through_paths, plainly}
-use Rattle.checking.specs.Laws.Plainly.{plain_table}
+use Rattle.checking.proofs.Laws.Plainly.{plain_table}
 use Rattle.claim_scopes.specs.Open.{open_scope_t, name_in, row_in}
 use Rattle.claim_scopes.specs.Entries.{entry_key_t, entry_of, look_t}
 use Rattle.claim_scopes.specs.declared.entries.Entry.{Entry}

@@ -13,7 +13,7 @@ use Rattle.rules.specs.Good.{GoodScope, GoodFields, GoodItem}
 use Rattle.rules.specs.Readings.{is_inserted}
 use Rattle.rules.specs.Laws.ToolLaws.{All, done, ◌&◌, all_append, all_map}
 use Rattle.checking.specs.Check.{reached}
-use Rattle.checking.specs.Laws.AddedFields.{IsAdded, AddedScope, AddedFields, AddedItem}
+use Rattle.checking.proofs.Laws.AddedFields.{IsAdded, AddedScope, AddedFields, AddedItem}
 use Rattle.claim_scopes.specs.Entries.{entry_key_t, slot_t}
 use Rattle.claim_numbers.specs.Count.{no_counts, more_count_t}
 use Rattle.claim_numbers.specs.Enter.{decl_slot}

@@ -19,7 +19,7 @@ use Rattle.rules.specs.Readings.{is_inserted}
 use Rattle.rules.specs.Laws.ToolLaws.{All, done, ◌&◌, all_append}
 use Rattle.agree.specs.Fit.Spaces.{SpacesDecls}
 use Rattle.agree.specs.Fit.GoodSpaces.{head_decls}
-use Rattle.checking.specs.Laws.AddedFields.{AddedScope}
+use Rattle.checking.proofs.Laws.AddedFields.{AddedScope}
 use Rattle.claim_scopes.specs.Open.{open_scope_t, here_t}
 use Rattle.claim_scopes.specs.Entries.{enter_t}
 use Rattle.claim_numbers.specs.Count.{no_counts, more_count_t, number_in, more_in, less_in, number_before_t, counts_t}

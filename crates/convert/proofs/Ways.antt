@@ -22,14 +22,14 @@ use Rattle.rules.specs.Begins.{Right}
 use Rattle.rules.specs.Reader.{read}
 use Rattle.rules.specs.Answer.{AnswerOf, refused, accepted, map_answer, setting_of, row_count, rows_of, rows_in, header_bytes}
 use Rattle.rules.specs.Laws.ToolLaws.{false_not}
-use Rattle.rules.specs.Laws.Read.ReadRight.{read_right}
-use Rattle.rules.specs.Laws.Read.BeginsWritten.{rows_length}
-use Rattle.rules.specs.Laws.Output.OutBytes.{header_length}
+use Rattle.rules.proofs.Laws.Read.ReadRight.{read_right}
+use Rattle.rules.proofs.Laws.Read.BeginsWritten.{rows_length}
+use Rattle.rules.proofs.Laws.Output.OutBytes.{header_length}
 use Rattle.headers.specs.Laws.Settings.{headed, all_in_force, setting_is}
 use Rattle.read_form.specs.ReadForm.{read_form}
 use Rattle.converting.specs.Convert.{version_of, setting_with, recast, within_scopes, converted_in, converted_for, converted, buffer_after, converted_output, said_by, rows_said}
-use Rattle.converting.specs.Laws.Numbered.{all_coherent}
-use Rattle.converting.specs.Laws.Converter.{recast_header, recast_count, recast_length, other_rules, too_many, limited, refused_alike}
+use Rattle.converting.proofs.Laws.Numbered.{all_coherent}
+use Rattle.converting.proofs.Laws.Converter.{recast_header, recast_count, recast_length, other_rules, too_many, limited, refused_alike}
 use Rattle.refusal.specs.declared.Refusal.{Refusal}
 use Rattle.limits.specs.declared.Limits.{Limits}
 use Rattle.limits.specs.Held.{setting_in, limits_of, setting}

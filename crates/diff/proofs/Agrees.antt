@@ -20,11 +20,11 @@ use Rattle.rules.specs.Tree.{Scope, flatten}
 use Rattle.rules.specs.Answer.{AnswerOf, refused, accepted, map_answer, has_header, setting_of, row_count, rows_bytes, header_bytes, form_bytes}
 use Rattle.rules.specs.Laws.ToolLaws.{done, ◌&◌ as ◌also◌, and_left, and_right}
 use Rattle.rules.specs.Laws.RowLaws.{Bytes}
-use Rattle.rules.specs.Laws.Read.BeginsWritten.{rows_length}
-use Rattle.rules.specs.Laws.Output.OutBytes.{header_length}
+use Rattle.rules.proofs.Laws.Read.BeginsWritten.{rows_length}
+use Rattle.rules.proofs.Laws.Output.OutBytes.{header_length}
 use Rattle.headers.specs.Laws.Settings.{all_in_force, found_in}
 use Rattle.read_form.specs.ReadForm.{◌and_then◌, read_form}
-use Rattle.read_form.specs.Laws.ReadFormLaws.{ReadAs, read_exactly, claimed_header}
+use Rattle.read_form.proofs.Laws.ReadFormLaws.{ReadAs, read_exactly, claimed_header}
 use Rattle.comparing.specs.Compare.{Choice, Entry, differences, both_read, compared, list_bytes, listed, list_after, list_output}
 use Rattle.comparing.specs.Laws.WrittenAgain.{form_bytes_lem}
 use Rattle.refusal.specs.declared.Refusal.{Refusal}

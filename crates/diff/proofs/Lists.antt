@@ -17,7 +17,7 @@ use Rattle.rules.specs.Tree.{Scope, scope, Fields, Item, plain, holds, head_of, 
 use Rattle.rules.specs.Answer.{rows_of, rows_bytes}
 use Rattle.rules.specs.Laws.ToolLaws.{ok_at}
 use Rattle.rules.specs.Laws.RowLaws.{decode_parts}
-use Rattle.read_form.specs.Laws.OutputLength.{rows_length}
+use Rattle.read_form.proofs.Laws.OutputLength.{rows_length}
 use Rattle.comparing.specs.Compare.{Choice, same, Pair, alike, differs, opening, left_only, right_only, differing, items, only_left, only_right, rest, field_pairs, open_pair, form_pairs, Entry, entries, differences, kind_number, entry_bytes, list_bytes}
 use Rattle.comparing.specs.Laws.FieldsFromRows.{items_rows, fields_items}
 use Rattle.rows.proofs.Laws.{value_four}

@@ -13,14 +13,14 @@ use Rattle.rules.specs.Explainer.{items, renumbered}
 use Rattle.rules.specs.Laws.ToolLaws.{or-true}
 use Rattle.rules.specs.Laws.Results.{some_same, no_option}
 use Rattle.rules.specs.Laws.Meaning.Names.{LowHead, LowFields, LowItem}
-use Rattle.rules.specs.Laws.Meaning.Lookups as lookups
-use Rattle.rules.specs.Laws.Meaning.Lookups.{has}
-use Rattle.rules.specs.Laws.Meaning.Runs as runs
-use Rattle.rules.specs.Laws.Meaning.Runs.{seeing, AllNew, Ran, ran, ran_end}
-use Rattle.rules.specs.Laws.Meaning.Agree as readings
-use Rattle.rules.specs.Laws.Meaning.Origins.{In, first, behind}
-use Rattle.rules.specs.Laws.Meaning.Unknown.{has_append}
-use Rattle.rules.specs.Laws.Meaning.Early.{firsts}
+use Rattle.rules.proofs.Laws.Meaning.Lookups as lookups
+use Rattle.rules.proofs.Laws.Meaning.Lookups.{has}
+use Rattle.rules.proofs.Laws.Meaning.Runs as runs
+use Rattle.rules.proofs.Laws.Meaning.Runs.{seeing, AllNew, Ran, ran, ran_end}
+use Rattle.rules.proofs.Laws.Meaning.Agree as readings
+use Rattle.rules.proofs.Laws.Meaning.Origins.{In, first, behind}
+use Rattle.rules.proofs.Laws.Meaning.Unknown.{has_append}
+use Rattle.rules.proofs.Laws.Meaning.Early.{firsts}
 
 -- ---- inserted fields, the field that they stand before, and the fields behind it
 

@@ -13,9 +13,9 @@ use Rattle.rules.specs.Rules.{find, declarations}
 use Rattle.rules.specs.Explainer.{Definition, definitions, index_space}
 use Rattle.rules.specs.Laws.ToolLaws.{false_not}
 use Rattle.rules.specs.Laws.Results.{no_option, some_same}
-use Rattle.rules.specs.Laws.Meaning.Lookups.{has}
-use Rattle.rules.specs.Laws.Meaning.Unknown.{has_append}
-use Rattle.rules.specs.Laws.Meaning.Early.{firsts}
+use Rattle.rules.proofs.Laws.Meaning.Lookups.{has}
+use Rattle.rules.proofs.Laws.Meaning.Unknown.{has_append}
+use Rattle.rules.proofs.Laws.Meaning.Early.{firsts}
 
 -- the entry `n` is a definition of the component at the end of `way`, in a field below `bound`
 abbrev pub EntryBelow : (way : List ℕ) (bound : ℕ) → List Definition → ℕ → Type 0

@@ -59,7 +59,7 @@ use Rattle.resolver_with.specs.Areas.{slots_for}
 use Rattle.resolver_with.proofs.Runs.{able_at}
 use Rattle.member_laws.specs.Within.{inner, one_open, walk_inside}
 use Rattle.member_laws.specs.RootEntered.{Around, root_come, root_entered}
-use Rattle.member_laws.specs.Inside.{inside_early, inside_stays, inside_agrees_all}
+use Rattle.member_laws.proofs.Inside.{inside_early, inside_stays, inside_agrees_all}
 use Rattle.inside.specs.Areas.{both_for, Suits}
 use Rattle.inside.specs.Run.{walk_behind, walk_around, RootIn, Resolves}
 

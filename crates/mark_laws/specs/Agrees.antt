@@ -23,8 +23,8 @@ use Rattle.rules.specs.Readings.{fields_of}
 use Rattle.rules.specs.Laws.ToolLaws
 use Rattle.rules.specs.Laws.ToolLaws.{All, done, all_map, false_not}
 use Rattle.rules.specs.Laws.RowLaws.{Bytes, bytes_drop}
-use Rattle.rules.specs.Laws.Output.FourTimes.{inner, fields_size, head_length}
-use Rattle.rules.specs.Laws.Output.Counts.{own, deep, rows_split, scope_split}
+use Rattle.rules.proofs.Laws.Output.FourTimes.{inner, fields_size, head_length}
+use Rattle.rules.proofs.Laws.Output.Counts.{own, deep, rows_split, scope_split}
 use Rattle.sharing.specs.Sharing.{Served, served_by, Marked, mark_head, insertions, mark_scope, mark_fields, mark_item, mark}
 use Rattle.rows.proofs.Runs.{rows_count, encode_again}
 use Rattle.put.specs.Put.{copy_row}
@@ -34,7 +34,7 @@ use Rattle.matched.specs.Counted.{raw_of}
 use Rattle.matched.proofs.Ends.{At, at_first, at_second}
 use Rattle.diff.proofs.Lists.{at_rows}
 use Rattle.form.specs.Ends.{Ends, Inside, EndsIn}
-use Rattle.sharing.specs.Laws.Marks.{like_rows, scope_like}
+use Rattle.sharing.proofs.Laws.Marks.{like_rows, scope_like}
 use Rattle.mark.specs.Visits.{place_at, Visit, visits_t}
 use Rattle.mark.specs.MarkedRows.{enter_then, enter_all, marking, mark_all, Steps, next_of, mark_scope_t, mark_open_t, scopes_then, scopes_t, left_by, copies_t, mark_rows_t}
 use Rattle.mark_laws.specs.Visited.{parts_of, parts_there, own_rows, is_inner, Inner, inner_own, field_row, fields_visits, fields_visits_lem}

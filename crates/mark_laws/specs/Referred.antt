@@ -20,8 +20,8 @@ use Rattle.rules.specs.Rules.{fresh, find, declarations}
 use Rattle.rules.specs.Answer.{rows_bytes}
 use Rattle.rules.specs.Laws.ToolLaws
 use Rattle.rules.specs.Laws.ToolLaws.{All, done, all_append, false_not, length_snoc}
-use Rattle.rules.specs.Laws.Output.FourTimes.{paths_length}
-use Rattle.read_form.specs.Laws.OutputLength.{row_length, rows_length}
+use Rattle.rules.proofs.Laws.Output.FourTimes.{paths_length}
+use Rattle.read_form.proofs.Laws.OutputLength.{row_length, rows_length}
 use Rattle.sharing.specs.Sharing.{Served, served_by, Marked, mark_outer, mark_operand, mark_operands, mark_head, insertions}
 use Rattle.names.specs.Table.{Slot, space_of, name_of, number_of, between, pushed, find_in}
 use Rattle.names.specs.declared.Found.{Found}

@@ -18,7 +18,7 @@ use Rattle.rules.specs.Laws.ToolLaws.{false_not}
 use Rattle.comparing.specs.Compare.{Choice, blur, six_parts, rows_parts, same}
 use Rattle.comparing.specs.Laws.SameRows.{same_equal}
 use Rattle.comparing.specs.Laws.FieldsFromRows.{items_rows}
-use Rattle.comparing.specs.Laws.Backward.{alikes, common, fitting, back_rows, backward}
+use Rattle.comparing.proofs.Laws.Backward.{alikes, common, fitting, back_rows, backward}
 use Rattle.parts.specs.PartsAt.{parts_at}
 use Rattle.matched.specs.declared.fields.Rest.{Rest}
 use Rattle.matched.specs.Counted.{raw_of, same_t}

@@ -14,8 +14,8 @@ use Rattle.rules.specs.Rows.{Row, Close, encode}
 use Rattle.rules.specs.Tree.{Item, item_rows}
 use Rattle.comparing.specs.Compare.{Choice, same, rest, field_pairs, entries}
 use Rattle.comparing.specs.Laws.FieldsFromRows.{items_rows}
-use Rattle.comparing.specs.Laws.Backward.{alikes, common, fitting, back_rows, backward}
-use Rattle.comparing.specs.Laws.Middle as rules
+use Rattle.comparing.proofs.Laws.Backward.{alikes, common, fitting, back_rows, backward}
+use Rattle.comparing.proofs.Laws.Middle as rules
 use Rattle.parts.specs.PartsAt.{parts_at}
 use Rattle.matched.specs.declared.fields.Rest.{Rest}
 use Rattle.matched.specs.Counted.{raw_of, same_t}

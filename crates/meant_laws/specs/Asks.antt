@@ -20,11 +20,11 @@ use Rattle.rules.specs.Laws.Results.{some_same, no_option}
 use Rattle.rules.specs.Laws.Meaning.Names.{LowScope}
 use Rattle.places.specs.PlaceRows.{Floor}
 use Rattle.places.specs.Counting.{levels, elem_map}
-use Rattle.places.specs.RowAt.{all_at}
-use Rattle.places.specs.LocatedAt.{AtItsWay}
+use Rattle.places.proofs.RowAt.{all_at}
+use Rattle.places.proofs.LocatedAt.{AtItsWay}
 use Rattle.moving.specs.Moved.{nearest_named}
 use Rattle.batching.specs.BatchReadings.{Meant, seat, meant_by, out_to, declared_out}
-use Rattle.batching.specs.Laws.Seated.{behind_all, scope_meant_lem, behind_meant, past_meant}
+use Rattle.batching.proofs.Laws.Seated.{behind_all, scope_meant_lem, behind_meant, past_meant}
 use Rattle.row_parts.specs.Parts.{b_at, e_at, x_at, y_at}
 use Rattle.scopes.specs.Scopes.{scope_of, scope_outward}
 use Rattle.scopes.specs.declared.Wanted.{Wanted}

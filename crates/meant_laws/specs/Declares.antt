@@ -14,8 +14,8 @@ use Rattle.rules.specs.Laws.ToolLaws.{All, ◌&◌}
 use Rattle.rules.specs.Laws.Meaning.Names.{LowScope}
 use Rattle.places.specs.PlaceRows.{Floor, floor, floors_at, floors, Located, located, counted_row}
 use Rattle.places.specs.Counting.{standing, located_standings}
-use Rattle.places.specs.RowAt.{all_at}
-use Rattle.places.specs.LocatedAt.{AtItsWay, located_place, all_at_own_way}
+use Rattle.places.proofs.RowAt.{all_at}
+use Rattle.places.proofs.LocatedAt.{AtItsWay, located_place, all_at_own_way}
 use Rattle.scopes.specs.Scopes.{find_in}
 use Rattle.scopes.specs.declared.Key.TheVariants.{Name}
 use Rattle.scopes.specs.declared.Found.TheVariants.{At as FoundAt}

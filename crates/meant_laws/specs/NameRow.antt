@@ -20,11 +20,11 @@ use Rattle.rules.specs.Laws.Results.{no_option}
 use Rattle.rules.specs.Laws.Meaning.Names.{LowScope, LowOperand}
 use Rattle.places.specs.PlaceRows.{Floor, row_of_decl, row_of_operand}
 use Rattle.places.specs.Counting.{levels}
-use Rattle.places.specs.RowAt.{operand_row_of, all_at}
-use Rattle.places.specs.LocatedAt.{AtItsWay, all_at_own_way}
+use Rattle.places.proofs.RowAt.{operand_row_of, all_at}
+use Rattle.places.proofs.LocatedAt.{AtItsWay, all_at_own_way}
 use Rattle.moving.specs.Moved.{names_to, instance_space}
 use Rattle.batching.specs.BatchReadings.{Meant, in_member, in_prelude, seat, meant_by, member_outward, declared_out, name_in, member_means}
-use Rattle.batching.specs.Laws.Seated.{behind_all, outward_meant, scope_meant_lem, means_is, means_walked}
+use Rattle.batching.proofs.Laws.Seated.{behind_all, outward_meant, scope_meant_lem, means_is, means_walked}
 use Rattle.row_parts.specs.Parts.{code_at, b_at, e_at, x_at, y_at, field_of}
 use Rattle.scopes.specs.Scopes.{find_in}
 use Rattle.scopes.specs.declared.Key.TheVariants.{Name}

@@ -14,17 +14,17 @@ use Rattle.rules.specs.Answer
 use Rattle.rules.specs.Answer.{accepted, mark, setting_of, row_count}
 use Rattle.rules.specs.Laws.ToolLaws.{All, done, ◌&◌, ok_at, and_right, leb_le, eqb-true}
 use Rattle.rules.specs.Laws.Results.{some_same, no_option}
-use Rattle.rules.specs.Laws.Read.BeginsWritten.{rows_length}
+use Rattle.rules.proofs.Laws.Read.BeginsWritten.{rows_length}
 use Rattle.rules.specs.Laws.Meaning.Names.{LowScope}
-use Rattle.rules.specs.Laws.InputLaws.{Usual, all_usual, setting_usual, low_read}
+use Rattle.rules.proofs.Laws.InputLaws.{Usual, all_usual, setting_usual, low_read}
 use Rattle.headers.specs.Laws.Settings.{headed}
 use Rattle.read_form.specs.ReadForm.{read_form}
-use Rattle.read_form.specs.Laws.ReadFormLaws.{ReadAs, read_exactly, read_read}
+use Rattle.read_form.proofs.Laws.ReadFormLaws.{ReadAs, read_exactly, read_read}
 use Rattle.places.specs.PlaceRows.{row_of_decl, row_of_operand, decl_at}
-use Rattle.places.specs.RowAt.{decl_row_of, decl_row_lem}
-use Rattle.places.specs.RowsApart.{elem_lt}
+use Rattle.places.proofs.RowAt.{decl_row_of, decl_row_lem}
+use Rattle.places.proofs.RowsApart.{elem_lt}
 use Rattle.batching.specs.BatchReadings.{Meant, in_member, in_prelude, meant_by, member_outward, member_means}
-use Rattle.batching.specs.Laws.Carried.{Carried, counts}
+use Rattle.batching.proofs.Laws.Carried.{Carried, counts}
 use Rattle.readings.specs.Meaning.{reading_of, is_outward}
 use Rattle.reading_laws.specs.Stand.{Is, At, at_elem}
 use Rattle.reading_laws.specs.Meant.{Rows}

@@ -16,13 +16,13 @@ use Rattle.rules.specs.Readings.{fields_of}
 use Rattle.rules.specs.Answer as rules
 use Rattle.rules.specs.Answer.{AnswerOf, refused, accepted, map_answer, has_header, setting_of, row_count, answer, answer_inside, form_in, form_bytes, rows_bytes, header_bytes, output_after, written, output, output_inside}
 use Rattle.rules.specs.Laws.RowLaws.{Bytes}
-use Rattle.rules.specs.Laws.InputLaws.{Accepted, readings}
-use Rattle.rules.specs.Laws.Output.OutBytes.{header_length}
+use Rattle.rules.proofs.Laws.InputLaws.{Accepted, readings}
+use Rattle.rules.proofs.Laws.Output.OutBytes.{header_length}
 use Rattle.read_form.specs.ReadForm.{read_form}
-use Rattle.read_form.specs.Laws.ReadFormLaws.{read_exactly, ours_read}
-use Rattle.read_form.specs.Laws.OutputLength.{rows_length}
+use Rattle.read_form.proofs.Laws.ReadFormLaws.{read_exactly, ours_read}
+use Rattle.read_form.proofs.Laws.OutputLength.{rows_length}
 use Rattle.batching.specs.Batch.{Prelude, root_of, prelude_in, prelude_of}
-use Rattle.batching.specs.Laws.InPrelude.{few_declared}
+use Rattle.batching.proofs.Laws.InPrelude.{few_declared}
 use Rattle.parts.specs.PartsAt.{parts_at}
 use Rattle.parts.specs.declared.Parts.{Parts}
 use Rattle.claim_rows.specs.Left.{rows_at}

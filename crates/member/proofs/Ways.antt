@@ -19,14 +19,14 @@ use Rattle.rules.specs.Rows.{Row}
 use Rattle.rules.specs.Tree.{flatten}
 use Rattle.rules.specs.Answer as rules
 use Rattle.rules.specs.Answer.{AnswerOf, refused, accepted, map_answer, answer, output, output_inside}
-use Rattle.read_form.specs.Laws.OutputLength.{output_length}
+use Rattle.read_form.proofs.Laws.OutputLength.{output_length}
 use Rattle.batching.specs.Batch.{Prelude, root_of, inside_answer, inside_output, prelude_of, member_answer, member_output}
 use Rattle.batching.specs.BatchBytes.{packed}
 use Rattle.clearing.specs.Cleared.{cleared}
 use Rattle.clearing.specs.Laws.{cleared_kept}
 use Rattle.batching.specs.BatchCalls.{room_with}
-use Rattle.batching.specs.Laws.MemberLaws.{prelude_told}
-use Rattle.batching.specs.Laws.CallLaws.{short_prelude}
+use Rattle.batching.proofs.Laws.MemberLaws.{prelude_told}
+use Rattle.batching.proofs.Laws.CallLaws.{short_prelude}
 use Rattle.refusal.specs.declared.Refusal.{Refusal}
 use Rattle.refusal.specs.declared.Told.{Told}
 use Rattle.resolver.specs.Meaning.{Numbers, numbers, Said, meaning, ruled}

@@ -2,4 +2,3 @@
 pub mod RootEntered
 -- The walk inside it, as the code takes it; that it is the rules'.
 pub mod Within
-pub mod Inside

@@ -22,8 +22,8 @@ use Rattle.rules.specs.Begins.{Right}
 use Rattle.rules.specs.Reader.{read}
 use Rattle.rules.specs.Answer.{mark, same_numbers, has_header, row_count, rows_of, rows_in, header_bytes}
 use Rattle.rules.specs.Laws.ToolLaws.{leb_le}
-use Rattle.rules.specs.Laws.Read.ReadRight.{read_right}
-use Rattle.rules.specs.Laws.Output.OutBytes
+use Rattle.rules.proofs.Laws.Read.ReadRight.{read_right}
+use Rattle.rules.proofs.Laws.Output.OutBytes
 use Rattle.headers.specs.Laws.Written.{written_header}
 use Rattle.read_form.specs.ReadForm.{as_answer, read_form}
 use Rattle.limits.specs.declared.Limits.{Limits}
@@ -32,8 +32,8 @@ use Rattle.limits.proofs.Laws.{stand_for}
 use Rattle.reader.specs.ReadTo.{answer_of, read_to}
 use Rattle.mending.specs.Mend
 use Rattle.mending.specs.Mend.{Change, Mending, refused, mended, afters, changes, list_bytes, all_rows, behind_header, header_pieces, form_pieces, sized, mend_in, asks_for, setting_for, mend_for, mend, mend_buffer, buffer_after, list_after}
-use Rattle.mending.specs.Laws.Pieces.{afters_append, same_lists}
-use Rattle.mending.specs.Laws.SoundStays.{three}
+use Rattle.mending.proofs.Laws.Pieces.{afters_append, same_lists}
+use Rattle.mending.proofs.Laws.SoundStays.{three}
 use Rattle.mend_form.specs.Kept.{kept_in}
 use Rattle.mend_form.specs.Filled.{mended_body_t}
 use Rattle.mend_form.specs.declared.Kept.{Kept}

@@ -11,10 +11,10 @@ use borrow.Author.Rules.{rules}
 use Rattle.kit.specs.Pick.{pick}
 use Rattle.kit.proofs.Laws.{tests, left_suc, sets_append}
 use Rattle.rules.specs.Answer.{header_bytes}
-use Rattle.rules.specs.Laws.Output.OutBytes
+use Rattle.rules.proofs.Laws.Output.OutBytes
 use Rattle.limits.specs.declared.Limits.{Limits}
 use Rattle.limits.specs.Held.{setting_in}
-use Rattle.mending.specs.Laws.SoundRows.{take_within}
+use Rattle.mending.proofs.Laws.SoundRows.{take_within}
 use Rattle.mend_form.specs.Filled.{mended_row_t, mended_rows_t, mended_body_t, row_in, from_t}
 use Rattle.mend_form.specs.declared.Kept.{Kept}
 use Rattle.mend_form.proofs.Laws.{body_size}

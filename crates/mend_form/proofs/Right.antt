@@ -13,7 +13,7 @@ use Rattle.kit.proofs.Laws.{tests}
 use Rattle.rules.specs.Tools.{if◌then◌else◌}
 use Rattle.rules.specs.Rows.{value, bytes}
 use Rattle.mending.specs.Mend.{Piece, piece, afters, Fate, stays, fates, fated, parts, row_pieces, closes_root, depth_after, close_rows, all_rows}
-use Rattle.mending.specs.Laws.Pieces.{afters_append}
+use Rattle.mending.proofs.Laws.Pieces.{afters_append}
 use Rattle.mend_form.specs.Kept.{kept, kept_t, kept_in}
 use Rattle.mend_form.specs.Filled.{part_at, stays_t, byte_t, mended_row_t, mended_rows_t, mended_body_t}
 use Rattle.mend_form.specs.declared.Kept.{Kept}

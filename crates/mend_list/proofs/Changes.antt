@@ -20,8 +20,8 @@ use Rattle.rules.specs.Laws.ToolLaws.{All, done, ◌&◌}
 use Rattle.limits.specs.declared.Limits.{Limits}
 use Rattle.limits.specs.Held.{setting_in}
 use Rattle.mending.specs.Mend.{Piece, piece, afters, Change, changes, Fate, stays, zeroed, two_bits, fated, parts, row_pieces, closes_root, depth_after, close_rows, all_rows, behind_header, header_pieces, form_pieces}
-use Rattle.mending.specs.Laws.Pieces.{Stays, lists_same, stays_changes}
-use Rattle.mending.specs.Laws.Undone.{bytes_length}
+use Rattle.mending.proofs.Laws.Pieces.{Stays, lists_same, stays_changes}
+use Rattle.mending.proofs.Laws.Undone.{bytes_length}
 use Rattle.mend_form.specs.Kept.{kept, kept_t, kept_in}
 use Rattle.mend_form.specs.Filled.{mended_row_t, mended_body_t, row_in}
 use Rattle.mend_form.specs.declared.Kept.{Kept}

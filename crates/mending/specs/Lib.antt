@@ -2,5 +2,3 @@
 pub mod Mend
 -- Runs that antt computes.
 pub mod MendRuns
--- What is proved of it.
-pub mod Laws

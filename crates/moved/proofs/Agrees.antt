@@ -24,11 +24,11 @@ use Rattle.rules.specs.Answer
 use Rattle.rules.specs.Answer.{AnswerOf, refused, accepted, map_answer, setting_of, row_count, rows_in, answer, form_in, output, written, output_after}
 use Rattle.rules.specs.Laws.ToolLaws.{and_right, leb_le, or-true, false_not}
 use Rattle.rules.specs.Laws.RowLaws.{Bytes}
-use Rattle.rules.specs.Laws.InputLaws.{AllUsual, Accepted}
+use Rattle.rules.proofs.Laws.InputLaws.{AllUsual, Accepted}
 use Rattle.moving.specs.Moved.{MovedNumber, NoItem}
 use Rattle.moving.specs.MovedAnswer
 use Rattle.moving.specs.MovedAnswer.{WithLists, MovedAnswer, listed, Rooms, too_short, moved_in, moved_answer, plainly, counts, moved_bytes, apart_bytes, moved_after, apart_after, Buffers, rooms_of, buffers_after, buffers_for, buffers}
-use Rattle.moving.specs.Laws.EntryRows.{same_answer}
+use Rattle.moving.proofs.Laws.EntryRows.{same_answer}
 use Rattle.stores.specs.Zeros.{zero_from}
 use Rattle.form.specs.Header.{header_in, header_for}
 use Rattle.form.specs.declared.header.Header.TheVariants.{Rows, Wrong, Count}

@@ -20,7 +20,7 @@ use Rattle.rules.specs.Answer
 use Rattle.rules.specs.Answer.{AnswerOf, refused, accepted, setting_of, has_header, answer, output}
 use Rattle.rules.specs.Laws.ToolLaws.{or-true}
 use Rattle.rules.specs.Laws.Results.{some_same, no_option}
-use Rattle.rules.specs.Laws.InputLaws.{base_usual}
+use Rattle.rules.proofs.Laws.InputLaws.{base_usual}
 use Rattle.moving.specs.MovedAnswer.{MovedAnswer, moved_answer, rooms_of, buffers}
 use Rattle.refusal.specs.declared.Refusal.{Refusal}
 use Rattle.limits.specs.Held.{setting_in}

@@ -15,7 +15,7 @@ use Rattle.rules.specs.Readings.{fields_of}
 use Rattle.rules.specs.Laws.Meaning.Names.{LowScope}
 use Rattle.places.specs.PlaceRows.{Floor, floor}
 use Rattle.moving.specs.Moved.{places_in, places_of, places, MovedNumber, NoItem, moved_at, apart_at, collect, moved, apart}
-use Rattle.moving.specs.Laws.RowOrder.{all_fields}
+use Rattle.moving.proofs.Laws.RowOrder.{all_fields}
 use Rattle.row_parts.specs.Parts.{rows_in}
 use Rattle.scopes.specs.Scopes.{scope_of, scope_above}
 use Rattle.numbers.specs.declared.Entry.{Entry}

@@ -18,14 +18,14 @@ use Rattle.rules.specs.Readings.{Place, Level, use_at, counted, place}
 use Rattle.rules.specs.Laws.ToolLaws.{All, done, ◌&◌, then_some, leb_le, leb_lt}
 use Rattle.rules.specs.Laws.Results.{some_same, no_option}
 use Rattle.rules.specs.Laws.Meaning.Names.{LowScope, low_scope}
-use Rattle.rules.specs.Laws.Output.Kept.{AliasesFields, kept}
+use Rattle.rules.proofs.Laws.Output.Kept.{AliasesFields, kept}
 use Rattle.places.specs.PlaceRows.{Floor, floor, floors, floors_at, Located, counted_row, row_of_operand}
 use Rattle.places.specs.Counting.{spot_of, counted_row_lem}
-use Rattle.places.specs.RowAt.{all_at, operand_row_of}
+use Rattle.places.proofs.RowAt.{all_at, operand_row_of}
 use Rattle.moving.specs.Moved
 use Rattle.moving.specs.Moved.{names_to, nearest_named, Written, instance_space, written, written_at, counted_in, Denoted, denoted, same_place, MovedNumber, NoItem, moved_at, apart_at, if_any}
-use Rattle.moving.specs.Laws.Lists.{Same, NoneInFields, same_scope, floor_level, level_floor, item_after, none_around, map_some}
-use Rattle.moving.specs.Laws.EveryNumber.{low_none, fields_none}
+use Rattle.moving.proofs.Laws.Lists.{Same, NoneInFields, same_scope, floor_level, level_floor, item_after, none_around, map_some}
+use Rattle.moving.proofs.Laws.EveryNumber.{low_none, fields_none}
 use Rattle.row_parts.specs.Parts.{code_at, b_at, e_at, x_at, y_at, z_at}
 use Rattle.scopes.specs.Scopes.{scope_of, find_in, scope_outward}
 use Rattle.readings.specs.Meaning.{space_sought, outer_wanted}

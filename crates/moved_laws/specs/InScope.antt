@@ -15,11 +15,11 @@ use Rattle.rules.specs.Readings
 use Rattle.rules.specs.Readings.{is_fresh, any_fresh, is_inserted, Spot, original, inserted, Standing, in_original, in_inserted, standings, place, fields_of}
 use Rattle.rules.specs.Laws.ToolLaws.{All, done, ◌&◌, all_append}
 use Rattle.rules.specs.Laws.Results.{some_same, no_option}
-use Rattle.rules.specs.Laws.Output.Kept.{IsAlias, AliasesScope, AliasesFields, AliasesItem}
+use Rattle.rules.proofs.Laws.Output.Kept.{IsAlias, AliasesScope, AliasesFields, AliasesItem}
 use Rattle.places.specs.PlaceRows.{Floor, floors_at, Located, located, located_of, counted_row}
 use Rattle.places.specs.Counting.{elem_map, standing, located_standings}
 use Rattle.moving.specs.Moved.{same_place}
-use Rattle.moving.specs.Laws.Lists.{Same, NoneInFields}
+use Rattle.moving.proofs.Laws.Lists.{Same, NoneInFields}
 use Rattle.scopes.specs.Scopes.{find_in}
 use Rattle.scopes.specs.declared.Key.TheVariants.{Number, Inserted}
 use Rattle.scopes.specs.declared.Found.TheVariants.{At as FoundAt, Nothing}

@@ -8,8 +8,8 @@ use Rattle.rules.specs.Tree.{Head, Scope, scope, Fields, end, ◌▸◌, Item, p
 use Rattle.rules.specs.Rules.{ok, resolve}
 use Rattle.rules.specs.Readings.{is_inserted, fields_of}
 use Rattle.rules.specs.Laws.Meaning.Names.{LowScope, low_scope, DeclScope, DeclFields, DeclItem}
-use Rattle.rules.specs.Laws.Meaning.Lookups.{low_original}
-use Rattle.rules.specs.Laws.Output.Kept.{blank, blank_fields, blank_item, without, without_fields, without_item, IsAlias, AliasesScope, AliasesFields, AliasesItem, kept}
+use Rattle.rules.proofs.Laws.Meaning.Lookups.{low_original}
+use Rattle.rules.proofs.Laws.Output.Kept.{blank, blank_fields, blank_item, without, without_fields, without_item, IsAlias, AliasesScope, AliasesFields, AliasesItem, kept}
 
 mutual
   pub data PairedFields : Fields → Fields → Type 0 where

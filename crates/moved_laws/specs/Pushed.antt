@@ -16,11 +16,11 @@ use Rattle.rules.specs.Answer.{same_numbers}
 use Rattle.rules.specs.Readings.{is_fresh, any_fresh, is_inserted, Level, Spot, original, inserted, Standing, in_original, in_inserted, standings, place}
 use Rattle.rules.specs.Laws.ToolLaws.{All, done, ◌&◌, all_append, false_not, eqb-false, and-false, leb-true}
 use Rattle.rules.specs.Laws.Results.{some_same, no_option}
-use Rattle.rules.specs.Laws.Output.Kept.{IsAlias, AliasesFields}
+use Rattle.rules.proofs.Laws.Output.Kept.{IsAlias, AliasesFields}
 use Rattle.places.specs.PlaceRows.{Located, located_of}
 use Rattle.places.specs.Counting.{standing}
 use Rattle.moving.specs.Moved.{same_place}
-use Rattle.moving.specs.Laws.Lists.{Kin, nothing_left, stays, comes, NoneInFields, place_same}
+use Rattle.moving.proofs.Laws.Lists.{Kin, nothing_left, stays, comes, NoneInFields, place_same}
 use Rattle.scopes.specs.declared.Key.TheVariants.{Inserted}
 use Rattle.scopes.specs.declared.Found.{Found}
 use Rattle.scopes.specs.declared.Found.TheVariants.{At as FoundAt, Nothing}

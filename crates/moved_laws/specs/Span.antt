@@ -13,7 +13,7 @@ use Rattle.rules.specs.Rows.{Row, Field, encode}
 use Rattle.rules.specs.Tree.{Declaration, Operand, ref, outer, case, decl_rows, path_rows, operand_row, operand_rows, export_rows}
 use Rattle.rules.specs.Laws.ToolLaws.{All, done, ◌&◌}
 use Rattle.rules.specs.Laws.Results.{some_same, no_option}
-use Rattle.places.specs.RowAt.{operand_row_of}
+use Rattle.places.proofs.RowAt.{operand_row_of}
 use Rattle.moving.specs.Moved.{MovedNumber, NoItem, if_any}
 use Rattle.row_parts.specs.Parts.{code_at, e_at, rows_in}
 use Rattle.numbers.specs.declared.Entry.{Entry}

@@ -19,10 +19,10 @@ use Rattle.rules.specs.Laws.Results.{some_same, no_option}
 use Rattle.rules.specs.Laws.Meaning.Names.{LowScope}
 use Rattle.places.specs.PlaceRows
 use Rattle.places.specs.PlaceRows.{Placed, originals_from, Floor, floor, floors_at, field_at, operand_row_at}
-use Rattle.places.specs.RowAt.{decls_length, operand_row_of}
+use Rattle.places.proofs.RowAt.{decls_length, operand_row_of}
 use Rattle.moving.specs.Moved.{places_at, places_in, places_inside, places_of, MovedNumber, NoItem, moved_at, apart_at, if_any, collect}
-use Rattle.moving.specs.Laws.Lists.{any_append, collect_append}
-use Rattle.moving.specs.Laws.RowOrder.{row_is, operand_on, Rest, place_field, rest_inserted, rest_original, first_is, held_rest}
+use Rattle.moving.proofs.Laws.Lists.{any_append, collect_append}
+use Rattle.moving.proofs.Laws.RowOrder.{row_is, operand_on, Rest, place_field, rest_inserted, rest_original, first_is, held_rest}
 use Rattle.row_parts.specs.Parts.{rows_in}
 use Rattle.scopes.specs.Scopes.{scope_of, scope_above}
 use Rattle.moved_list.specs.Listing.{behind_next}

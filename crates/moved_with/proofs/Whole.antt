@@ -17,7 +17,7 @@ use Rattle.rules.specs.Versions.{Setting, all}
 use Rattle.rules.specs.Rows.{Row}
 use Rattle.rules.specs.Answer.{AnswerOf, refused, accepted, setting_of, answer, output}
 use Rattle.rules.specs.Laws.RowLaws.{Bytes}
-use Rattle.rules.specs.Laws.InputLaws.{all_usual}
+use Rattle.rules.proofs.Laws.InputLaws.{all_usual}
 use Rattle.moving.specs.MovedAnswer.{MovedAnswer, moved_answer, rooms_of, Buffers, buffers}
 use Rattle.limits.specs.Held.{setting}
 use Rattle.refusal.specs.declared.Refusal.{Refusal}

@@ -3,5 +3,3 @@ pub mod Moved
 pub mod MovedAnswer
 -- Runs that antt computes.
 pub mod MovedRuns
--- What is proved of it.
-pub mod Laws

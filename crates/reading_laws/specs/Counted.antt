@@ -19,11 +19,11 @@ use Rattle.rules.specs.Readings.{is_inserted, Place, Level, held, Spot, original
 use Rattle.rules.specs.Laws.ToolLaws.{All, done, ◌&◌, all_append, all_map, eqb-true}
 use Rattle.rules.specs.Laws.Results.{some_same, no_option}
 use Rattle.rules.specs.Laws.Meaning.Names.{LowScope}
-use Rattle.rules.specs.Laws.Output.Numbers.{Numbered, AllNumbered, NumberedScope, NumberedFields, NumberedItem}
+use Rattle.rules.proofs.Laws.Output.Numbers.{Numbered, AllNumbered, NumberedScope, NumberedFields, NumberedItem}
 use Rattle.places.specs.PlaceRows.{Floor, floors_at, operand_at, row_of_decl, row_of_operand, Located, in_rows, located, counted_row}
 use Rattle.places.specs.Counting.{levels, spot_of, elem_map, counted_row_lem, of_space_all}
-use Rattle.places.specs.RowAt.{all_at}
-use Rattle.places.specs.LocatedAt.{AtItsWay, all_at_own_way}
+use Rattle.places.proofs.RowAt.{all_at}
+use Rattle.places.proofs.LocatedAt.{AtItsWay, all_at_own_way}
 use Rattle.readings.specs.Meaning.{final_meaning}
 use Rattle.readings.specs.declared.Meaning.{Meaning}
 use Rattle.reading_laws.specs.Everywhere.{of_original, of_floors}

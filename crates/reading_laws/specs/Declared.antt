@@ -13,9 +13,9 @@ use Rattle.rules.specs.Laws.ToolLaws.{All, done, ◌&◌, all_append, eqb-true}
 use Rattle.rules.specs.Laws.Results.{some_same, no_option}
 use Rattle.places.specs.PlaceRows.{Floor, floors_at, decl_at, row_of_decl, Located, in_rows, located, located_of, counted_row}
 use Rattle.places.specs.Counting.{spot_of, of_space_all}
-use Rattle.places.specs.RowAt.{decl_row_of, all_at, counted_row_is}
-use Rattle.places.specs.RowsApart.{elem_lt}
-use Rattle.places.specs.LocatedAt.{AtItsWay, located_place}
+use Rattle.places.proofs.RowAt.{decl_row_of, all_at, counted_row_is}
+use Rattle.places.proofs.RowsApart.{elem_lt}
+use Rattle.places.proofs.LocatedAt.{AtItsWay, located_place}
 use Rattle.row_parts.specs.Parts.{x_at, rows_in}
 use Rattle.readings.specs.declared.Meaning.{Meaning}
 use Rattle.readings.specs.declared.Meaning.TheVariants.{At as MeantAt, Nowhere}

@@ -10,9 +10,9 @@ use Rattle.rules.specs.Readings.{is_inserted, Place, level, held, root}
 use Rattle.rules.specs.Laws.ToolLaws.{All, done, ◌&◌}
 use Rattle.rules.specs.Laws.Results.{some_same, no_option}
 use Rattle.rules.specs.Laws.Meaning.Names.{LowScope, LowFields, LowItem}
-use Rattle.rules.specs.Laws.Meaning.Lookups.{low_original}
+use Rattle.rules.proofs.Laws.Meaning.Lookups.{low_original}
 use Rattle.places.specs.PlaceRows.{Placed, originals_from, Floor, floor, inside_of, floors, floors_at, field_in, field_at, row_of_operand, operand_row_at}
-use Rattle.places.specs.RowAt.{decls_length, all_at}
+use Rattle.places.proofs.RowAt.{decls_length, all_at}
 use Rattle.reading_laws.specs.Even.{code_of}
 
 -- ---- rows of a field

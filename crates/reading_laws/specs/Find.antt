@@ -17,7 +17,7 @@ use Rattle.rules.specs.Tree.{Declaration, Operand, ref, outer, case, Head, Scope
 use Rattle.rules.specs.Readings.{is_inserted, Standing, in_original, in_inserted}
 use Rattle.rules.specs.Laws.ToolLaws.{All, done, ◌&◌, all_append}
 use Rattle.places.specs.PlaceRows.{Located, in_rows, located}
-use Rattle.places.specs.RowAt.{decls_of, own_decls}
+use Rattle.places.proofs.RowAt.{decls_of, own_decls}
 use Rattle.row_parts.specs.Parts.{code_at, b_at, x_at, rows_in}
 use Rattle.scopes.specs.Scopes.{level_behind, declares, is_meant, find_from, find_in}
 use Rattle.scopes.specs.declared.Key.{Key}

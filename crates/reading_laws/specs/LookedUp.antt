@@ -23,7 +23,7 @@ use Rattle.rules.specs.Readings.{is_inserted, Place, Standing, in_original, in_i
 use Rattle.rules.specs.Laws.Results.{some_same, no_option}
 use Rattle.places.specs.PlaceRows.{Floor, operand_at, row_of_operand, Located, located, located_of, counted_row}
 use Rattle.places.specs.Counting.{map-append, standing, located_standings}
-use Rattle.places.specs.RowAt.{operand_row_of, decls_of, own_decls}
+use Rattle.places.proofs.RowAt.{operand_row_of, decls_of, own_decls}
 use Rattle.row_parts.specs.Parts.{code_at, b_at, e_at, x_at, y_at, field_of}
 use Rattle.scopes.specs.Scopes.{scope_of, is_meant, find_in, scope_outward}
 use Rattle.readings.specs.Meaning.{space_sought, is_walked, reading_of, meant, in_scope, in_outer, key_of, outer_wanted, index_key, through_outer, meaning_of}

@@ -15,12 +15,12 @@ use Rattle.rules.specs.Readings.{Place, held, in_original, walked, walked_at, ou
 use Rattle.rules.specs.Laws.ToolLaws.{All, done, ◌&◌, all_append, all_map}
 use Rattle.rules.specs.Laws.Results.{some_same, no_option}
 use Rattle.rules.specs.Laws.Meaning.Names.{LowHead, LowOperand, LowScope, LowFields, LowItem}
-use Rattle.rules.specs.Laws.Meaning.Lookups.{low_original}
-use Rattle.rules.specs.Laws.Meaning.StepB.{walked_ref, low_operand}
+use Rattle.rules.proofs.Laws.Meaning.Lookups.{low_original}
+use Rattle.rules.proofs.Laws.Meaning.StepB.{walked_ref, low_operand}
 use Rattle.places.specs.PlaceRows.{Floor, floors_at, row_of_decl, row_of_operand, Located, in_rows, located}
 use Rattle.places.specs.Counting.{levels}
-use Rattle.places.specs.RowAt.{operand_row_of}
-use Rattle.places.specs.LocatedAt.{all_at_own_way}
+use Rattle.places.proofs.RowAt.{operand_row_of}
+use Rattle.places.proofs.LocatedAt.{all_at_own_way}
 use Rattle.row_parts.specs.Parts.{code_at, b_at, e_at, x_at, y_at, rows_in, field_of}
 use Rattle.scopes.specs.Scopes.{scope_of}
 use Rattle.readings.specs.Meaning.{space_sought, is_walked, reading_of, outward_for, meaning_of}

@@ -17,10 +17,10 @@ use Rattle.rules.specs.Answer
 use Rattle.rules.specs.Answer.{AnswerOf, refused, accepted, map_answer, answer, answer_in, form_in, output, row_count, rows_in, rows_bytes, form_bytes, written, setting_of}
 use Rattle.rules.specs.Laws.ToolLaws.{Ok, ok_at, eqb-true}
 use Rattle.rules.specs.Laws.RowLaws.{Bytes}
-use Rattle.rules.specs.Laws.Read.BeginsWritten.{rows_length}
-use Rattle.rules.specs.Laws.Read.ReadRight.{read_right}
-use Rattle.rules.specs.Laws.Output.OutBytes.{header_length, out_rows}
-use Rattle.rules.specs.Laws.InputLaws.{AllUsual, Accepted, readings}
+use Rattle.rules.proofs.Laws.Read.BeginsWritten.{rows_length}
+use Rattle.rules.proofs.Laws.Read.ReadRight.{read_right}
+use Rattle.rules.proofs.Laws.Output.OutBytes.{header_length, out_rows}
+use Rattle.rules.proofs.Laws.InputLaws.{AllUsual, Accepted, readings}
 use Rattle.row_parts.specs.Parts as parts
 use Rattle.reading_laws.specs.Stand.{At, rows_stand}
 use Rattle.reading_laws.specs.Meant.{Rows}

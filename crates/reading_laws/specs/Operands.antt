@@ -16,9 +16,9 @@ use Rattle.rules.specs.Readings.{originals, Place, use_in, use_inside, use_at}
 use Rattle.rules.specs.Laws.ToolLaws.{then_some, All, done, ◌&◌, all_append}
 use Rattle.rules.specs.Laws.Results.{some_same, no_option}
 use Rattle.places.specs.PlaceRows.{Placed, originals_from, Floor, floors_at, field_in, field_at, operand_at, row_of_operand, operand_row_at}
-use Rattle.places.specs.LocatedAt.{field_is}
+use Rattle.places.proofs.LocatedAt.{field_is}
 use Rattle.places.specs.Counting.{levels, originals_from_lem, elem_map, floors_at_lem}
-use Rattle.places.specs.RowAt.{decls_length, operand_row_of}
+use Rattle.places.proofs.RowAt.{decls_length, operand_row_of}
 use Rattle.row_parts.specs.Parts.{code_at, b_at, rows_in, field_of}
 use Rattle.scopes.specs.Scopes.{scope_of}
 use Rattle.reading_laws.specs.Stand.{Is, At, code_part, b_part, behind, behind_length, at_left, at_right, at_both}

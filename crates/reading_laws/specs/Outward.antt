@@ -19,8 +19,8 @@ use Rattle.rules.specs.Laws.ToolLaws.{All, ◌&◌, eqb-true, eqb-false, eqb_sam
 use Rattle.rules.specs.Laws.Results.{some_same, no_option}
 use Rattle.places.specs.PlaceRows.{Floor, Located, located, located_of, counted_row, row_of_decl}
 use Rattle.places.specs.Counting.{levels, standing, spot_of, located_standings}
-use Rattle.places.specs.RowAt.{all_at}
-use Rattle.places.specs.LocatedAt.{AtItsWay, located_in, entry_place}
+use Rattle.places.proofs.RowAt.{all_at}
+use Rattle.places.proofs.LocatedAt.{AtItsWay, located_in, entry_place}
 use Rattle.row_parts.specs.Parts.{code_at, x_at}
 use Rattle.scopes.specs.Scopes.{level_above, scope_above, scope_of, is_meant, find_in, declares_name, is_wanted, outward_from, scope_outward}
 use Rattle.readings.specs.Meaning.{meant, in_scope, in_outer}

@@ -17,8 +17,8 @@ use Rattle.rules.specs.Readings.{is_fresh, any_fresh, is_inserted, Place}
 use Rattle.rules.specs.Laws.ToolLaws.{then_some, or_cases, or-true, false_not}
 use Rattle.rules.specs.Laws.Results.{some_same, no_option}
 use Rattle.places.specs.PlaceRows.{Placed, originals_from, Floor, floors_at, field_in, field_at, decl_row, row_of_decl}
-use Rattle.places.specs.RowAt.{all_at}
-use Rattle.places.specs.RowsApart.{elem_lt, decls_apart}
+use Rattle.places.proofs.RowAt.{all_at}
+use Rattle.places.proofs.RowsApart.{elem_lt, decls_apart}
 use Rattle.row_parts.specs.Parts.{field_of}
 use Rattle.readings.specs.declared.Meaning.{Meaning}
 use Rattle.reading_laws.specs.Stand.{At, code_part, x_part, behind_length, at_left, at_right}

@@ -17,7 +17,7 @@ use Rattle.rules.specs.Readings.{originals, Place, Level, Use, use_in, use_insid
 use Rattle.rules.specs.Laws.ToolLaws.{then_some}
 use Rattle.rules.specs.Laws.RowLaws.{Bytes}
 use Rattle.rules.specs.Laws.Results.{some_same, no_option}
-use Rattle.rules.specs.Laws.InputLaws.{base_usual, Accepted}
+use Rattle.rules.proofs.Laws.InputLaws.{base_usual, Accepted}
 use Rattle.places.specs.PlaceRows.{Placed, originals_from, Floor, floors_at, field_in, field_at, row_of_decl, row_of_operand, operand_row_at}
 use Rattle.places.specs.Counting.{levels, originals_from_lem, elem_map, floors_at_lem}
 use Rattle.readings.specs.Meaning.{reading_of, is_outward, meaning_of, final_meaning}

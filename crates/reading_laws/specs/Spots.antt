@@ -19,8 +19,8 @@ use Rattle.rules.specs.Readings.{is_fresh, any_fresh, is_inserted, held, Spot, o
 use Rattle.rules.specs.Laws.ToolLaws.{All, done, ◌&◌, all_append, eqb-true}
 use Rattle.rules.specs.Laws.Results.{some_same, no_option}
 use Rattle.places.specs.PlaceRows.{Floor, floors_at, Located, in_rows, located}
-use Rattle.places.specs.RowAt.{decls_length}
-use Rattle.places.specs.RowsApart.{elem_lt}
+use Rattle.places.proofs.RowAt.{decls_length}
+use Rattle.places.proofs.RowsApart.{elem_lt}
 use Rattle.row_parts.specs.Parts.{code_at}
 use Rattle.scopes.specs.Scopes.{scope_above, scope_of}
 use Rattle.reading_laws.specs.Stand.{At, code_part, behind_length, at_left, at_right}

@@ -14,7 +14,7 @@ use Rattle.rules.specs.Readings.{Place, walked, walked_at}
 use Rattle.rules.specs.Laws.ToolLaws.{and_left, and_right, not-true, eqb-true, false_not}
 use Rattle.rules.specs.Laws.Meaning.Names.{LowScope}
 use Rattle.places.specs.PlaceRows.{row_of_operand}
-use Rattle.places.specs.RowAt.{operand_row_of}
+use Rattle.places.proofs.RowAt.{operand_row_of}
 use Rattle.row_parts.specs.Parts.{start_of, code_at, b_at, e_at, y_at, field_of}
 use Rattle.readings.specs.Meaning.{is_walked, reading_of, is_outward}
 use Rattle.readings.specs.declared.Reading.TheVariants.{Outward, LookedUp, Counting}

@@ -21,7 +21,7 @@ use Rattle.rules.specs.Laws.ToolLaws.{All, ◌&◌, and-false, or-false, eqb-tru
 use Rattle.rules.specs.Laws.Results.{some_same, no_option}
 use Rattle.places.specs.PlaceRows.{Floor, floors_at, operand_at, row_of_operand, Located, counted_row}
 use Rattle.places.specs.Counting.{spot_of, of_space_all}
-use Rattle.places.specs.RowAt.{operand_row_of, decl_row_of, all_at}
+use Rattle.places.proofs.RowAt.{operand_row_of, decl_row_of, all_at}
 use Rattle.row_parts.specs.Parts.{code_at, b_at, e_at, x_at, y_at, next_of}
 use Rattle.row_parts.specs.Parts as parts
 use Rattle.scopes.specs.Scopes.{scope_above, scope_of}

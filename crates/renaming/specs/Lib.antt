@@ -3,5 +3,3 @@ pub mod Renaming
 pub mod Anonymous
 -- Runs that antt computes.
 pub mod RenamingRuns
--- What is proved of it.
-pub mod Laws

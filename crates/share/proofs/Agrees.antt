@@ -20,20 +20,20 @@ use Rattle.rules.specs.Answer as rules
 use Rattle.rules.specs.Answer.{AnswerOf, refused, accepted, map_answer, has_header, setting_of, row_count, rows_of, resolved, answer, rows_bytes, form_bytes, written, output_after, output}
 use Rattle.rules.specs.Laws.RowLaws.{Bytes, bytes_drop}
 use Rattle.rules.specs.Laws.Results.{some_same}
-use Rattle.rules.specs.Laws.InputLaws.{AllUsual, readings}
+use Rattle.rules.proofs.Laws.InputLaws.{AllUsual, readings}
 use Rattle.rules.specs.Laws.Meaning.Names.{LowScope}
-use Rattle.rules.specs.Laws.Meaning.ReadNames.{read_low}
-use Rattle.rules.specs.Laws.Read.ReadRight.{reads_form}
+use Rattle.rules.proofs.Laws.Meaning.ReadNames.{read_low}
+use Rattle.rules.proofs.Laws.Read.ReadRight.{reads_form}
 use Rattle.read_form.specs.ReadForm.{◌and_then◌, read_form}
-use Rattle.read_form.specs.Laws.ReadFormLaws.{no_answer, past, read_exactly, read_written}
-use Rattle.read_form.specs.Laws.OutputLength.{form_length, output_length}
+use Rattle.read_form.proofs.Laws.ReadFormLaws.{no_answer, past, read_exactly, read_written}
+use Rattle.read_form.proofs.Laws.OutputLength.{form_length, output_length}
 use Rattle.checking.specs.Check as checking
 use Rattle.checking.specs.Check.{yes, verdict_for, verdict}
 use Rattle.checking.specs.CheckAnswer.{slots_of, links_of, check_for, check_answer}
 use Rattle.sharing.specs.Sharing.{mark, propose, proposed, shared_after, shared, shared_output}
-use Rattle.sharing.specs.Laws.SharedAccepted.{shared_four, shared_refuses}
-use Rattle.sharing.specs.Laws.SharedAnswer.{Planned, planned}
-use Rattle.sharing.specs.Laws.SharedBuffer.{refused_buffer, planned_buffer}
+use Rattle.sharing.proofs.Laws.SharedAccepted.{shared_four, shared_refuses}
+use Rattle.sharing.proofs.Laws.SharedAnswer.{Planned, planned}
+use Rattle.sharing.proofs.Laws.SharedBuffer.{refused_buffer, planned_buffer}
 use Rattle.form.specs.MarkEnds.{ends_to}
 use Rattle.form.proofs.EndsStorey.{ends_to_right}
 use Rattle.names.specs.Table.{Slot}

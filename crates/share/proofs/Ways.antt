@@ -18,12 +18,12 @@ use Rattle.rules.specs.Tree.{flatten}
 use Rattle.rules.specs.Answer as rules
 use Rattle.rules.specs.Answer.{refused, accepted, answer, rows_bytes, output}
 use Rattle.rules.specs.Laws.RowLaws.{Bytes}
-use Rattle.rules.specs.Laws.InputLaws.{base_usual}
-use Rattle.read_form.specs.Laws.OutputLength.{output_length}
+use Rattle.rules.proofs.Laws.InputLaws.{base_usual}
+use Rattle.read_form.proofs.Laws.OutputLength.{output_length}
 use Rattle.clearing.specs.Cleared.{cleared}
 use Rattle.checking.specs.CheckAnswer.{slots_of, links_of, check_answer, table_after, index_after}
 use Rattle.sharing.specs.Sharing.{mark, shared, shared_output}
-use Rattle.sharing.specs.Laws.SharedAccepted.{shared_refuses}
+use Rattle.sharing.proofs.Laws.SharedAccepted.{shared_refuses}
 use Rattle.refusal.specs.declared.Refusal.{Refusal}
 use Rattle.limits.specs.Held.{setting}
 use Rattle.form.specs.MarkEnds.{ends_t}

@@ -8,7 +8,7 @@ use Rattle.rules.specs.Tree.{Head, Scope, scope, Fields, end, ◌▸◌, Item, p
 use Rattle.rules.specs.Shapes.{builtin_parts, parts}
 use Rattle.rules.specs.Good.{GoodHead, GoodScope, GoodFields, GoodItem}
 use Rattle.rules.specs.Rules.{ok, resolve}
-use Rattle.rules.specs.Laws.Meaning.Stricter.{relaxed_rules, stricter}
+use Rattle.rules.proofs.Laws.Meaning.Stricter.{relaxed_rules, stricter}
 use Rattle.sharing.specs.Sharing.{mark, propose}
 
 -- The setting that they are walked by: the same version with rule set 0. Of a rule set the walk takes no more than whether it asks for

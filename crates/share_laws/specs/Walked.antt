@@ -17,14 +17,14 @@ use Rattle.rules.specs.Answer.{rows_bytes, rows_of}
 use Rattle.rules.specs.Laws.ToolLaws.{All, false_not}
 use Rattle.rules.specs.Laws.RowLaws.{Written}
 use Rattle.rules.specs.Laws.Meaning.Names.{LowScope, low_scope}
-use Rattle.rules.specs.Laws.Meaning.Stricter.{relaxed_rules}
-use Rattle.rules.specs.Laws.Output.OutFits.{out_name}
-use Rattle.rules.specs.Laws.Read.BeginsWritten.{rows_again}
-use Rattle.read_form.specs.Laws.OutputLength.{rows_length}
-use Rattle.unresolving.specs.Laws.Answered.{rows_low}
+use Rattle.rules.proofs.Laws.Meaning.Stricter.{relaxed_rules}
+use Rattle.rules.proofs.Laws.Output.OutFits.{out_name}
+use Rattle.rules.proofs.Laws.Read.BeginsWritten.{rows_again}
+use Rattle.read_form.proofs.Laws.OutputLength.{rows_length}
+use Rattle.unresolving.proofs.Laws.Answered.{rows_low}
 use Rattle.sharing.specs.Sharing.{mark, propose}
-use Rattle.sharing.specs.Laws.Marks
-use Rattle.sharing.specs.Laws.Marks.{marked_like}
+use Rattle.sharing.proofs.Laws.Marks
+use Rattle.sharing.proofs.Laws.Marks.{marked_like}
 use Rattle.form.specs.MarkEnds.{ends_to}
 use Rattle.form.specs.Ends.{Ends, EndsIn}
 use Rattle.form.proofs.EndsStorey.{ends_to_right}

@@ -19,7 +19,7 @@ use Rattle.rules.specs.Answer.{refused, accepted, setting_of, row_count, answer,
 use Rattle.rules.specs.Laws.RowLaws.{Bytes}
 use Rattle.checking.specs.CheckAnswer.{slots_of, links_of, check_answer}
 use Rattle.sharing.specs.Sharing.{mark, proposed, shared_after, shared, shared_for, shared_output}
-use Rattle.sharing.specs.Laws.SharedAccepted.{shared_refuses}
+use Rattle.sharing.proofs.Laws.SharedAccepted.{shared_refuses}
 use Rattle.limits.specs.Held.{setting}
 use Rattle.form.specs.MarkEnds.{Noted, depth_before, end_at_t, with_noted, ends_back_t, ends_in, ends_to}
 use Rattle.names.specs.Table.{Slot}

@@ -16,8 +16,8 @@ use Rattle.kit.proofs.Laws.{lt_or_le}
 use Rattle.rules.specs.Tools.{if◌then◌else◌}
 use Rattle.rules.specs.Versions.{Version, Setting, all}
 use Rattle.rules.specs.Answer.{answer, output}
-use Rattle.rules.specs.Laws.InputLaws.{all_usual}
-use Rattle.read_form.specs.Laws.OutputLength.{output_length}
+use Rattle.rules.proofs.Laws.InputLaws.{all_usual}
+use Rattle.read_form.proofs.Laws.OutputLength.{output_length}
 use Rattle.checking.specs.CheckAnswer.{slots_of, links_of}
 use Rattle.sharing.specs.Sharing.{shared, shared_output}
 use Rattle.limits.specs.declared.Limits.{Limits}

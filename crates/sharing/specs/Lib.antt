@@ -2,5 +2,3 @@
 pub mod Sharing
 -- Runs that antt computes.
 pub mod SharingRuns
--- What is proved of it.
-pub mod Laws

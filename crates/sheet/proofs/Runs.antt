@@ -19,10 +19,10 @@ use Rattle.rules.specs.Tree.{Scope, scope, flatten}
 use Rattle.rules.specs.Answer.{AnswerOf, refused, accepted, has_header, setting_of, same_numbers, answer, output, form_bytes}
 use Rattle.rules.specs.Laws.RowLaws.{Bytes}
 use Rattle.rules.specs.Laws.Results.{some_same, no_option}
-use Rattle.rules.specs.Laws.InputLaws.{AllUsual}
-use Rattle.moving.specs.Laws.Lists.{same_lists}
+use Rattle.rules.proofs.Laws.InputLaws.{AllUsual}
+use Rattle.moving.proofs.Laws.Lists.{same_lists}
 use Rattle.binding.specs.Sheet.{Run, run_of, area_of, first_of, work_size}
-use Rattle.binding.specs.Laws.Runs.{Made, Agree, run_agrees}
+use Rattle.binding.proofs.Laws.Runs.{Made, Agree, run_agrees}
 use Rattle.reading_laws.specs.OnBytes
 use Rattle.reading_laws.specs.OnBytes.{AllWithin, begins, form_long}
 use Rattle.resolver.specs.Meaning.{Said, meaning, ruled}

@@ -23,11 +23,11 @@ use Rattle.rules.specs.Answer.{AnswerOf, refused, accepted, setting_of, same_num
 use Rattle.rules.specs.Laws.ToolLaws.{false_not}
 use Rattle.rules.specs.Laws.RowLaws.{Bytes}
 use Rattle.rules.specs.Laws.Results.{ok_same, some_same}
-use Rattle.rules.specs.Laws.InputLaws.{AllUsual}
-use Rattle.moving.specs.Laws.Lists.{same_lists}
+use Rattle.rules.proofs.Laws.InputLaws.{AllUsual}
+use Rattle.moving.proofs.Laws.Lists.{same_lists}
 use Rattle.binding.specs.Sheet.{Slot, Binding, SheetAnswer, Run, run_of, slots_of, slots, sound_sheet, bindings, failing, answers_bytes, work_size, work_after, answer_for, sheet_answer, answers_after}
 use Rattle.binding.specs.Sheet
-use Rattle.binding.specs.Laws.Runs.{Agree}
+use Rattle.binding.proofs.Laws.Runs.{Agree}
 use Rattle.reading_laws.specs.OnBytes
 use Rattle.reading_laws.specs.OnBytes.{AllWithin, body}
 use Rattle.resolver.specs.Meaning.{numbers}

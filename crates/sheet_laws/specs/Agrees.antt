@@ -7,8 +7,8 @@ use Rattle.rules.specs.Versions.{RuleSet}
 use Rattle.rules.specs.Tree.{Scope, flatten}
 use Rattle.rules.specs.Good.{GoodScope}
 use Rattle.rules.specs.Laws.ToolLaws.{All, done, ◌&◌}
-use Rattle.rules.specs.Laws.Output.Kept.{Kept}
-use Rattle.rules.specs.Laws.Output.Numbers.{NumberedScope}
+use Rattle.rules.proofs.Laws.Output.Kept.{Kept}
+use Rattle.rules.proofs.Laws.Output.Numbers.{NumberedScope}
 use Rattle.row_parts.specs.Parts.{rows_in}
 use Rattle.reading_laws.specs.Meant.{Rows}
 use Rattle.binding.specs.Sheet.{Slot, Binding, bound, binding, bindings}

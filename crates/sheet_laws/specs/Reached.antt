@@ -15,10 +15,10 @@ use Rattle.rules.specs.Tree.{Operand, ref, outer, case, Scope}
 use Rattle.rules.specs.Good.{GoodScope}
 use Rattle.rules.specs.Readings.{Place, Spot, original, inserted}
 use Rattle.rules.specs.Laws.ToolLaws.{eqb-true, false_not}
-use Rattle.rules.specs.Laws.Output.Numbers.{Numbered, NumberedScope}
+use Rattle.rules.proofs.Laws.Output.Numbers.{Numbered, NumberedScope}
 use Rattle.places.specs.PlaceRows.{Floor, operand_at, row_of_operand, Located, counted_row}
 use Rattle.places.specs.Counting.{spot_of, of_space_all}
-use Rattle.places.specs.RowAt.{all_at}
+use Rattle.places.proofs.RowAt.{all_at}
 use Rattle.readings.specs.Meaning.{final_meaning}
 use Rattle.readings.specs.declared.Meaning.{Meaning}
 use Rattle.reading_laws.specs.Said.{said, said_in, said_out, said_behind, said_end, said_from, sought}

@@ -14,12 +14,12 @@ use Rattle.rules.specs.Readings
 use Rattle.rules.specs.Readings.{is_inserted, Place, level, fields_of, Use, use_at}
 use Rattle.rules.specs.Laws.ToolLaws.{then_some}
 use Rattle.rules.specs.Laws.Results.{no_option}
-use Rattle.rules.specs.Laws.Output.Kept.{blank_operand, blank_head, blank, blank_fields, blank_item, without, without_fields, without_item, Kept}
+use Rattle.rules.proofs.Laws.Output.Kept.{blank_operand, blank_head, blank, blank_fields, blank_item, without, without_fields, without_item, Kept}
 use Rattle.places.specs.PlaceRows
 use Rattle.places.specs.PlaceRows.{Placed, Floor, floor, floors_at, field_in, field_at}
 use Rattle.moving.specs.Moved.{places_at, places_in, places_inside, places_of, places, if_any, collect}
-use Rattle.moving.specs.Laws.Lists.{collect_append}
-use Rattle.moving.specs.Laws.RowOrder.{Rest, all_fields, place_field, rest_inserted, rest_original, first_is, held_rest}
+use Rattle.moving.proofs.Laws.Lists.{collect_append}
+use Rattle.moving.proofs.Laws.RowOrder.{Rest, all_fields, place_field, rest_inserted, rest_original, first_is, held_rest}
 use Rattle.binding.specs.Sheet.{is_ref_at, ref_at, refs_at}
 use Rattle.reading_laws.specs.Operands.{use_is}
 

@@ -21,13 +21,13 @@ use Rattle.rules.specs.Readings
 use Rattle.rules.specs.Readings.{is_fresh, any_fresh, is_inserted, Place, level, fields_of}
 use Rattle.rules.specs.Laws.ToolLaws.{All, done, ◌&◌, all_append, then_some, or_cases, or-false, eqb-true, eqb_same, eqb-false, leb-true, false_not}
 use Rattle.rules.specs.Laws.Results.{no_option, some_same}
-use Rattle.rules.specs.Laws.Output.Kept.{Alias, IsAlias, AliasesScope, AliasesFields, AliasesItem}
+use Rattle.rules.proofs.Laws.Output.Kept.{Alias, IsAlias, AliasesScope, AliasesFields, AliasesItem}
 use Rattle.places.specs.PlaceRows
 use Rattle.places.specs.PlaceRows.{Placed, Floor, floor, field_at, operand_at, row_of_operand, operand_row_at}
 use Rattle.places.specs.Counting.{map-append}
-use Rattle.places.specs.RowAt.{decls_length, operand_row_of}
+use Rattle.places.proofs.RowAt.{decls_length, operand_row_of}
 use Rattle.moving.specs.Moved.{if_any}
-use Rattle.moving.specs.Laws.RowOrder.{row_is, operand_on, Rest, all_fields, place_field, rest_inserted, rest_original, first_is, held_rest}
+use Rattle.moving.proofs.Laws.RowOrder.{row_is, operand_on, Rest, all_fields, place_field, rest_inserted, rest_original, first_is, held_rest}
 use Rattle.row_parts.specs.Parts as row_parts_lem
 use Rattle.reading_laws.specs.Stand.{Is, At, code_part, x_part, behind, behind_length, at_left, at_right}
 use Rattle.reading_laws.specs.Spots.{or_none}

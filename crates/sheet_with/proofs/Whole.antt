@@ -15,7 +15,7 @@ use Rattle.kit.specs.Pick.{pick}
 use Rattle.rules.specs.Tools.{if◌then◌else◌}
 use Rattle.rules.specs.Versions.{Setting, all}
 use Rattle.limits.specs.Held.{setting}
-use Rattle.rules.specs.Laws.InputLaws.{all_usual}
+use Rattle.rules.proofs.Laws.InputLaws.{all_usual}
 use Rattle.reading_laws.specs.OnBytes.{body, all_within}
 use Rattle.binding.specs.Sheet.{SheetAnswer, run_of, sound_sheet, sheet_answer, answers_after, work_size, work_after}
 use Rattle.slots.specs.Slots.{answered}

@@ -19,14 +19,14 @@ use Rattle.rules.specs.Answer.{same_numbers, row_count, form_bytes, output, acce
 use Rattle.rules.specs.Laws.ToolLaws.{false_not}
 use Rattle.rules.specs.Laws.RowLaws.{Bytes}
 use Rattle.rules.specs.Laws.Results.{some_same}
-use Rattle.rules.specs.Laws.InputLaws.{Usual}
+use Rattle.rules.proofs.Laws.InputLaws.{Usual}
 use Rattle.read_form.specs.ReadForm.{read_form}
-use Rattle.read_form.specs.Laws.ReadFormLaws.{not_refused}
-use Rattle.read_form.specs.Laws.OutputLength.{form_length}
+use Rattle.read_form.proofs.Laws.ReadFormLaws.{not_refused}
+use Rattle.read_form.proofs.Laws.OutputLength.{form_length}
 use Rattle.unresolving.specs.Back.{unresolve}
 use Rattle.unresolving.specs.BackAnswer
 use Rattle.unresolving.specs.BackAnswer.{outcome, is_outcome, back, in_room, back_answer, over, back_output}
-use Rattle.unresolving.specs.Laws.Answered.{are_same, outcome_is, back_right, back_complete, back_is}
+use Rattle.unresolving.proofs.Laws.Answered.{are_same, outcome_is, back_right, back_complete, back_is}
 use Rattle.clearing.specs.Cleared.{cleared}
 use Rattle.clearing.specs.Laws.{cleared_kept}
 use Rattle.refusal.specs.declared.Refusal.{Refusal}

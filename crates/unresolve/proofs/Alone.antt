@@ -12,8 +12,8 @@ use Rattle.rules.specs.Rows.{Row, bytes}
 use Rattle.rules.specs.Answer
 use Rattle.rules.specs.Answer.{same_numbers, has_header, setting_of, form_bytes}
 use Rattle.rules.specs.Laws.Results.{some_same, no_option}
-use Rattle.rules.specs.Laws.InputLaws.{Usual, all_usual}
-use Rattle.unresolving.specs.Laws.Answered.{Settled, base_settled, all_settled}
+use Rattle.rules.proofs.Laws.InputLaws.{Usual, all_usual}
+use Rattle.unresolving.proofs.Laws.Answered.{Settled, base_settled, all_settled}
 use Rattle.limits.specs.Held.{setting}
 use Rattle.unresolve.proofs.Resolves.{alone_one}
 

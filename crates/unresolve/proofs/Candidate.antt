@@ -19,19 +19,19 @@ use Rattle.rules.specs.Answer.{accepted, setting_of, row_count, rows_in, answer,
 use Rattle.rules.specs.Laws.ToolLaws.{All}
 use Rattle.rules.specs.Laws.RowLaws.{Written, Bytes}
 use Rattle.rules.specs.Laws.Results.{some_same}
-use Rattle.rules.specs.Laws.Read.BeginsWritten.{rows_length}
+use Rattle.rules.proofs.Laws.Read.BeginsWritten.{rows_length}
 use Rattle.rules.specs.Laws.Meaning.Names.{LowScope}
-use Rattle.rules.specs.Laws.Output.Well.{well}
-use Rattle.rules.specs.Laws.Output.Numbers.{NumberedScope}
-use Rattle.rules.specs.Laws.Output.OutFits.{out_name}
-use Rattle.rules.specs.Laws.Output.OutBytes.{header_length, header_drop}
-use Rattle.rules.specs.Laws.InputLaws.{Usual, Accepted, readings, is_form}
+use Rattle.rules.proofs.Laws.Output.Well.{well}
+use Rattle.rules.proofs.Laws.Output.Numbers.{NumberedScope}
+use Rattle.rules.proofs.Laws.Output.OutFits.{out_name}
+use Rattle.rules.proofs.Laws.Output.OutBytes.{header_length, header_drop}
+use Rattle.rules.proofs.Laws.InputLaws.{Usual, Accepted, readings, is_form}
 use Rattle.read_form.specs.ReadForm.{read_form}
-use Rattle.read_form.specs.Laws.ReadFormLaws.{read_exactly, read_read, accepted_same, ours_read}
+use Rattle.read_form.proofs.Laws.ReadFormLaws.{read_exactly, read_read, accepted_same, ours_read}
 use Rattle.unresolving.specs.Back.{unresolve}
 use Rattle.unresolving.specs.BackAnswer.{outcome, tree_of, read_claim, back}
-use Rattle.unresolving.specs.Laws.WentBack.{went_back}
-use Rattle.unresolving.specs.Laws.Answered.{back_right, back_bytes, back_is, Ran, ran_on}
+use Rattle.unresolving.proofs.Laws.WentBack.{went_back}
+use Rattle.unresolving.proofs.Laws.Answered.{back_right, back_bytes, back_is, Ran, ran_on}
 use Rattle.matched.proofs.Ends.{At}
 use Rattle.diff.proofs.Lists.{at_rows}
 use Rattle.claim_laws.specs.OnBytes.{rows_count}

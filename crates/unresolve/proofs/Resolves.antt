@@ -19,13 +19,13 @@ use Rattle.rules.specs.Answer.{AnswerOf, refused, accepted, map_answer, Answer, 
 use Rattle.rules.specs.Laws.ToolLaws.{and_left, and_right, false_not}
 use Rattle.rules.specs.Laws.RowLaws.{Bytes}
 use Rattle.rules.specs.Laws.Results.{some_same, no_option}
-use Rattle.rules.specs.Laws.Output.OutBytes.{header_count}
-use Rattle.rules.specs.Laws.InputLaws.{Usual, Accepted, readings}
+use Rattle.rules.proofs.Laws.Output.OutBytes.{header_count}
+use Rattle.rules.proofs.Laws.InputLaws.{Usual, Accepted, readings}
 use Rattle.read_form.specs.ReadForm.{read_form}
-use Rattle.read_form.specs.Laws.ReadFormLaws.{ReadAs, read_exactly, neither}
-use Rattle.read_form.specs.Laws.OutputLength.{form_length}
+use Rattle.read_form.proofs.Laws.ReadFormLaws.{ReadAs, read_exactly, neither}
+use Rattle.read_form.proofs.Laws.OutputLength.{form_length}
 use Rattle.unresolving.specs.BackAnswer.{form_of, outcome, is_outcome}
-use Rattle.unresolving.specs.Laws.Answered.{are_same}
+use Rattle.unresolving.proofs.Laws.Answered.{are_same}
 use Rattle.unresolve.proofs.Ways.{same_length}
 
 -- ---- bytes that begin with no mark

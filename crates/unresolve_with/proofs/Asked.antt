@@ -11,7 +11,7 @@ use Rattle.rules.specs.Tree.{Scope, flatten}
 use Rattle.rules.specs.Answer.{setting_of, form_bytes}
 use Rattle.unresolving.specs.Back.{unresolve}
 use Rattle.unresolving.specs.BackAnswer.{outcome, read_claim, is_outcome, back, back_answer, back_output}
-use Rattle.unresolving.specs.Laws.Answered.{all_settled}
+use Rattle.unresolving.proofs.Laws.Answered.{all_settled}
 use Rattle.resolver_with.specs.Asked.{asked}
 use Rattle.resolver_with.proofs.Asked.{setting_asked}
 use Rattle.lent_areas.proofs.InForce.{asked_is}

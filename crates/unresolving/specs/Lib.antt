@@ -3,5 +3,3 @@ pub mod BackAnswer
 pub mod Back
 -- Runs that antt computes.
 pub mod BackRuns
--- What is proved of it.
-pub mod Laws

@@ -12,7 +12,7 @@ use Rattle.kit.proofs.Laws.{copies_at}
 use Rattle.copy.proofs.Laws.{copy_turn, copy_end}
 use Rattle.rules.specs.Rows.{bytes}
 use Rattle.rules.specs.Answer.{mark, header_bytes}
-use Rattle.rules.specs.Laws.Output.OutBytes.{bytes_length}
+use Rattle.rules.proofs.Laws.Output.OutBytes.{bytes_length}
 use Rattle.limits.specs.declared.Limits.{Limits}
 use Rattle.limits.specs.Held.{setting_in}
 

@@ -71,23 +71,23 @@ module _ (claim : Bool) where
   asks_next s ss k input Count e (t, p, q) = (t, e ∙ p, q)
 
   asks : (ss : List Setting) (k : ℕ) (input : List ℕ) → Asks ss k input (asked_from claim k ss input)
-  unfolding asked_from setting_of
+  unfolding asked_from setting_of header_in header_for if◌then◌else◌ or_next only ◌or_else◌
   asks [] k input = refl
   asks (s ∷ ss) k input = go (has_header (held_as claim s) input) refl (asks ss (k + 1) input)
     where
       here : (b : Bool) → unsized (held_as claim s) input ≡ b → has_header (held_as claim s) input ≡ true → has_header s input ≡ true
           → Asks (s ∷ ss) k input (or_next k (header_in (held_as claim s).version input) (asked_from claim (k + 1) ss input))
-      here true e h g = unfold header_in if◌then◌else◌ or_next only ◌or_else◌ in rw e (s, rw g, e)
-      here false e h g = unfold header_in if◌then◌else◌ or_next only ◌or_else◌ in
-          rw e (0, omega arith, omega arith, rw g, header_rows (held_as claim s) input (row_count (held_as claim s).version input) (rw h (unfold header_for header_in only if◌then◌else◌ in rw e)))
+      here true e h g = rw e (s, rw g, e)
+      here false e h g =
+          rw e (0, omega arith, omega arith, rw g, header_rows (held_as claim s) input (row_count (held_as claim s).version input) (rw h (rw e)))
 
       past : has_header s input ≡ false → setting_of (s ∷ ss) input ≡ setting_of ss input
-      past g = unfold setting_of only ◌or_else◌ in rw g
+      past g = rw g
 
       go : (b : Bool) → has_header (held_as claim s) input ≡ b → Asks ss (k + 1) input (asked_from claim (k + 1) ss input)
           → Asks (s ∷ ss) k input (or_next k (header_for (only (has_header (held_as claim s) input) (held_as claim s)) input) (asked_from claim (k + 1) ss input))
-      go true e r = rw e (unfold only header_for in here (unsized (held_as claim s) input) refl e (sym (header_held s input) ∙ e))
-      go false e r = rw e (unfold only header_for or_next in asks_next s ss k input (asked_from claim (k + 1) ss input) (past (sym (header_held s input) ∙ e)) r)
+      go true e r = rw e (here (unsized (held_as claim s) input) refl e (sym (header_held s input) ∙ e))
+      go false e r = rw e (asks_next s ss k input (asked_from claim (k + 1) ss input) (past (sym (header_held s input) ∙ e)) r)
 
 pub record AskedFor (input : List ℕ) (i rows : ℕ) : Type 0 where
   pub known : i < 3

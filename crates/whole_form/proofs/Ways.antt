@@ -21,8 +21,8 @@ use Rattle.rules.specs.Begins.{Right}
 use Rattle.rules.specs.Reader.{read}
 use Rattle.rules.specs.Answer.{refused, has_header, row_count, rows_in}
 use Rattle.rules.specs.Laws.ToolLaws.{false_not, and_left, and_right}
-use Rattle.rules.specs.Laws.Read.ReadRight.{read_right}
-use Rattle.rules.specs.Laws.Read.BeginsWritten.{rows_length}
+use Rattle.rules.proofs.Laws.Read.ReadRight.{read_right}
+use Rattle.rules.proofs.Laws.Read.BeginsWritten.{rows_length}
 use Rattle.read_form.specs.ReadForm.{as_answer, read_form}
 use Rattle.limits.specs.declared.Limits.{Limits}
 use Rattle.limits.specs.Held.{setting_in, limits_of, setting}

@@ -14,7 +14,7 @@ use Rattle.rules.specs.Tree.{Declaration, Operand, ref, outer, case, Head, path_
 use Rattle.rules.specs.Rules.{table_of, Outside, in_time, late_instance, Result, refused, ok, ◌>>=◌, Env, fresh, Expanded, as_it_is, expand_operand, expand_operands, heads_decls, resolve_inserted, resolve_head}
 use Rattle.rules.specs.Laws.Results.{ok_same, bind_inv, holds_of}
 use Rattle.rules.specs.Laws.Meaning.Names.{LowOperand, LowOperands}
-use Rattle.rules.specs.Laws.Meaning.Runs.{AllNew, operand_grown}
+use Rattle.rules.proofs.Laws.Meaning.Runs.{AllNew, operand_grown}
 use Rattle.rows.specs.RowAt.{taken}
 use Rattle.names.specs.Table.{Slot, past_of}
 use Rattle.names.specs.Stands.{Opens}

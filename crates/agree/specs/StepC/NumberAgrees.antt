@@ -16,7 +16,7 @@ use Rattle.rules.specs.Shapes.{declared}
 use Rattle.rules.specs.Rules.{table_of, Outside, ok, Env, find, Lookup, found, absent, look_up, fresh, Expanded, as_it_is, through, expand_operand, expand_operands, heads_decls, outer_alias, export_alias, path_aliases}
 use Rattle.rules.specs.Laws.Entries.{numbered, OfSpace, look_number, look_space}
 use Rattle.rules.specs.Laws.Results.{ok_same, holds_of}
-use Rattle.rules.specs.Laws.Meaning.Runs.{operand_grown}
+use Rattle.rules.proofs.Laws.Meaning.Runs.{operand_grown}
 use Rattle.rows.specs.RowAt.{as_index}
 use Rattle.names.specs.Table.{Slot, number_of, past_of, slots_in}
 use Rattle.names.specs.Stands.{lookup_of, Opens}

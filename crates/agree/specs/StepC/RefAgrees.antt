@@ -18,7 +18,7 @@ use Rattle.rules.specs.Shapes.{FOUR, declared, first_name}
 use Rattle.rules.specs.Rules.{number_of, carried_by, not_exported, not_outer, unknown, not_earlier, table_of, Outside, in_time, comes_later, late_name, late_instance, refused, ok, ◌>>=◌, Env, find, fresh, walk, Expanded, as_it_is, through, found_at, expand_operand, heads_decls, export_alias, outer_alias, path_aliases, resolve_inserted}
 use Rattle.rules.specs.Laws.RowLaws.{LegalIndex}
 use Rattle.rules.specs.Laws.Results.{ok_same, no_result, bind_inv}
-use Rattle.rules.specs.Laws.Meaning.StepC.{alias_resolved}
+use Rattle.rules.proofs.Laws.Meaning.StepC.{alias_resolved}
 use Rattle.rows.specs.RowAt.{as_index}
 use Rattle.names.specs.Table.{Slot, slot_of, past_of}
 use Rattle.names.specs.Stands.{count, Opens}

@@ -8,7 +8,7 @@ use Rattle.rules.specs.Tree.{Declaration, Fields, fields_rows}
 use Rattle.rules.specs.Good.{GoodFields}
 use Rattle.rules.specs.Rules.{Entry, table_of, Outside, Result, refused, ok, ◌>>=◌, Env, declarations, distinct, expand_fields, prepare}
 use Rattle.rules.specs.Laws.Meaning.Names.{LowFields}
-use Rattle.rules.specs.Laws.Output.Counts.{own}
+use Rattle.rules.proofs.Laws.Output.Counts.{own}
 use Rattle.refusal.specs.declared.Refusal.{Refusal as Said}
 use Rattle.refusal.specs.declared.Told.{Told}
 use Rattle.names.specs.Table.{Slot, between}

@@ -17,8 +17,8 @@ use Rattle.rules.specs.Tree.{Declaration, Fields, end, ◌▸◌, Item, head_of,
 use Rattle.rules.specs.Rules.{Refusal, number_of, carried_by, twice, first_place, Result, refused, ok, ◌>>=◌, find, declarations, distinct}
 use Rattle.rules.specs.Laws.ToolLaws.{length_snoc, snoc_append}
 use Rattle.rules.specs.Laws.Results.{no_result, ok_same}
-use Rattle.rules.specs.Laws.Output.FourTimes.{fields_size, head_length}
-use Rattle.rules.specs.Laws.Output.Counts.{own, rows_split}
+use Rattle.rules.proofs.Laws.Output.FourTimes.{fields_size, head_length}
+use Rattle.rules.proofs.Laws.Output.Counts.{own, rows_split}
 use Rattle.rows.specs.RowAt.{taken, code_at}
 use Rattle.form.specs.Part.{field_rows}
 use Rattle.refusal.specs.Refusals.{refusal_at, tells}

@@ -16,8 +16,8 @@ use Rattle.rules.specs.Rules.{Entry, decls_in, Outside, onward, Result, refused,
 use Rattle.rules.specs.Laws.Results.{holds_of}
 use Rattle.rules.specs.Laws.Meaning.Names.{LowHead, LowFields}
 use Rattle.rules.specs.Laws.Entries.{field_decls}
-use Rattle.rules.specs.Laws.Output.FourTimes.{fields_size, item_size}
-use Rattle.rules.specs.Laws.Output.Counts.{own, HeadCounts, head_counts}
+use Rattle.rules.proofs.Laws.Output.FourTimes.{fields_size, item_size}
+use Rattle.rules.proofs.Laws.Output.Counts.{own, HeadCounts, head_counts}
 use Rattle.rows.specs.RowAt.{code_at}
 use Rattle.form.specs.Part.{field_rows}
 use Rattle.refusal.specs.declared.Refusal.{Refusal as Said}

@@ -19,9 +19,9 @@ use Rattle.rules.specs.Rules.{Outside, Result, ok, ◌>>=◌, find, heads_decls,
 use Rattle.rules.specs.Laws.ToolLaws.{false_not, snoc_append, length_snoc}
 use Rattle.rules.specs.Laws.Results.{holds_of}
 use Rattle.rules.specs.Laws.Meaning.Names.{LowOperand, LowOperands, LowHead}
-use Rattle.rules.specs.Laws.Meaning.Runs.{Grown, operand_grown}
-use Rattle.rules.specs.Laws.Output.FourTimes.{paths_length, head_length}
-use Rattle.rules.specs.Laws.Output.Counts.{Counts, operand_counts, HeadCounts, head_counts}
+use Rattle.rules.proofs.Laws.Meaning.Runs.{Grown, operand_grown}
+use Rattle.rules.proofs.Laws.Output.FourTimes.{paths_length, head_length}
+use Rattle.rules.proofs.Laws.Output.Counts.{Counts, operand_counts, HeadCounts, head_counts}
 use Rattle.rows.specs.RowAt.{taken, as_index}
 use Rattle.names.specs.Table.{Slot, slot_of, between, find_in}
 use Rattle.names.specs.Stands.{count, Envs, Below}

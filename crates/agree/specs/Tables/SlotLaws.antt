@@ -10,11 +10,11 @@ use Rattle.rules.specs.Tree.{Declaration, Operand, ref, outer, case, Head, Field
 use Rattle.rules.specs.Rules
 use Rattle.rules.specs.Rules.{Outside, onward, Result, refused, ok, heads_decls, expand_operand, path_aliases}
 use Rattle.rules.specs.Shapes.{first_name}
-use Rattle.rules.specs.Laws.Meaning.Runs.{AllNew, Grown, operand_grown}
+use Rattle.rules.proofs.Laws.Meaning.Runs.{AllNew, Grown, operand_grown}
 use Rattle.rules.specs.Laws.ToolLaws.{All, done, ◌&◌, all_append, all_map}
 use Rattle.rules.specs.Laws.Results.{OkR, bind_any, holds_of, if_both}
-use Rattle.rules.specs.Laws.Output.FourTimes.{head_length, paths_length}
-use Rattle.rules.specs.Laws.Output.Counts.{own}
+use Rattle.rules.proofs.Laws.Output.FourTimes.{head_length, paths_length}
+use Rattle.rules.proofs.Laws.Output.Counts.{own}
 use Rattle.names.specs.Table.{Slot, name_of, row_of}
 use Rattle.write.specs.Alias.{slot_at}
 use Rattle.agree.specs.Tables.Cursor.{Left, left_next}

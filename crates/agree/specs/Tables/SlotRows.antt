@@ -11,8 +11,8 @@ use Rattle.rules.specs.Tree.{Declaration, Operand, ref, outer, case, Head, Field
 use Rattle.rules.specs.Shapes.{here_only}
 use Rattle.rules.specs.Rules.{Entry, Outside, onward, ok, Expanded, as_it_is, through, found_at, expand_operand, expand_operands, expand_head, entered, stand_in, inserted_entries, expand_fields, heads_decls}
 use Rattle.rules.specs.Laws.Results.{OkR, bind_any, if_both, holds_of, ok_same, bind_inv}
-use Rattle.rules.specs.Laws.Meaning.Runs.{AllNew, head_grown}
-use Rattle.rules.specs.Laws.Meaning.EntryRows.{Served, nothing, ◌and◌, head_served}
+use Rattle.rules.proofs.Laws.Meaning.Runs.{AllNew, head_grown}
+use Rattle.rules.proofs.Laws.Meaning.EntryRows.{Served, nothing, ◌and◌, head_served}
 use Rattle.names.specs.Table.{Slot, row_of}
 use Rattle.names.specs.Stands.{entry_rows}
 use Rattle.agree.specs.Tables.Slots.{inserted_slot, inserted_slots, decl_slots, if_ok, operands_slots, head_slots, fields_slots}

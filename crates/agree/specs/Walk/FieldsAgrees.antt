@@ -20,9 +20,9 @@ use Rattle.rules.specs.Rules.{Entry, decls_in, table_of, Outside, onward, opened
 use Rattle.rules.specs.Laws.Results.{ok_same, bind_inv, holds_of}
 use Rattle.rules.specs.Laws.Entries.{field_decls}
 use Rattle.rules.specs.Laws.Meaning.Names.{LowDecls, LowFields, DeclFields}
-use Rattle.rules.specs.Laws.Meaning.Runs.{head_grown}
-use Rattle.rules.specs.Laws.Output.FourTimes.{inner, item_size, fields_size}
-use Rattle.rules.specs.Laws.Output.Counts.{deep}
+use Rattle.rules.proofs.Laws.Meaning.Runs.{head_grown}
+use Rattle.rules.proofs.Laws.Output.FourTimes.{inner, item_size, fields_size}
+use Rattle.rules.proofs.Laws.Output.Counts.{deep}
 use Rattle.rows.specs.RowAt.{code_at}
 use Rattle.names.specs.Table.{Slot, past_of, scope_at, innermost_t}
 use Rattle.names.specs.Stands.{Envs, Below}

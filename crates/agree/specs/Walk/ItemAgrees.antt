@@ -12,7 +12,7 @@ use Rattle.rules.specs.Tree.{Declaration, Head, Scope, scope, Item, plain, holds
 use Rattle.rules.specs.Good.{GoodItem, height_item, height}
 use Rattle.rules.specs.Rules.{table_of, Outside, opened, inward, Result, refused, ok, ◌>>=◌, Env, fresh, Expanded, expand_head, heads_decls, resolve_scope, resolve_item}
 use Rattle.rules.specs.Laws.Meaning.Names.{LowHead, LowScope, DeclScope}
-use Rattle.rules.specs.Laws.Output.FourTimes.{inner, item_size}
+use Rattle.rules.proofs.Laws.Output.FourTimes.{inner, item_size}
 use Rattle.rows.specs.RowAt.{code_at}
 use Rattle.form.specs.Part.{field_rows}
 use Rattle.names.specs.Table.{Slot, past_of, innermost_t}

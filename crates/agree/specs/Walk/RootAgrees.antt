@@ -15,10 +15,10 @@ use Rattle.rules.specs.Good.{GoodScope, height}
 use Rattle.rules.specs.Rules.{at_root, Result, refused, ok, resolve, Env, resolve_inside}
 use Rattle.rules.specs.Laws.Results.{OkR}
 use Rattle.rules.specs.Laws.RowLaws.{Bytes}
-use Rattle.rules.specs.Laws.Read.ReadRight.{reads_form}
+use Rattle.rules.proofs.Laws.Read.ReadRight.{reads_form}
 use Rattle.rules.specs.Laws.Meaning.Names.{LowScope, DeclScope, low_scope}
-use Rattle.rules.specs.Laws.Meaning.ReadNames.{read_low}
-use Rattle.rules.specs.Laws.Output.FourTimes.{four_times}
+use Rattle.rules.proofs.Laws.Meaning.ReadNames.{read_low}
+use Rattle.rules.proofs.Laws.Output.FourTimes.{four_times}
 use Rattle.rows.specs.RowAt.{taken}
 use Rattle.put.specs.Put.{row_bytes, bytes_of, put_row}
 use Rattle.refusal.specs.declared.Refusal.{Refusal as Said}

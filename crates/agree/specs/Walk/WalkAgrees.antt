@@ -12,8 +12,8 @@ use Rattle.rules.specs.Good.{GoodFields, height, heights}
 use Rattle.rules.specs.Rules.{decls_in, table_of, Outside, opened, Result, refused, ok, ◌>>=◌, Env, fresh, declarations, distinct, expand_fields, prepare, resolve_scope, resolve_fields}
 use Rattle.rules.specs.Laws.Results.{ok_same, bind_inv, holds_of}
 use Rattle.rules.specs.Laws.Meaning.Names.{LowFields, DeclFields}
-use Rattle.rules.specs.Laws.Meaning.Runs.{prepared}
-use Rattle.rules.specs.Laws.Output.Counts.{own, deep, rows_split, scope_split, prepare_counts}
+use Rattle.rules.proofs.Laws.Meaning.Runs.{prepared}
+use Rattle.rules.proofs.Laws.Output.Counts.{own, deep, rows_split, scope_split, prepare_counts}
 use Rattle.rows.specs.RowAt.{taken}
 use Rattle.names.specs.Table.{Slot, row_of, between, no_scope, scope_of, past_of, innermost_t}
 use Rattle.names.specs.Stands.{Stands, entry_rows}

@@ -7,8 +7,8 @@ use Rattle.rules.specs.Tree.{Declaration, Head, Scope, Fields, Item, head_of, he
 use Rattle.rules.specs.Good.{GoodScope, GoodFields, GoodItem, height, heights, height_item}
 use Rattle.rules.specs.Rules.{Entry, decls_in, table_of, Outside, opened, Result, refused, ok, ◌>>=◌, Env, fresh, Expanded, expand_head, expand_fields, heads_decls, resolve_scope, resolve_fields, resolve_item}
 use Rattle.rules.specs.Laws.Meaning.Names.{LowHead, LowScope, LowFields, LowItem, DeclScope, DeclFields, DeclItem}
-use Rattle.rules.specs.Laws.Output.FourTimes.{inner}
-use Rattle.rules.specs.Laws.Output.Counts.{deep}
+use Rattle.rules.proofs.Laws.Output.FourTimes.{inner}
+use Rattle.rules.proofs.Laws.Output.Counts.{deep}
 use Rattle.rows.specs.RowAt.{code_at}
 use Rattle.names.specs.Table.{Slot, past_of, innermost_t}
 use Rattle.names.specs.Stands.{Envs, Below}

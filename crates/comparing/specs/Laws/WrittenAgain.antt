@@ -11,7 +11,7 @@ use Rattle.rules.specs.Rows.{value, bytes, raw_at, raw_bytes, Row, decode_row, e
 use Rattle.rules.specs.Answer.{has_header, row_count, rows_of, rows_bytes, form_bytes}
 use Rattle.rules.specs.Laws.ToolLaws.{ok_at}
 use Rattle.rules.specs.Laws.RowLaws.{decode_parts, Bytes, bytes_drop}
-use Rattle.rules.specs.Laws.Read.BeginsWritten.{rows_length}
+use Rattle.rules.proofs.Laws.Read.BeginsWritten.{rows_length}
 use Rattle.headers.specs.Laws.Written.{bytes_value, header_bytes_lem}
 
 -- ---- a row

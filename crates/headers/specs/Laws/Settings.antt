@@ -7,7 +7,7 @@ use Rattle.rules.specs.Versions.{Setting, top_name, base, all}
 use Rattle.rules.specs.Rows.{bytes}
 use Rattle.rules.specs.Answer.{mark, same_numbers, has_header, setting_of}
 use Rattle.rules.specs.Laws.ToolLaws.{leb_le}
-use Rattle.rules.specs.Laws.InputLaws.{Usual, base_usual, all_usual}
+use Rattle.rules.proofs.Laws.InputLaws.{Usual, base_usual, all_usual}
 use Rattle.headers.specs.Laws.Written.{numbers_equal}
 
 -- a part of a list is the same, whatever follows it

@@ -12,7 +12,7 @@ use Rattle.rules.specs.Rows.{value, bytes}
 use Rattle.rules.specs.Answer.{mark, same_numbers, has_header, row_count, header_bytes}
 use Rattle.rules.specs.Laws.ToolLaws.{false_not, and_left, and_right, eqb-true, eqb_same, leb-true, leb_le, ◌&◌}
 use Rattle.rules.specs.Laws.RowLaws.{Bytes, bytes_drop}
-use Rattle.rules.specs.Laws.Output.OutBytes.{bytes_length, header_length, mark_length}
+use Rattle.rules.proofs.Laws.Output.OutBytes.{bytes_length, header_length, mark_length}
 
 -- ---- numbers and zeros
 

@@ -5,7 +5,7 @@ use lib.Seq.{length-take-le}
 use lib.ListN.{length}
 use borrow.Author.Rules.{rules}
 use Rattle.rules.specs.Versions.{base}
-use Rattle.rules.specs.Laws.InputLaws.{base_usual}
+use Rattle.rules.proofs.Laws.InputLaws.{base_usual}
 use Rattle.reading_laws.specs.OnBytes.{base_within}
 use Rattle.sheet.proofs.Runs.{area_is, one_header}
 use Rattle.sheet.proofs.Whole.{work_is, area_cleared, unsound_says, unsound_leaves, small_says, small_leaves, other_says, other_leaves, no_room_says, no_room_leaves, answered_says, answered_leaves}

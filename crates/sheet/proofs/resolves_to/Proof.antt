@@ -2,7 +2,7 @@
 use mathlib.Core.Path.{sym, ◌∙◌}
 use borrow.Author.Rules.{rules}
 use Rattle.rules.specs.Versions.{base}
-use Rattle.rules.specs.Laws.InputLaws.{base_usual}
+use Rattle.rules.proofs.Laws.InputLaws.{base_usual}
 use Rattle.reading_laws.specs.OnBytes.{base_within}
 use Rattle.sheet.proofs.Runs.{none_written, other_length, bytes_compared, one_header, one_long}
 use Rattle.sheet.proofs.resolves_to.Statement.{statement}

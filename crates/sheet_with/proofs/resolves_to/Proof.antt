@@ -1,7 +1,7 @@
 -- `sheet_with::resolves_to` meets its contract.
 use lib.ListN.{length}
 use borrow.Author.Rules.{rules}
-use Rattle.rules.specs.Laws.InputLaws.{all_usual}
+use Rattle.rules.proofs.Laws.InputLaws.{all_usual}
 use Rattle.reading_laws.specs.OnBytes.{all_within}
 use Rattle.sheet.proofs.Runs.{none_written, other_length, bytes_compared}
 use Rattle.resolver_with.specs.Areas.{lent_of}

@@ -1,0 +1,7 @@
+-- `claim_aliases::go_on` meets its contract.
+use Rattle.claim_aliases.proofs.Ways.{on_is}
+use borrow.Author.Rules.{rules}
+use Rattle.claim_aliases.proofs.go_on.Goals as goal
+
+pub returns : goal.returns
+returns c = (search (on_is, rules), search rules)

@@ -1,0 +1,17 @@
+-- `claim_aliases::try_aliases` meets its contract.
+use mathlib.Core.Path.{◌≡◌}
+use mathlib.Core.Bool.{false}
+use mathlib.Core.List.{[]}
+use Prim.Native.Nat.{◌-◌}
+use lib.ListN.{length}
+use Rattle.index.specs.Indexed.{Holds}
+use Rattle.claim_rows.specs.Left.{rows_at}
+use Rattle.claim_aliases.specs.Aliases.{try_aliases_t}
+use Rattle.claim_aliases.proofs.Ways.{Goes}
+use Rattle.claim_aliases.proofs.try_aliases.Given as goal
+
+abbrev pub invariant-loop-i : goal.invariant-loop-i
+invariant-loop-i l = Goes l.claim l.initial.table l.table l.scopes l.c l.i (try_aliases_t (length l.initial.table) 0 false [] [] (rows_at l.claim 0)) × Holds l.table l.index l.c.used × (length l.table ≡ length l.initial.table) × (length l.index ≡ length l.initial.index)
+
+abbrev pub decreases-loop-i : goal.decreases-loop-i
+decreases-loop-i l = l.n - l.i

@@ -1,0 +1,16 @@
+-- `claim_operands::paths::through_paths` meets its contract.
+use Rattle.claim_operands.proofs.Ways.{following}
+use borrow.Author.Rules.{rules}
+use Rattle.claim_operands.proofs.paths.through_paths.Goals as goal
+
+pub loop-left-init : goal.loop-left-init
+loop-left-init c = (search following, search rules)
+
+pub returns-in-Nothing : goal.returns-in-Nothing
+returns-in-Nothing c = search following
+
+pub loop-left-preserved : goal.loop-left-preserved
+loop-left-preserved c = (search following, search rules)
+
+pub returns : goal.returns
+returns c = search following

@@ -1,0 +1,6 @@
+-- `mark::insert` meets its contract.
+use Rattle.mark.proofs.Ways.{insert_ways}
+use Rattle.mark.proofs.insert.Goals as goal
+
+pub returns : goal.returns
+returns c = search insert_ways

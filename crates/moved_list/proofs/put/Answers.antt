@@ -1,0 +1,12 @@
+-- `moved_list::put` meets its contract.
+use Rattle.moved_list.proofs.Ways.{put_ways}
+use Rattle.moved_list.proofs.put.Goals as goal
+
+pub returns-in-Moved : goal.returns-in-Moved
+returns-in-Moved c = search put_ways
+
+pub returns-in-Apart : goal.returns-in-Apart
+returns-in-Apart c = search put_ways
+
+pub returns-in-Nothing : goal.returns-in-Nothing
+returns-in-Nothing c = search put_ways

@@ -1,0 +1,2 @@
+-- What is proved of all this.
+pub mod Laws

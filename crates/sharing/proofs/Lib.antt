@@ -1,0 +1,2 @@
+-- What is proved of it.
+pub mod Laws
