@@ -1,0 +1,16 @@
+-- `walk::scopes::write_head` meets its contract.
+use Rattle.walk.proofs.Opens.{opens}
+use Rattle.walk.proofs.ScopesLaws.{ways}
+use Rattle.walk.proofs.scopes.write_head.Goals as goal
+
+pub write_fresh-requires : goal.write_fresh-requires
+write_fresh-requires c = search opens
+
+pub write_own-requires : goal.write_own-requires
+write_own-requires c = search opens
+
+pub returns-in-Refused : goal.returns-in-Refused
+returns-in-Refused c = search ways
+
+pub returns-in-Done : goal.returns-in-Done
+returns-in-Done c = search ways
