@@ -16,7 +16,7 @@ pub extern "C" fn wnt_moved(form: &[u8], out: &mut [u8], moved: &mut [u8], apart
     ensures value { result ≡ packed (ruled (moved_answer base form.now (rooms_of (held out.old moved.old apart.old)))) }
     ensures apart_after { held out.new moved.new apart.new ≡ buffers base form.now (held out.old moved.old apart.old) }
 {
-    ferhevok::numbers::wnt_moved(form, out, moved, apart)
+    ferhevok::moves::wnt_moved(form, out, moved, apart)
 }
 
 // The same for a form of any version. After every return the areas are zero up to the sizes of the form's version.
@@ -36,5 +36,5 @@ pub extern "C" fn wnt_moved_with(
     ensures apart_after { held out.new moved.new apart.new ≡ buffers_with form.now (held out.old moved.old apart.old) (lent_of entered.old names.old known.old chains.old ends.old) }
     ensures cleared { Cleared (asked form.now).version entered.old entered.new names.old names.new known.old known.new chains.old chains.new ends.old ends.new }
 {
-    ferhevok::numbers::wnt_moved_with(form, out, moved, apart, entered, names, known, chains, ends)
+    ferhevok::moves::wnt_moved_with(form, out, moved, apart, entered, names, known, chains, ends)
 }

@@ -1,6 +1,6 @@
--- `ferhevok::numbers::packed_lists` meets its contract.
+-- `ferhevok::moves::packed_lists` meets its contract.
 use Rattle.ferhevok.proofs.Packs.{packs_lists}
-use Rattle.ferhevok.proofs.numbers.packed_lists.Goals as goal
+use Rattle.ferhevok.proofs.moves.packed_lists.Goals as goal
 
 pub returns-in-Listed : goal.returns-in-Listed
 returns-in-Listed c = search packs_lists
