@@ -90,6 +90,7 @@ module _ (rules : RuleSet) where
         let h = fields_size w fs in
         let r = fields_few cs kind k (n + length (item_rows i)) (counts_by cnt (head_declared n (head_of i))) fs g.1 a.2 p in
         omega arith
+    fields_few end kind k n cnt (w ▸ fs) g a x12 = elim x12 [ ]
 
     item_few : (i : Item) (kind n : ℕ) (w : Item) → GoodItem rules i kind → AddedItem i → blank_item (without_item i) ≡ blank_item w → ItemFew n i w
     item_few (plain h) kind n (plain w) g a e = plain_few n h w (same_head (plain h) (plain w) e)

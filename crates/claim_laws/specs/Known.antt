@@ -61,6 +61,8 @@ data Same : List Standing → List Declared → Type 0 where
 same_append : (ss ts : List Standing) (xs ys : List Declared) → Same ss xs → Same ts ys → Same (ss ++ ts) (xs ++ ys)
 same_append [] ts [] ys none_same q = q
 same_append (s ∷ ss) ts (x ∷ xs) ys (more_same e f p) q = more_same e f (same_append ss ts xs ys p q)
+same_append [] ts (x ∷ xs) ys x5 q = elim x5 [ ]
+same_append (s ∷ ss) ts [] ys x4 q = elim x4 [ ]
 
 same_inserted : (h : Head) (n : ℕ) (ds : List Declaration) → is_inserted h ≡ true → Same (in_inserted h ds) (from_head h n ds)
 unfolding in_inserted if_added only
@@ -80,7 +82,7 @@ same_head h n field false e = same_original h (suc n) field 0 h.decls e
 same_fields : (j n : ℕ) (fs : Fields) → Same (standings j fs) (declared_in n fs)
 unfolding standings declared_in
 same_fields j n end = none_same
-same_fields j n (i ▸ fs) = same_append _ _ (head_declared n (head_of i)) (declared_in (n + length (item_rows i)) fs) (same_head (head_of i) n j (is_inserted (head_of i)) refl) (same_fields _ (n + length (item_rows i)) fs)
+same_fields j n (i ▸ fs) = same_append _ _ (head_declared n (head_of i)) (declared_in (n + length (item_rows i)) fs) (same_head (head_of i) n j (is_inserted (head_of i)) refl) (same_fields (if is_inserted (head_of i) then j else suc j) (n + length (item_rows i)) fs)
 
 same_space : (s : Standing) (x : Declared) → s.decl ≡ x.decl → (space : ℕ) → eqb s.decl.space space ≡ eqb x.decl.space space
 same_space s x e space = ap (λ (d : Declaration). eqb d.space space) e
@@ -96,6 +98,8 @@ nth_same (s ∷ ss) (x ∷ xs) space e (more_same q f p) = go (eqb x.decl.space 
     go true (suc e) t u r = rw (t, u) (r e)
     go false zero t u r = rw (t, u) (r zero)
     go false (suc e) t u r = rw (t, u) (r (suc e))
+nth_same [] (x ∷ xs) space e x3 = elim x3 [ ]
+nth_same (s ∷ ss) [] space e x3 = elim x3 [ ]
 
 reached_nth : (n : ℕ) (fs : Fields) (space e : ℕ) → reached fs space e ≡ (nth_of (declared_in n fs) space e then added_at)
 unfolding reached counted

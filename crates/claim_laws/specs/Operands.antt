@@ -337,6 +337,7 @@ module _ (claim : List ℕ) (ss : List Slot) (used : ℕ) where
           both_run n (scope kind name cs₀) (open_scope_t name k ∷ st) outside i w cs fs ms ws e
           (λ ks. item_run i kind name k cs₀ n st outside w ks (fields_rows fs ++ ws) S K.0 a.1 b.0 q low.0 low.1 t.0 t.1 (omega arith) (settled_fields fs ws s))
           (fields_run cs kind name k cs₀ (n + length (item_rows i)) st outside fs ms ws S K.1 a.2 b.1 p low.2 t.2 (omega arith) s)
+      fields_run end kind name k cs₀ n st outside (w ▸ fs) ms ws S K a b x38 low t l s = elim x38 [ ]
 
       item_run : (i : Item) (kind name k : ℕ) (cs₀ : Fields) (n : ℕ) (st : List (List ℕ)) (outside : List Env) (w : Item) (ms : List Mark) (ws : List Row) → Site kind name k cs₀ st outside → KnownItem (parts_at claim) rules ss (n + length (head_rows (head_of i))) i → AddedItem i → BareItem i
           → blank_item (without_item i) ≡ blank_item w → LowHead (head_of w) → LowItem w → NarrowOperands (head_of w).operands → NarrowItem w → n + length (item_rows i) ≤ 65536 → Settled ws → ItemRun n (scope kind name cs₀) (open_scope_t name k ∷ st) outside i w ms ws

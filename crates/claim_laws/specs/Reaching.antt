@@ -122,6 +122,8 @@ module _ (claim : List ℕ) where
   unfolding outer_in entry_of ◌then◌
   outer_reached found.Nothing none nowhere = unfold met_at in refl
   outer_reached (found.At n) (some g) (there r h s A) = outer_alias_lem r h s A
+  outer_reached (found.At n) none x'' = elim x'' [ ]
+  outer_reached found.Nothing (some g) x3 = elim x3 [ ]
 
   -- ---- through one alias of an export
 
@@ -178,6 +180,8 @@ module _ (claim : List ℕ) where
   unfolding export_in entry_of ◌then◌
   export_reached found.Nothing none space name nowhere = unfold entered in refl
   export_reached (found.At n) (some g) space name (there r h s A) = export_alias_lem r h space name s A
+  export_reached (found.At n) none space name x'' = elim x'' [ ]
+  export_reached found.Nothing (some g) space name x3 = elim x3 [ ]
 
 -- ---- several PATHs
 

@@ -20,7 +20,8 @@ use Rattle.rules.specs.Laws.ToolLaws.{All, done, ◌&◌, all_append}
 use Rattle.agree.specs.Fit.Spaces.{SpacesDecls}
 use Rattle.agree.specs.Fit.GoodSpaces.{head_decls}
 use Rattle.checking.proofs.Laws.AddedFields.{AddedScope}
-use Rattle.claim_scopes.specs.Open.{open_scope_t, here_t}
+use Rattle.claim_rows.specs.Added.{is_added_t}
+use Rattle.claim_scopes.specs.Open.{open_scope_t, here_t, open_one_t}
 use Rattle.claim_scopes.specs.Entries.{enter_t}
 use Rattle.claim_numbers.specs.Count.{no_counts, more_count_t, number_in, more_in, less_in, number_before_t, counts_t}
 use Rattle.claim_numbers.specs.Enter.{decl_slot, decl_entry_t, entries_t}
@@ -151,7 +152,9 @@ module _ (room : ℕ) where
   entries_marks : (i : ℕ) (a : Bool) (st cs : List (List ℕ)) (ss : List Slot) (ps : List Parts) → entries_t room i a st cs ss ps ≡ entries cs ss (marks_t i a st ps)
   unfolding entries_t entries marks_t
   entries_marks i a st cs ss [] = refl
-  entries_marks i a st cs ss (p ∷ ps) = entries_marks _ _ _ _ _ ps
+  entries_marks i a st cs ss (p ∷ ps) =
+      let b = is_added_t a p.code ps in
+      entries_marks (i + 1) b (open_one_t 64 st p i) (counts_t 64 cs p) (decl_entry_t room b ss (here_t st) p (number_before_t cs p) i) ps
 
   still_row : (cs : List (List ℕ)) (ss : List Slot) (a : Bool) (st : List (List ℕ)) (n : ℕ) (r : Row) (ms : List Mark) → Still r → entries cs ss (mark a st n (as_parts r) ∷ ms) ≡ entries cs ss ms
   unfolding entries counts_t decl_entry_t pick

@@ -156,9 +156,11 @@ module _ (scopes counts : List (List ℕ)) (d : ℕ) (p : Parts) (i : ℕ) (l : 
   more_is k true h t w e = let q : w ≡ (0 & counts) = rw (lt-leb _ _ h, t) at e in rw t (ap out_of q, ap (λ (x : Out ℕ (List (List ℕ))). counts_in (left_of x) (suc k)) q, ap (λ (x : Out ℕ (List (List ℕ))). length (left_of x)) q)
   more_is k false h t w e =
       let q : w ≡ (get_or (counts_at counts k) p.b 0 & set counts k (more_count_t (counts_at counts k) p.b)) = rw (lt-leb _ _ h, t) at e in
-      rw t
-      (ap out_of q, ap (λ (x : Out ℕ (List (List ℕ))). counts_in (left_of x) (suc k)) q ∙ counts_set counts k (more_count_t (counts_at counts k) p.b) h,
-       ap (λ (x : Out ℕ (List (List ℕ))). length (left_of x)) q ∙ length-set counts k (more_count_t (counts_at counts k) p.b))
+      rw t (
+        ap out_of q,
+        ap (λ (x : Out ℕ (List (List ℕ))). counts_in (left_of x) (suc k)) q ∙ counts_set counts k (more_count_t (counts_at counts k) p.b) h,
+        ap (λ (x : Out ℕ (List (List ℕ))). length (left_of x)) q ∙ length-set counts k (more_count_t (counts_at counts k) p.b),
+      )
 
   declared : (d₁ : ℕ) → d₁ ≡ d → (w : Out ℕ (List (List ℕ))) → w ≡ pick (eqb d₁ 0) (0 & counts) (bump_count_t counts (d₁ - 1) p.b) → (out_of w ≡ number_in (counts_in counts d₁) p.b) × (counts_in (left_of w) d₁ ≡ more_in (counts_in counts d₁) p.b) × (length (left_of w) ≡ length counts)
   unfolding pick counts_in number_in more_in

@@ -1,3 +1,2 @@
 // Two resolved forms compared: rules and laws. It has no code.
 #![tactic(auto)]
-

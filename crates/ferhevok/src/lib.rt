@@ -9,7 +9,7 @@ pub mod fewer;
 pub mod in_place;
 pub mod lent;
 pub mod members;
-pub mod numbers;
+pub mod moves;
 pub mod told;
 pub mod versions;
 

@@ -1,3 +1,2 @@
 // Headers and the settings that they ask for: laws that several crates cite. It has no code.
 #![tactic(auto)]
-

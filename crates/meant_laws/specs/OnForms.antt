@@ -180,6 +180,12 @@ module _ (prelude member : List ℕ) (s m : Scope) (P : Reads prelude s) (M : Re
   shown none Nowhere nothing = no_part
   shown (some (in_member d)) (Member row) (in_member_lem e) = let R = row_of member m M d row e in of_member R.0 row R.1 R.2
   shown (some (in_prelude d)) (Prelude row) (in_prelude_lem e) = let R = row_of prelude s P d row e in of_prelude_lem R.0 row R.1 R.2
+  shown none (Member row) x'' = elim x'' [ ]
+  shown none (Prelude row) x3 = elim x3 [ ]
+  shown (some (in_prelude d)) (Member row) x5 = elim x5 [ ]
+  shown (some (in_prelude d)) Nowhere x6 = elim x6 [ ]
+  shown (some (in_member d)) (Prelude row) x6 = elim x6 [ ]
+  shown (some (in_member d)) Nowhere x7 = elim x7 [ ]
 
   -- What is handed back for the row of an operand is the DECL row that the rules name, sixteen bytes out of the member or out of the prelude.
   pub row_itself : (p : Place) (r : ℕ) → row_of_operand m p ≡ some r → Shown prelude member s m (member_means s m p) (chosen (meant_t prelude member r) prelude member)

@@ -26,8 +26,12 @@ pub found_in_member : (s m : Scope) (o : Option Place) (f : Found) → Finds m o
 unfolding member_found
 found_in_member s m none Nothing no_row = nothing
 found_in_member s m (some d) (FoundAt row number) (at_row e) = in_member_lem e
+found_in_member s m none (FoundAt row number) x'' = elim x'' [ ]
+found_in_member s m (some d) Nothing x3 = elim x3 [ ]
 
 pub found_in_root : (s m : Scope) (o : Option Place) (f : Found) → Finds s o f → Told s m (map in_prelude o) (root_found f)
 unfolding root_found
 found_in_root s m none Nothing no_row = nothing
 found_in_root s m (some d) (FoundAt row number) (at_row e) = in_prelude_lem e
+found_in_root s m none (FoundAt row number) x'' = elim x'' [ ]
+found_in_root s m (some d) Nothing x3 = elim x3 [ ]

@@ -1,3 +1,2 @@
 // Mending a spoilt form: rules and laws. It has no code.
 #![tactic(auto)]
-

@@ -10,7 +10,7 @@ use ferhevok::bindings::wnt_sheet;
 use ferhevok::builds::wnt_compare;
 use ferhevok::in_place::wnt_mend;
 use ferhevok::members::{wnt_batch, wnt_meant, wnt_member};
-use ferhevok::numbers::wnt_moved;
+use ferhevok::moves::wnt_moved;
 use ferhevok::versions::wnt_convert;
 use ferhevok::wnt_resolve;
 

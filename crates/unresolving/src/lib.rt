@@ -1,3 +1,2 @@
 // From a resolved form back to names: rules and laws. It has no code.
 #![tactic(auto)]
-

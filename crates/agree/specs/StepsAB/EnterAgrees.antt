@@ -52,6 +52,8 @@ pub entered_append : (ss ss' : List Slot) (ds ds' : List Declaration) → Entere
 unfolding EnteredAs
 entered_append [] ss' [] ds' e f = f
 entered_append (s ∷ ss) ss' (d ∷ ds) ds' e f = (e.0, e.1, e.2, entered_append ss ss' ds ds' e.3 f)
+entered_append [] ss' (d ∷ ds) ds' e f = elim e [ ]
+entered_append (s ∷ ss) ss' [] ds' e f = elim e [ ]
 
 -- the place of the first declaration of a name, where the rules find one
 abbrev first_in : Option ℕ → (place : ℕ) → Found
@@ -73,6 +75,8 @@ entered_first [] [] space name e = refl
 entered_first (s ∷ ss) (d ∷ ds) space name e =
     rw (e.0, e.1, e.2, entered_first ss ds space name e.3)
     (first_turn (eqb d.space space) (eqb d.name name) d.z (first_place ds space name) (find ds space name))
+entered_first [] (d ∷ ds) space name e = elim e [ ]
+entered_first (s ∷ ss) [] space name e = elim e [ ]
 
 first_known : (o : Option ℕ) (place : ℕ) → is_found (first_in o place) ≡ is_just o
 first_known none place = refl

@@ -14,10 +14,10 @@ chain_at-chain-requires c = (search rules, counts_below _ _ _ _ c.requires.1 (om
 
 pub loop-row-preserved : goal.loop-row-preserved
 loop-row-preserved c = let chain = c.chain_at-chain.ensures in (
-      chains_on _ _ _ _ c.loop-row.invariant.0 (omega arith) (omega arith) _ chain.0 chain.1 _ c.link.ensures,
-      search rules,
-      search rules,
-    )
+  chains_on _ _ _ _ c.loop-row.invariant.0 (omega arith) (omega arith) _ chain.0 chain.1 _ c.link.ensures,
+  search rules,
+  search rules,
+)
 
 pub returns : goal.returns
 returns c = chains_all _ _ _ _ _ c.loop-row.invariant.0 (omega arith) (omega arith)

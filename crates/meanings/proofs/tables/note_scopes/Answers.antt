@@ -13,11 +13,11 @@ scope_behind-next-requires c = (search rules, search rules, search rules)
 
 pub loop-row-preserved : goal.loop-row-preserved
 loop-row-preserved c = let turn = c.loop-row.invariant in (
-      scopes_on _ _ _ turn.0 (omega arith) _ _ c.put.ensures turn.1,
-      search rules,
-      search rules,
-      search rules,
-    )
+  scopes_on _ _ _ turn.0 (omega arith) _ _ c.put.ensures turn.1,
+  search rules,
+  search rules,
+  search rules,
+)
 
 pub returns : goal.returns
 returns c = search scopes_ways

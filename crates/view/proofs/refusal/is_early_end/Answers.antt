@@ -9,7 +9,6 @@ use Rattle.row_parts.specs.Parts.{rows_in}
 use Rattle.view.proofs.refusal.is_early_end.Goals as goal
 
 early_is : (form : List ℕ) (number place rows : ℕ) → rows ≡ rows_in form → (eqb number 4 && eqb place rows) ≡ (eqb number 4 && eqb place (rows_in form))
-
 early_is form number place rows h = rw h
 
 pub returns : goal.returns

@@ -22,4 +22,4 @@ pub returns-in-Refused : goal.returns-in-Refused
 returns-in-Refused c = (search begins, search opens)
 
 pub returns-in-Done : goal.returns-in-Done
-returns-in-Done c = (begin_done _ _ _ _ _ _ _ c.row_number-first.ensures _ _ c.enter_fields.ensures.0 _ c.count-1.given.1 _ _ c.plan_scope.ensures.0 _ c.p-1.given.1, begun_by _ _ _ _ _ _ c.args.s _ _ c.p-1.given.1 c.plan_scope.ensures.1 c.leave.ensures)
+returns-in-Done c = (begin_done _ _ _ _ _ _ _ c.row_number-first.ensures _ _ c.enter_fields.ensures.0 _ c.in-Upto.is _ _ c.plan_scope.ensures.0 _ c.in-Done.is, begun_by _ _ _ _ _ _ c.args.s _ _ c.in-Done.is c.plan_scope.ensures.1 c.leave.ensures)

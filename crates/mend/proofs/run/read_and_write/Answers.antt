@@ -1,0 +1,22 @@
+-- `mend::run::read_and_write` meets its contract.
+use mathlib.Core.Path.{sym}
+use native.Mathlib.Omega.{arith}
+use lib.Seq.{length-take-le}
+use Rattle.mend.proofs.Ways.{fits_head, read_broken, read_deep, read_whole}
+use borrow.Author.Rules.{rules}
+use Rattle.mend.proofs.run.read_and_write.Goals as goal
+
+pub slice_bounds-read_of-end-2 : goal.slice_bounds-read_of-end-2
+slice_bounds-read_of-end-2 c = sym (length-take-le _ _ (omega arith))
+
+pub read_of-requires : goal.read_of-requires
+read_of-requires c = search (fits_head, rules)
+
+pub returns-in-Broken : goal.returns-in-Broken
+returns-in-Broken c = search (read_broken, rules)
+
+pub returns-in-Deep : goal.returns-in-Deep
+returns-in-Deep c = search (read_deep, rules)
+
+pub returns-in-Whole : goal.returns-in-Whole
+returns-in-Whole c = search (read_whole, rules)
