@@ -1,24 +1,27 @@
 -- `options::given::has` meets its contract.
 use mathlib.Core.Path.{◌≡◌, refl}
-use mathlib.Core.Bool.{Bool, false}
+use mathlib.Core.Bool.{false}
 use Prim.Native.Nat.{ℕ, ◌/◌, ◌%◌}
 use borrow.Author.Rules.{rules}
 use lib.Dec.{eqb}
 use Rattle.kit.proofs.Laws.{yes!, no!, tests}
 use Rattle.options.specs.Given.{is_in}
-use Rattle.options.proofs.given.has.Statement.{statement}
-use Rattle.options.proofs.given.has.Tie as tie
+use Rattle.options.proofs.given.has.Goals as goal
 
 none_is : (set option : ℕ) → option ≡ 0 → false ≡ is_in set option
+
 unfolding is_in
+
 none_is set option h = yes! _ (omega tests) refl
 
 one_is : (set option : ℕ) → (option ≡ 0 → ⊥) → eqb (set / option % 2) 1 ≡ is_in set option
+
 unfolding is_in
+
 one_is set option h = no! _ (omega tests) refl
 
-pub has_spec : {M : Type 1} → statement M
-has_spec = tie.close (tie.spec
-    (λ c. search (none_is, rules))
-    (λ c. search rules)
-    (λ c. search (one_is, rules)))
+pub returns-then-option-eq0 : goal.returns-then-option-eq0
+returns-then-option-eq0 c = search (none_is, rules)
+
+pub returns : goal.returns
+returns c = search (one_is, rules)
