@@ -12,7 +12,7 @@ use lib.ListN.{get_or}
 use borrow.Author.Tests.{ne_eqb, leb-true}
 use Rattle.kit.specs.Pick.{pick}
 use Rattle.kit.proofs.Laws.{lt_or_le, yes!, no!, tests}
-use Rattle.rules.specs.Tools.{if◌then◌else◌, only, ◌then◌, is_in}
+use Rattle.rules.specs.Tools.{when◌then◌else◌, only, ◌then◌, is_in}
 use Rattle.rules.specs.Shapes.{Want, r, p, out, cas, Part, one, opt, any, cases, variants, typed, fits_ref, fits_outer, is_case, paths_ok, next, complete}
 use Rattle.rules.specs.Laws.ToolLaws.{and_left, and_right}
 use Rattle.wants.specs.States.{states, left_of, after, entry, ref_entry, outer_entry, Right}
@@ -69,7 +69,7 @@ low_at (ps ∷ pss) h (suc k) = low_at pss (and_right (low_parts ps) (low_all ps
 -- a row that fits no want of the spaces 0 to 12
 module _ (fits : Want → Bool) (miss : (w : Want) → low_want w ≡ true → fits w ≡ false) where
   missed : (ps : List Part) → low_parts ps ≡ true → next fits ps ≡ none
-  unfolding next if◌then◌else◌ only
+  unfolding next when◌then◌else◌ only
   missed [] h = refl
   missed (one w ∷ ps) h = rw (miss w (and_left _ _ h))
   missed (opt w ∷ ps) h = rw (miss w (and_left _ _ h)) (missed ps (and_right (low_want w) (low_parts ps) h))

@@ -13,7 +13,7 @@ use borrow.Author.Tests.{eqb-true, leb-true, ltb-false}
 use Rattle.kit.specs.Out.{◌&◌}
 use Rattle.kit.specs.Pick.{pick}
 use Rattle.kit.proofs.Laws.{yes!, tests}
-use Rattle.rules.specs.Tools.{if◌then◌else◌, between, only, ◌or_else◌}
+use Rattle.rules.specs.Tools.{when◌then◌else◌, between, only, ◌or_else◌}
 use Rattle.rules.specs.Versions.{Setting, version1, today, top_name, base}
 use Rattle.rules.specs.Rows as rules
 use Rattle.rules.specs.Rows.{Raw, raw, raw_bytes, bytes, encode, decode_row, encode_row}
@@ -130,10 +130,10 @@ data Told (l : List ℕ) : Heading → Type 0 where
   rows : setting_of base l ≡ some one → miscounted l ≡ false → Told l (Rows (row_count version1 l))
 
 told : (l : List ℕ) → Told l (header_of l)
-unfolding header_of header_for header_in if◌then◌else◌ setting_of only ◌or_else◌
+unfolding header_of header_for header_in when◌then◌else◌ setting_of only ◌or_else◌
 told l = by_header (has_header one l) refl
   where
-    by_count : (b : Bool) → miscounted l ≡ b → setting_of base l ≡ some one → Told l (if b then Count else Rows (row_count version1 l))
+    by_count : (b : Bool) → miscounted l ≡ b → setting_of base l ≡ some one → Told l (when b then Count else Rows (row_count version1 l))
     by_count true e s = count s e
     by_count false e s = rows s e
 
@@ -178,7 +178,7 @@ module _ (l out key : List ℕ) (asks : setting_of base l ≡ some one) (right :
   reads = rw body_rows
 
   form_is : (f : ℕ → ℕ) → renamed_bytes f base l ≡ take 8 l ++ renamed_rows (renamed f) (row_count version1 l) (drop 8 l)
-  unfolding renamed_bytes renamed_for renamed_in if◌then◌else◌
+  unfolding renamed_bytes renamed_for renamed_in when◌then◌else◌
   form_is f =
       let t : eqb (length l) (8 + 16 * row_count version1 l) ≡ true = (neither_not (between 1 1023 (row_count version1 l)) (eqb (length l) (8 + 16 * row_count version1 l)) right).1 in
       rw (asks, t)
@@ -215,11 +215,11 @@ module _ (l out key : List ℕ) (asks : setting_of base l ≡ some one) (right :
   read_says (form t) h roomy = whole_says t h.0 roomy
 
   run_says : Says l out key (anonymous_in one l (length out)) (run_t l out key)
-  unfolding run_t pick if◌then◌else◌ anonymous_in map_answer anonymous_after key_after
+  unfolding run_t pick when◌then◌else◌ anonymous_in map_answer anonymous_after key_after
   run_says = rw right (go (ltb (length out) (length l)) refl)
     where
       go : (b : Bool) → ltb (length out) (length l) ≡ b
-          → Says l out key (if b then refused 3 0 [] else after_reading (read today 32 (rows_in one l)) (key_in one l)) (pick b (Room & out & key) (read_then (read_of (drop 8 l)) l out key))
+          → Says l out key (when b then refused 3 0 [] else after_reading (read today 32 (rows_in one l)) (key_in one l)) (pick b (Room & out & key) (read_then (read_of (drop 8 l)) l out key))
       go true e = (refl, refl, refl)
       go false e =
           let roomy = ltb-false (length out) (length l) e in
@@ -256,7 +256,7 @@ module _ (l out key : List ℕ) (h : Heading) (w : h ≡ header_of l) where
     where
       go : Told l Count → Promised l out key RowCount out key
       go (count s m) =
-          promised l out key (refused 2 0 []) (unfold anonymous anonymous_for anonymous_in if◌then◌else◌ in rw (s, m)) RowCount out key
+          promised l out key (refused 2 0 []) (unfold anonymous anonymous_for anonymous_in when◌then◌else◌ in rw (s, m)) RowCount out key
           (unfold map_answer in refl, unfold anonymous_after in refl, unfold key_after in refl)
 
   pub long_enough : (m : ℕ) → h ≡ Rows m → 8 ≤ length l

@@ -15,7 +15,7 @@ use borrow.Author.Tests.{eqb-true}
 use Rattle.kit.specs.Out.{◌&◌}
 use Rattle.kit.specs.Pick.{pick}
 use Rattle.kit.proofs.Laws.{tests, take_next_set}
-use Rattle.rules.specs.Tools.{if◌then◌else◌, is_in, between}
+use Rattle.rules.specs.Tools.{when◌then◌else◌, is_in, between}
 use Rattle.rules.specs.Versions.{top_name}
 use Rattle.rules.specs.Laws.ToolLaws.{false_not, eqb_same, eqb-false}
 use Rattle.renaming.specs.Renaming.{renamed, name_in, firsts, place_of}
@@ -42,12 +42,12 @@ eqb_turn a b true e = rw (eqb-true a b e) (eqb_same b)
 eqb_turn a b false e = eqb-false b a (λ q. let back : eqb a b ≡ true = rw q (eqb_same a) in false_not (sym e ∙ back))
 
 find_known : (k : ℕ) (ns : List ℕ) (n : ℕ) → is_in n ns ≡ true → find_in (slots_from (suc k) ns) 0 n ≡ At (k + place_of ns n)
-unfolding find_in slots_from place_of pick if◌then◌else◌
+unfolding find_in slots_from place_of pick when◌then◌else◌
 find_known k [] n i = false_not i
 find_known k (m ∷ ns) n i = go (eqb n m) refl i (λ j. find_known (suc k) ns n j)
   where
     go : (t : Bool) → eqb n m ≡ t → t || is_in n ns ≡ true → (is_in n ns ≡ true → find_in (slots_from (suc (suc k)) ns) 0 n ≡ At (suc k + place_of ns n))
-        → pick (eqb m n) (At (suc k)) (find_in (slots_from (suc (suc k)) ns) 0 n) ≡ At (k + (if t then 1 else suc (place_of ns n)))
+        → pick (eqb m n) (At (suc k)) (find_in (slots_from (suc (suc k)) ns) 0 n) ≡ At (k + (when t then 1 else suc (place_of ns n)))
     go true e i rec = let num : suc k ≡ k + 1 = omega arith in rw (eqb_turn n m true e) (ap At num)
     go false e i rec = let num : suc k + place_of ns n ≡ k + suc (place_of ns n) = omega arith in rw (eqb_turn n m false e) (rec i ∙ ap At num)
 
@@ -63,7 +63,7 @@ find_none k (m ∷ ns) n i =
     rw (eqb_turn n m false both.0) (find_none (suc k) ns n both.1)
 
 place_none : (ns : List ℕ) (n : ℕ) → is_in n ns ≡ false → place_of ns n ≡ suc (length ns)
-unfolding place_of if◌then◌else◌
+unfolding place_of when◌then◌else◌
 place_none [] n i = refl
 place_none (m ∷ ns) n i =
     let both = neither (eqb n m) (is_in n ns) i in
@@ -71,8 +71,8 @@ place_none (m ∷ ns) n i =
 
 -- ---- names one behind the other
 
-firsts_if : (t : Bool) (xs ys x y l : List ℕ) → x ≡ firsts xs l → y ≡ firsts ys l → (if t then x else y) ≡ firsts (if t then xs else ys) l
-unfolding if◌then◌else◌
+firsts_if : (t : Bool) (xs ys x y l : List ℕ) → x ≡ firsts xs l → y ≡ firsts ys l → (when t then x else y) ≡ firsts (when t then xs else ys) l
+unfolding when◌then◌else◌
 firsts_if true xs ys x y l p q = p
 firsts_if false xs ys x y l p q = q
 
@@ -140,18 +140,18 @@ module _ (table : List Slot) (index : List ℕ) (used : ℕ) (k : Knows table in
   stays ns e = record { knows = k; seen = sym e; few = omega arith; long = refl }
 
   pub enter_none : (name : ℕ) → name ≡ 0 → Enters table used (name_in name) table index used
-  enter_none name z = stays (name_in name) (unfold name_in firsts if◌then◌else◌ in rw z)
+  enter_none name z = stays (name_in name) (unfold name_in firsts when◌then◌else◌ in rw z)
 
   pub enter_number : (at : Index) (n : ℕ) → at ≡ Number n → Enters table used (index_names_t at) table index used
   enter_number at n e = rw e (stays [] (unfold firsts in refl))
 
   module _ (name : ℕ) (named : name ≡ 0 → ⊥) (f : Found) (w : f ≡ find_in (names.between 0 used table) 0 name) where
     one_name : name_in name ≡ name ∷ []
-    unfolding name_in if◌then◌else◌
+    unfolding name_in when◌then◌else◌
     one_name = rw (eqb-false name 0 named)
 
     pub enter_known : (m : ℕ) → f ≡ At m → Enters table used (name_in name) table index used
-    enter_known m e = rw one_name (stays (name ∷ []) (unfold firsts if◌then◌else◌ in rw (was_there name f w m e).0))
+    enter_known m e = rw one_name (stays (name ∷ []) (unfold firsts when◌then◌else◌ in rw (was_there name f w m e).0))
 
     module _ (room : used < length table) (r : ℕ) (table' : List Slot) (index' : List ℕ) (number : ℕ) (next : number ≡ used + 1) (p : (r & table') ≡ pushed table used (slot_of name number)) (h : Holds table' index' r) where
       pushed_as : (r & table') ≡ (used + 1 & set table used (slot_of name number))
@@ -181,7 +181,7 @@ module _ (table : List Slot) (index : List ℕ) (used : ℕ) (k : Knows table in
           rw one_name
           (record {
             knows = record { holds = h; numbered = numbered_are };
-            seen = names_are ∙ unfold firsts if◌then◌else◌ in rw (not_there name f w e);
+            seen = names_are ∙ unfold firsts when◌then◌else◌ in rw (not_there name f w e);
             few = omega (arith, count_is);
             long = ap length table_is ∙ length-set table used (slot_of name number);
           })
@@ -255,9 +255,9 @@ room_left table table' index' used used' at h room = let few = index_few at in o
     index_few (Number n) = omega arith
     index_few (Name n) = unfold name_in in by_test (eqb n 0) n
       where
-        by_test : (t : Bool) (m : ℕ) → length (if t then [] else m ∷ []) ≤ 1
-        by_test true m = unfold if◌then◌else◌ in omega arith
-        by_test false m = unfold if◌then◌else◌ in omega arith
+        by_test : (t : Bool) (m : ℕ) → length (when t then [] else m ∷ []) ≤ 1
+        by_test true m = unfold when◌then◌else◌ in omega arith
+        by_test false m = unfold when◌then◌else◌ in omega arith
 
 pub ruleset enters = (knows_covers, enter_none, enter_number, enter_name, enter_known, enter_new, row_decl, row_ref, row_outer, row_case, row_open, row_bare, room_left, rules)
 
@@ -265,10 +265,10 @@ pub ruleset enters = (knows_covers, enter_none, enter_number, enter_name, enter_
 
 module _ (table : List Slot) (index : List ℕ) (used : ℕ) (k : Knows table index used) (name : ℕ) where
   pub number_none : name ≡ 0 → name ≡ renamed (place_of (seen_in table used)) name
-  number_none z = unfold renamed if◌then◌else◌ in rw z
+  number_none z = unfold renamed when◌then◌else◌ in rw z
 
   pub number_fresh : 2147483648 ≤ name → name ≡ renamed (place_of (seen_in table used)) name
-  unfolding renamed if◌then◌else◌
+  unfolding renamed when◌then◌else◌
   number_fresh h =
       let high : leb name top_name ≡ false = omega tests in
       let past : between 1 top_name name ≡ false = rw high (and_off (leb 1 name)) in
@@ -280,7 +280,7 @@ module _ (table : List Slot) (index : List ℕ) (used : ℕ) (k : Knows table in
 
   module _ (named : name ≡ 0 → ⊥) (low : name < 2147483648) (f : Found) (w : f ≡ find_in (names.between 0 used table) 0 name) where
     in_range : renamed (place_of (seen_in table used)) name ≡ place_of (seen_in table used) name
-    unfolding renamed if◌then◌else◌
+    unfolding renamed when◌then◌else◌
     in_range =
         let a : leb 1 name ≡ true = omega tests in
         let b : leb name top_name ≡ true = omega tests in

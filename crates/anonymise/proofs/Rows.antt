@@ -17,7 +17,7 @@ use Rattle.kit.specs.Pick.{pick}
 use Rattle.kit.proofs.Laws.{yes!, no!, tests, left_suc, lt_or_le}
 use Rattle.rules.specs.Rows as rules
 use Rattle.rules.specs.Rows.{decode_row}
-use Rattle.rules.specs.Tools.{if◌then◌else◌}
+use Rattle.rules.specs.Tools.{when◌then◌else◌}
 use Rattle.rules.specs.Versions.{top_name}
 use Rattle.rules.specs.Answer.{rows_of}
 use Rattle.renaming.specs.Renaming.{name_in, row_names, names_of, firsts, place_of, renamed}
@@ -55,8 +55,8 @@ names_cons (some (rules.Open kind name)) rest = refl
 names_cons (some rules.Close) rest = refl
 names_cons (some (rules.Export name)) rest = refl
 
-few_if : (t : Bool) (n : ℕ) → length (if t then [] else n ∷ []) ≤ 1
-unfolding if◌then◌else◌
+few_if : (t : Bool) (n : ℕ) → length (when t then [] else n ∷ []) ≤ 1
+unfolding when◌then◌else◌
 few_if true n = omega arith
 few_if false n = omega arith
 

@@ -8,7 +8,7 @@ use native.Mathlib.Omega.{arith}
 use Rattle.std.proofs.Math.ListN.{length, get_elem?, length-append}
 use Rattle.std.proofs.lemmas.Bool.{eqb-false}
 use Rattle.kit.specs.Pick.{pick}
-use Rattle.rules.specs.Tools.{if◌then◌else◌, ◌then◌}
+use Rattle.rules.specs.Tools.{when◌then◌else◌, ◌then◌}
 use Rattle.rules.specs.Versions.{RuleSet}
 use Rattle.rules.specs.Tree.{Declaration, Head, Scope, scope, Fields, end, ◌▸◌, Item, plain, holds, head_of, head_rows, flatten, fields_rows, item_rows}
 use Rattle.rules.specs.Rules.{declarations}
@@ -50,7 +50,7 @@ same_key_lem k space space' l = go (eqb space space') refl
 -- the j-th of a space behind those before
 decl_found : (k : ℕ) (past ds : List Declaration) (space j x : ℕ) → k < 65536 → length past + length ds < 65536 → x ≡ length (names_in past space) + j + 1
     → find_in (decl_slots k past ds) (entry_key_t k space) x ≡ found_of (get_elem? (names_in ds space) j)
-unfolding find_in decl_slots slot_t names_in found_of if◌then◌else◌ pick
+unfolding find_in decl_slots slot_t names_in found_of when◌then◌else◌ pick
 decl_found k past [] space j x l b e = refl
 decl_found k past (d ∷ ds) space j x l b e =
     go (eqb d.space space) refl j e (λ j' e'. decl_found k (past ++ (d ∷ [])) ds space j' x l (let m = length-append past (d ∷ []) in omega arith) e')
@@ -59,7 +59,7 @@ decl_found k past (d ∷ ds) space j x l b e =
     later = find_in (decl_slots k (past ++ (d ∷ [])) ds) (entry_key_t k space) x
 
     go : (t : Bool) → eqb d.space space ≡ t → (j : ℕ) → x ≡ length (names_in past space) + j + 1 → ((j' : ℕ) → x ≡ length (names_in (past ++ (d ∷ [])) space) + j' + 1 → later ≡ found_of (get_elem? (names_in ds space) j'))
-        → pick (eqb (entry_key_t k d.space) (entry_key_t k space)) (pick (eqb (length (names_in past d.space) % 65536 + 1) x) (At d.name) later) later ≡ found_of (get_elem? (if t then d.name ∷ names_in ds space else names_in ds space) j)
+        → pick (eqb (entry_key_t k d.space) (entry_key_t k space)) (pick (eqb (length (names_in past d.space) % 65536 + 1) x) (At d.name) later) later ≡ found_of (get_elem? (when t then d.name ∷ names_in ds space else names_in ds space) j)
     go true t zero e below =
         let q = eqb-true d.space space t in
         let few = fewer_names past space in

@@ -4,7 +4,7 @@ use Rattle.std.proofs.Math.Path.{refl}
 use Rattle.std.proofs.Common.{sym, ap, ◌∙◌}
 use Rattle.std.proofs.Math.Bool.{true, false}
 use mathlib.Core.List.{List, [], ◌∷◌, ◌++◌, append_assoc, reverse_aux, reverse, reverse-cons, reverse-append}
-use Rattle.rules.specs.Tools.{if◌then◌else◌}
+use Rattle.rules.specs.Tools.{when◌then◌else◌}
 use Rattle.rules.specs.Tree.{Declaration, Operand, Head}
 use Rattle.unresolving.specs.Back.{Group, first_decl, lengthened, prepend, links, alone, groups}
 
@@ -16,11 +16,11 @@ module _ (here : List Declaration) (outside : List (List Declaration)) where
     is : gs ≡ first ∷ more
 
   some_groups : (a : Head) (hs : List Head) → Some (groups here outside (a ∷ hs))
-  unfolding groups prepend if◌then◌else◌
+  unfolding groups prepend when◌then◌else◌
   some_groups a [] = record { first = alone here outside a; more = []; is = refl }
   some_groups a (b ∷ hs) = go (links here outside a b) (some_groups b hs)
     where
-      go : (t : Bool) → Some (groups here outside (b ∷ hs)) → Some (if t then prepend a (groups here outside (b ∷ hs)) else alone here outside a ∷ groups here outside (b ∷ hs))
+      go : (t : Bool) → Some (groups here outside (b ∷ hs)) → Some (when t then prepend a (groups here outside (b ∷ hs)) else alone here outside a ∷ groups here outside (b ∷ hs))
       go true s = record { first = record { decl = s.first.decl; was = lengthened a s.first.was }; more = s.more; is = rw s.is }
       go false s = record { first = alone here outside a; more = groups here outside (b ∷ hs); is = refl }
 
@@ -42,13 +42,13 @@ module _ (here : List Declaration) (outside : List (List Declaration)) where
   -- fields that make one group, behind others
   behind : (xs : List Head) (b : Head) (tail : List Head) (g : Group) → groups here outside (b ∷ tail) ≡ g ∷ [] → LastNot xs b → groups here outside (xs ++ (b ∷ tail)) ≡ groups here outside xs ++ (g ∷ [])
   behind [] b tail g e n = e ∙ (unfold groups in refl)
-  behind (x ∷ []) b tail g e n = unfold groups if◌then◌else◌ in rw (n, e)
+  behind (x ∷ []) b tail g e n = unfold groups when◌then◌else◌ in rw (n, e)
   behind (x ∷ (y ∷ ys)) b tail g e n = go (links here outside x y) refl (behind (y ∷ ys) b tail g e n)
     where
       go : (t : Bool) → links here outside x y ≡ t → groups here outside (y ∷ (ys ++ (b ∷ tail))) ≡ groups here outside (y ∷ ys) ++ (g ∷ [])
           → groups here outside (x ∷ (y ∷ (ys ++ (b ∷ tail)))) ≡ groups here outside (x ∷ (y ∷ ys)) ++ (g ∷ [])
-      go true t below = unfold groups if◌then◌else◌ in rw (t, below) (prepend_append x (groups here outside (y ∷ ys)) g (some_groups y ys))
-      go false t below = unfold groups if◌then◌else◌ in rw (t, below)
+      go true t below = unfold groups when◌then◌else◌ in rw (t, below) (prepend_append x (groups here outside (y ∷ ys)) g (some_groups y ys))
+      go false t below = unfold groups when◌then◌else◌ in rw (t, below)
 
   -- the last of all fields, the last first, is no part of their group
   pub parted : (hs : List Head) (a b : Head) (tail : List Head) (g : Group) → links here outside a b ≡ false → groups here outside (b ∷ tail) ≡ g ∷ []
@@ -61,7 +61,7 @@ module _ (here : List Declaration) (outside : List (List Declaration)) where
 
   pub joined : (a b : Head) (tail : List Head) (g : Group) → links here outside a b ≡ true → groups here outside (b ∷ tail) ≡ g ∷ []
       → groups here outside (a ∷ (b ∷ tail)) ≡ record { decl = g.decl; was = lengthened a g.was } ∷ []
-  unfolding groups prepend if◌then◌else◌
+  unfolding groups prepend when◌then◌else◌
   joined a b tail g l e = rw (l, e)
 
   -- one field more at the end of those before

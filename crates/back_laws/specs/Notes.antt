@@ -11,7 +11,7 @@ use Rattle.std.proofs.lemmas.List.{length-replicate}
 use Rattle.std.proofs.lemmas.Bool.{lt-leb, eqb-false}
 use Rattle.kit.specs.Pick.{pick}
 use Rattle.kit.proofs.Laws.{copies_at}
-use Rattle.rules.specs.Tools.{if◌then◌else◌}
+use Rattle.rules.specs.Tools.{when◌then◌else◌}
 use Rattle.rules.specs.Versions.{RuleSet}
 use Rattle.rules.specs.Laws.ToolLaws.{All, done, ◌&◌}
 use Rattle.rules.specs.Rows.{Index, Row, Field, Decl, Ref, Path, Outer, Case, Open, Close, Export, encode, number}
@@ -98,27 +98,27 @@ unfolding names_in
 none_counted = record { long = length-replicate {A = ℕ} 13 0; are = λ space h. copies_at {A = ℕ} 13 space 0 }
 
 pub names_append : (xs ys : List Declaration) (space : ℕ) → names_in (xs ++ ys) space ≡ names_in xs space ++ names_in ys space
-unfolding names_in if◌then◌else◌
+unfolding names_in when◌then◌else◌
 names_append [] ys space = refl
 names_append (x ∷ xs) ys space = go (eqb x.space space) (names_append xs ys space)
   where
     go : (t : Bool) → names_in (xs ++ ys) space ≡ names_in xs space ++ names_in ys space
-        → (if t then x.name ∷ names_in (xs ++ ys) space else names_in (xs ++ ys) space) ≡ (if t then x.name ∷ names_in xs space else names_in xs space) ++ names_in ys space
+        → (when t then x.name ∷ names_in (xs ++ ys) space else names_in (xs ++ ys) space) ≡ (when t then x.name ∷ names_in xs space else names_in xs space) ++ names_in ys space
     go true e = rw e
     go false e = e
 
 pub fewer_names : (ds : List Declaration) (space : ℕ) → length (names_in ds space) ≤ length ds
-unfolding names_in if◌then◌else◌
+unfolding names_in when◌then◌else◌
 fewer_names [] space = omega arith
 fewer_names (d ∷ ds) space = go (eqb d.space space) (fewer_names ds space)
   where
-    go : (t : Bool) → length (names_in ds space) ≤ length ds → length (if t then d.name ∷ names_in ds space else names_in ds space) ≤ suc (length ds)
+    go : (t : Bool) → length (names_in ds space) ≤ length ds → length (when t then d.name ∷ names_in ds space else names_in ds space) ≤ suc (length ds)
     go true e = omega arith
     go false e = omega arith
 
 -- one more of its space
 pub more_names : (past : List Declaration) (d : Declaration) (space : ℕ) → (d.space ≡ space → length (names_in (past ++ (d ∷ [])) space) ≡ length (names_in past space) + 1) × ((d.space ≡ space → ⊥) → names_in (past ++ (d ∷ [])) space ≡ names_in past space)
-unfolding names_in if◌then◌else◌
+unfolding names_in when◌then◌else◌
 more_names past d space =
     let e = names_append past (d ∷ []) space in
     (λ q. let n = length-append (names_in past space) (d.name ∷ []) in rw (e, eq-eqb d.space space q) (omega arith), λ q. rw (e, ne_eqb d.space space q) (append-nil (names_in past space)))

@@ -7,7 +7,7 @@ use Rattle.std.proofs.Math.Option.{Option, none, some}
 use mathlib.Core.List.{List, [], ◌∷◌, ◌++◌, append_assoc, append-nil, reverse, reverse-cons, reverse-append}
 use Rattle.kit.specs.Pick.{pick}
 use Rattle.kit.specs.Out.{Out, ◌&◌}
-use Rattle.rules.specs.Tools.{if◌then◌else◌}
+use Rattle.rules.specs.Tools.{when◌then◌else◌}
 use Rattle.rules.specs.Rows.{Index, Num, Row, Ref, Outer, Case, encode, encode_row}
 use Rattle.rules.specs.Tree.{Declaration, Operand, ref, outer, case, Head, path_rows, operand_row, operand_rows}
 use Rattle.unresolving.specs.Back.{Group, is_for, groups, first_fit}
@@ -87,11 +87,11 @@ module _ (here : List Declaration) (outside : List (List Declaration)) where
   fit_none (o ∷ os) = refl
 
   fit_first : (o : Operand) (os : List Operand) (g : Group) (gs : List Group) → is_for here outside g.decl o ≡ true → first_fit here outside (o ∷ os) (g ∷ gs) ≡ g.was ∷ first_fit here outside os gs
-  unfolding first_fit if◌then◌else◌
+  unfolding first_fit when◌then◌else◌
   fit_first o os g gs e = rw e
 
   fit_later : (o : Operand) (os : List Operand) (g : Group) (gs : List Group) → is_for here outside g.decl o ≡ false → first_fit here outside (o ∷ os) (g ∷ gs) ≡ o ∷ first_fit here outside os (g ∷ gs)
-  unfolding first_fit if◌then◌else◌
+  unfolding first_fit when◌then◌else◌
   fit_later o os g gs e = rw e
 
   -- an operand that is no reference stays

@@ -4,7 +4,7 @@ use Rattle.std.proofs.Common.{sym, subst, arith}
 use Rattle.std.proofs.Math.Bool.{true, false}
 use mathlib.Core.List.{List, [], ◌∷◌}
 use Rattle.std.proofs.Math.ListN.{length}
-use Rattle.rules.specs.Tools.{if◌then◌else◌, is_in}
+use Rattle.rules.specs.Tools.{when◌then◌else◌, is_in}
 use Rattle.rules.specs.Versions.{RuleSet}
 use Rattle.rules.specs.Rows.{Num}
 use Rattle.rules.specs.Tree.{Declaration, Head, Scope, scope, Fields, end, ◌▸◌, Item, plain, holds, head_of, with_operands}
@@ -74,11 +74,11 @@ module _ (Q : ℕ → Type 0) (ds : List Declaration) (here : Env) (outside : Ou
   -- what was inserted before it
   head_order : (b : ℕ) (h : Head) (e : Expanded Head) (hs : List Head) (h' : Head) → AllMay Q h.operands → expand_head ds outside b h ≡ ok e → resolve_inserted here outside e.inserted ≡ ok hs
       → resolve_head here outside e.now ≡ ok h' → InOrder b hs × (e.k ≡ b + length hs)
-  unfolding expand_head resolve_head resolve_inserted with_operands Rules.as_it_is if◌then◌else◌
+  unfolding expand_head resolve_head resolve_inserted with_operands Rules.as_it_is when◌then◌else◌
   head_order b h e hs h' may x a r = go (here_only h.code) x
     where
       go : (t : Bool)
-          → (if t then ok (Rules.as_it_is h b) else (expand_operands ds outside b h.operands >>= λ e. ok (record { inserted = e.inserted; rows = e.rows; now = with_operands h e.now; k = e.k }))) ≡ ok e
+          → (when t then ok (Rules.as_it_is h b) else (expand_operands ds outside b h.operands >>= λ e. ok (record { inserted = e.inserted; rows = e.rows; now = with_operands h e.now; k = e.k }))) ≡ ok e
           → InOrder b hs × (e.k ≡ b + length hs)
       go true x =
           let same = ok_same _ e x in

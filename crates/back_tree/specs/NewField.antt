@@ -10,7 +10,7 @@ use Rattle.std.proofs.Math.Dec.{ltb}
 use Rattle.std.proofs.Math.ListN.{length}
 use borrow.Author.Tests.{ne_eqb, le-ltb, eqb-true}
 use Rattle.kit.specs.Pick.{pick}
-use Rattle.rules.specs.Tools.{if◌then◌else◌}
+use Rattle.rules.specs.Tools.{when◌then◌else◌}
 use Rattle.rules.specs.Rows.{Num, Row, Field, Decl, Ref, Outer, Export, encode, flag, number}
 use Rattle.rules.specs.Tree.{Declaration, Head, decl_rows, path_rows, operand_row, operand_rows, export_rows, head_rows}
 use Rattle.rules.specs.Rules.{find, fresh, outer_alias, export_alias}
@@ -52,7 +52,7 @@ before_next b [] p = tt
 before_next b (d ∷ ds) p = (let h = p.0 in omega arith, before_next b ds p.1)
 
 found_past : (b : ℕ) (past later : List Declaration) (d : Declaration) → Before b past → d.name ≡ 2147483648 + b → find (past ++ (d ∷ later)) d.space d.name ≡ some (length (names_in past d.space))
-unfolding find names_in if◌then◌else◌
+unfolding find names_in when◌then◌else◌
 found_past b [] later d p e = rw (eqb_same d.space, eqb_same d.name)
 found_past b (x ∷ past) later d p e = go (eqb x.space d.space) (found_past b past later d p.1 e)
   where
@@ -60,8 +60,8 @@ found_past b (x ∷ past) later d p e = go (eqb x.space d.space) (found_past b p
     other = let h = p.0 in ne_eqb x.name d.name (λ q. omega arith)
 
     go : (t : Bool) → find (past ++ (d ∷ later)) d.space d.name ≡ some (length (names_in past d.space))
-        → (if t then if eqb x.name d.name then some 0 else map suc (find (past ++ (d ∷ later)) d.space d.name) else find (past ++ (d ∷ later)) d.space d.name)
-        ≡ some (length (if t then x.name ∷ names_in past d.space else names_in past d.space))
+        → (when t then when eqb x.name d.name then some 0 else map suc (find (past ++ (d ∷ later)) d.space d.name) else find (past ++ (d ∷ later)) d.space d.name)
+        ≡ some (length (when t then x.name ∷ names_in past d.space else names_in past d.space))
     go true f = rw (other, f)
     go false f = f
 
@@ -72,10 +72,10 @@ is_counted o n e m = rw e
 -- ---- its rows
 
 nine_ten : (space : ℕ) → code_of space ≡ 9 → from_of space ≡ 10
-unfolding code_of from_of if◌then◌else◌
+unfolding code_of from_of when◌then◌else◌
 nine_ten space e = go (leb space 6) e
   where
-    go : (t : Bool) → ◌≡◌ {A = ℕ} (if t then 10 else 9) 9 → ◌≡◌ {A = ℕ} (if t then 6 else 10) 10
+    go : (t : Bool) → ◌≡◌ {A = ℕ} (when t then 10 else 9) 9 → ◌≡◌ {A = ℕ} (when t then 6 else 10) 10
     go true e = absurd (omega arith)
     go false e = refl
 

@@ -12,7 +12,7 @@ use lib.ListN.{length, get_or, take, drop, length-drop, drop_of_length-le}
 use lib.Seq.{sets, length-take-le, take_all}
 use borrow.Author.Rules.{rules}
 use Rattle.kit.proofs.Laws.{sets_seam}
-use Rattle.rules.specs.Tools.{if◌then◌else◌}
+use Rattle.rules.specs.Tools.{when◌then◌else◌}
 use Rattle.rules.specs.Versions.{Setting}
 use Rattle.rules.specs.Rows.{bytes}
 use Rattle.rules.specs.Tree.{Scope}
@@ -195,11 +195,11 @@ module _ (members lengths : List ℕ) (bad : Bool) (found-bad : bad ≡ bad_memb
 
   module _ (settings : List Setting) (prelude : List ℕ) (old : Buffers) (r : ℕ) where
     pub bad_answers : bad ≡ true → r ≡ 2 * 4294967296 → r ≡ batch_call settings false prelude members lengths old
-    unfolding batch_call room_with packed_batch if◌then◌else◌
+    unfolding batch_call room_with packed_batch when◌then◌else◌
     bad_answers e q = rw (bad_members_lem settings prelude members lengths (sym found-bad ∙ e) (length old.prelude) (length old.outs) (length old.answers) old).0 (q ∙ (omega arith))
 
   pub bad_leaves : (settings : List Setting) (prelude : List ℕ) (old : Buffers) → bad ≡ true → old ≡ batch_leaves settings false prelude members lengths old
-  unfolding batch_leaves if◌then◌else◌
+  unfolding batch_leaves when◌then◌else◌
   bad_leaves settings prelude old e = sym (bad_members_lem settings prelude members lengths (sym found-bad ∙ e) 0 0 0 old).1
 
   module _ (few : Bool) (room : ℕ) (found_few : few ≡ few_bytes lengths room) where
@@ -208,11 +208,11 @@ module _ (members lengths : List ℕ) (bad : Bool) (found-bad : bad ≡ bad_memb
 
     module _ (settings : List Setting) (prelude : List ℕ) (old : Buffers) (is_room : room ≡ length old.answers) where
       pub short_answers : (r : ℕ) → bad ≡ false → few ≡ true → r ≡ 3 * 4294967296 → r ≡ batch_call settings false prelude members lengths old
-      unfolding batch_call room_with packed_batch if◌then◌else◌
+      unfolding batch_call room_with packed_batch when◌then◌else◌
       short_answers r e f q = rw (few_bytes_lem settings prelude members lengths (sym found-bad ∙ e) (length old.prelude) (length old.outs) old (ap (few_bytes lengths) (sym is_room) ∙ (sym found_few ∙ f))).0 (q ∙ (omega arith))
 
       pub short_leaves : bad ≡ false → few ≡ true → old ≡ batch_leaves settings false prelude members lengths old
-      unfolding batch_leaves if◌then◌else◌
+      unfolding batch_leaves when◌then◌else◌
       short_leaves e f = sym (few_bytes_lem settings prelude members lengths (sym found-bad ∙ e) 0 0 old (ap (few_bytes lengths) (sym is_room) ∙ (sym found_few ∙ f))).1
 
       module _ (e : bad ≡ false) (f : few ≡ false) where
@@ -223,13 +223,13 @@ module _ (members lengths : List ℕ) (bad : Bool) (found-bad : bad ≡ bad_memb
         room_there = ap (few_bytes lengths) (sym is_room) ∙ (sym found_few ∙ f)
 
         pub all_answers : (r : ℕ) → r ≡ packed_batch (after_prelude (prelude_of settings prelude (length old.prelude)) (cut lengths members) (length old.outs)) → r ≡ batch_call settings false prelude members lengths old
-        unfolding batch_call room_with bytes_answer batch_answer if◌then◌else◌
+        unfolding batch_call room_with bytes_answer batch_answer when◌then◌else◌
         all_answers r q = rw (good, room_there, good_count lengths members good) q
 
         pub all_leaves : (new : Buffers) → new.prelude ≡ output settings prelude old.prelude → new.outs ≡ shares_after (prelude_of settings prelude (length old.prelude)) (cut lengths members) old.outs
             → new.answers ≡ answers_after (after_prelude (prelude_of settings prelude (length old.prelude)) (cut lengths members) (length old.outs)) old.answers
             → new ≡ batch_leaves settings false prelude members lengths old
-        unfolding batch_leaves bytes_buffers batch_outputs batch_answer if◌then◌else◌
+        unfolding batch_leaves bytes_buffers batch_outputs batch_answer when◌then◌else◌
         all_leaves new p o a = rw (good, room_there, good_count lengths members good, ← p, ← o, ← a)
 
 pub ruleset wholes = (few_members, room_enough, bad_answers, bad_leaves, short_answers, short_leaves, all_answers, all_leaves, rules)

@@ -6,7 +6,7 @@ use native.Mathlib.Omega.{arith}
 use Prim.Native.Nat.{ℕ, ◌≤◌, ◌<◌}
 use lib.ListN.{length, take, drop, drop_of_length-le}
 use lib.Seq.{take_all, length-take-le}
-use Rattle.rules.specs.Tools.{if◌then◌else◌, between}
+use Rattle.rules.specs.Tools.{when◌then◌else◌, between}
 use Rattle.rules.specs.Versions.{Setting, all}
 use Rattle.rules.specs.Answer.{output, output_inside}
 use Rattle.rules.proofs.Laws.InputLaws.{Usual}
@@ -29,11 +29,11 @@ use Rattle.member_with.proofs.Ways.{not_small}
 
 module _ (small : Bool) (room : ℕ) where
   pub room_none : small ≡ true → 0 ≡ room_with small room
-  unfolding room_with if◌then◌else◌
+  unfolding room_with when◌then◌else◌
   room_none e = rw e
 
   pub room_whole : small ≡ false → room ≡ room_with small room
-  unfolding room_with if◌then◌else◌
+  unfolding room_with when◌then◌else◌
   room_whole e = rw e
 
 -- ---- a batch without room for its prelude
@@ -46,7 +46,7 @@ module _ (s : Setting) (usual : Usual s) (prelude members lengths outs answers :
   no_output = let l : length (output (s ∷ []) prelude []) ≡ 0 = unfold output in output_length [] (s ∷ []) (usual, tt) prelude [] in none_long (output (s ∷ []) prelude []) l
 
   none_left : bytes_buffers (s ∷ []) prelude members lengths none ≡ none
-  unfolding bytes_buffers batch_outputs batch_answer shares_after answers_after after_prelude if◌then◌else◌
+  unfolding bytes_buffers batch_outputs batch_answer shares_after answers_after after_prelude when◌then◌else◌
   none_left = go (bad_members lengths members || few_bytes lengths (length answers)) refl (between 1 8 (length (cut lengths members))) refl
     where
       go : (b : Bool) → (bad_members lengths members || few_bytes lengths (length answers)) ≡ b → (c : Bool) → between 1 8 (length (cut lengths members)) ≡ c → bytes_buffers (s ∷ []) prelude members lengths none ≡ none
@@ -79,12 +79,12 @@ module _ (i : ℕ) (prelude : List ℕ) (asks : setting i ≡ asked prelude) (re
   module _ (members lengths outs answers : List ℕ) where
     pub with_answers : (r : ℕ) → r ≡ batch_call (setting i ∷ []) false prelude members lengths (record { prelude = take room resolved; outs = outs; answers = answers })
         → r ≡ batch_call all (is_small (asked prelude).version (lent_of e n k c m)) prelude members lengths (record { prelude = resolved; outs = outs; answers = answers })
-    unfolding batch_call room_with if◌then◌else◌
+    unfolding batch_call room_with when◌then◌else◌
     with_answers r q = rw (asked_call prelude members lengths (room_with (is_small (asked prelude).version (lent_of e n k c m)) (length resolved)) (length outs) (length answers), ← asks, ← tested) (q ∙ rw front)
 
     leaves : (b : Bool) → room ≡ room_with b (length resolved) → (new : Buffers) → new ≡ batch_leaves (setting i ∷ []) false prelude members lengths (record { prelude = take room resolved; outs = outs; answers = answers })
         → record { prelude = new.prelude ++ drop room resolved; outs = new.outs; answers = new.answers } ≡ batch_leaves (setting i ∷ []) b prelude members lengths (record { prelude = resolved; outs = outs; answers = answers })
-    unfolding batch_leaves room_with if◌then◌else◌
+    unfolding batch_leaves room_with when◌then◌else◌
     leaves true is_none new q =
         let none-changed : new ≡ record { prelude = []; outs = outs; answers = answers } = rw (is_none, none_left (setting i) (able_at i).usual prelude members lengths outs answers) at q in
         rw is_none (ap (λ (b : Buffers). record { prelude = b.prelude ++ resolved; outs = b.outs; answers = b.answers }) none-changed)

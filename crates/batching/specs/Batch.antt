@@ -2,7 +2,7 @@
 -- inside the resolved prelude's root."
 use Rattle.std.proofs.Math.Option.{Option, none, some}
 use Rattle.std.specs.Prelude.{List, [], ◌∷◌, ◌++◌, ℕ, suc, ◌+◌, ◌/◌, length, take, drop}
-use Rattle.rules.specs.Tools.{if◌then◌else◌, between}
+use Rattle.rules.specs.Tools.{when◌then◌else◌, between}
 use Rattle.rules.specs.Versions.{Setting}
 use Rattle.rules.specs.Rows.{Row}
 use Rattle.rules.specs.Tree.{Scope, scope, flatten, Fields, end, ◌▸◌, head_of, item_rows}
@@ -102,7 +102,7 @@ after_prelude (accepted p) members room =
 -- "so does a member count of 0 or over 8, with 2, ahead of all else"
 unfoldable pub batch_answer : List Setting → (prelude : List ℕ) (members : List (List ℕ)) (prelude_room room : ℕ) → BatchAnswer
 batch_answer settings prelude members prelude_room room =
-    if between 1 8 (length members) then after_prelude (prelude_of settings prelude prelude_room) members room
+    when between 1 8 (length members) then after_prelude (prelude_of settings prelude prelude_room) members room
     else refused 2 0 []
 
 -- ---- the two output buffers: "The prelude has its own output", and the members share one
@@ -115,7 +115,7 @@ shares_after (accepted p) members old = member_outputs p.setting (root_of p.reso
 -- what the prelude's output and the members' then hold, if they held these before
 unfoldable pub batch_outputs : List Setting → (prelude : List ℕ) (members : List (List ℕ)) (old_prelude old : List ℕ) → List ℕ × List ℕ
 batch_outputs settings prelude members old_prelude old =
-    if between 1 8 (length members)
+    when between 1 8 (length members)
     then (output settings prelude old_prelude, shares_after (prelude_of settings prelude (length old_prelude)) members old)
     else (old_prelude, old)
 

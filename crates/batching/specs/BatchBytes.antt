@@ -1,6 +1,6 @@
 -- A batch as its C function takes it: the members one behind another with their lengths, and the answers as bytes.
 use Rattle.std.specs.Prelude.{Bool, ◌||◌, not, List, [], ◌∷◌, ◌++◌, ℕ, ◌+◌, ◌*◌, eqb, ltb, length, take, drop}
-use Rattle.rules.specs.Tools.{if◌then◌else◌, between}
+use Rattle.rules.specs.Tools.{when◌then◌else◌, between}
 use Rattle.rules.specs.Versions.{Setting}
 use Rattle.rules.specs.Rows.{bytes}
 use Rattle.rules.specs.Answer.{AnswerOf, accepted, Answer}
@@ -60,14 +60,14 @@ module _ (settings : List Setting) (prelude members lengths : List ℕ) where
   -- the answer to a batch, by the lengths of the prelude's buffer, the members' and that of the answers
   unfoldable pub bytes_answer : (prelude_room room answers_room : ℕ) → BatchAnswer
   bytes_answer prelude_room room answers_room =
-      if bad_members lengths members then refused 2 0 []
-      else if few_bytes lengths answers_room then refused 3 0 []
+      when bad_members lengths members then refused 2 0 []
+      else when few_bytes lengths answers_room then refused 3 0 []
       else batch_answer settings prelude (cut lengths members) prelude_room room
 
   -- the three buffers afterwards: "nothing touched" by either refusal ahead of the prelude's
   unfoldable pub bytes_buffers : Buffers → Buffers
   bytes_buffers old =
-      if bad_members lengths members || few_bytes lengths (length old.answers) then old
+      when bad_members lengths members || few_bytes lengths (length old.answers) then old
       else (let outs = batch_outputs settings prelude (cut lengths members) old.prelude old.outs in
       record {
         prelude = outs.0;

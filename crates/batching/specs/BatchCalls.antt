@@ -1,7 +1,7 @@
 -- What the two C functions of batches answer and leave, with the working areas that they are lent. Each area has a fixed size, by the version of
 -- the prelude; `short` says that one of them is below its size.
 use Rattle.std.specs.Prelude.{Bool, List, ℕ, length}
-use Rattle.rules.specs.Tools.{if◌then◌else◌}
+use Rattle.rules.specs.Tools.{when◌then◌else◌}
 use Rattle.rules.specs.Versions.{Setting}
 use Rattle.batching.specs.Batch.{member_answer, member_output}
 use Rattle.batching.specs.BatchBytes.{packed, packed_batch, Buffers, bytes_answer, bytes_buffers}
@@ -10,7 +10,7 @@ use Rattle.batching.specs.BatchBytes.{packed, packed_batch, Buffers, bytes_answe
 
 -- Refusal 3: "output shorter than 8 + 64 x rows, or a lent working area below its fixed size". So there is no room for the prelude then.
 unfoldable pub room_with : (short : Bool) (room : ℕ) → ℕ
-room_with short room = if short then 0 else room
+room_with short room = when short then 0 else room
 
 module _ (settings : List Setting) (short : Bool) (prelude : List ℕ) where
   -- ---- one member; `area` is the length of the working area in which the prelude is resolved
@@ -32,7 +32,7 @@ module _ (settings : List Setting) (short : Bool) (prelude : List ℕ) where
 
   -- what it leaves in the buffers: a prelude that has no room leaves all as it was
   unfoldable pub batch_leaves : (members lengths : List ℕ) → Buffers → Buffers
-  batch_leaves members lengths old = if short then old else bytes_buffers settings prelude members lengths old
+  batch_leaves members lengths old = when short then old else bytes_buffers settings prelude members lengths old
 
 -- Unfolds all of this module: for a claim that antt computes.
 unfoldable pub computes : Unit {0}

@@ -4,7 +4,7 @@
 use Rattle.std.specs.Prelude.{Bool, true, List, [], ◌∷◌, ℕ, length}
 use Rattle.std.proofs.Math.Option.{Option, none, some, map}
 use Rattle.std.proofs.Math.ListN.{get_elem?}
-use Rattle.rules.specs.Tools.{if◌then◌else◌, ◌then◌}
+use Rattle.rules.specs.Tools.{when◌then◌else◌, ◌then◌}
 use Rattle.rules.specs.Rows.{Index, Num, Id}
 use Rattle.rules.specs.Tree.{Declaration, Operand, ref, outer, case, Scope, head_of}
 use Rattle.rules.specs.Shapes.{here_only}
@@ -59,7 +59,7 @@ declared_out ls d space name = get_elem? ls d then λ l. declared l space name
 -- walked; in its own scope, if it is here_only_lem or the instance of a path; and the index of an OUTER in the scope that is asked for.
 unfoldable pub name_in : (code : ℕ) (names : List ℕ) (ls : List Level) → Operand → Option Place
 name_in code names ls (ref space (Num n) paths z) = none
-name_in code names ls (ref space (Id name) [] z) = if here_only code then declared_out ls 0 space name else outward ls space name
+name_in code names ls (ref space (Id name) [] z) = when here_only code then declared_out ls 0 space name else outward ls space name
 name_in code names ls (ref space (Id name) (p ∷ ps) z) = declared_out ls 0 (instance_space space) name
 name_in code names ls (outer space up (Num n) z) = none
 name_in code names ls (outer space up (Id name) z) = out_to names up then λ d. declared_out ls d space name

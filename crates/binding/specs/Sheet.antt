@@ -5,7 +5,7 @@
 use Rattle.std.specs.Prelude.{Bool, true, false, ◌&&◌, ◌||◌, not, List, [], ◌∷◌, ◌++◌, map, ℕ, zero, suc, ◌+◌, ◌*◌, ◌/◌, ◌%◌, eqb, leb, ltb, length, take, drop, replicate}
 use Rattle.std.proofs.Math.Option.{Option, none, some}
 use Rattle.std.proofs.Math.ListN.{get_elem?}
-use Rattle.rules.specs.Tools.{if◌then◌else◌, between, only, ◌then◌, ◌or_else◌}
+use Rattle.rules.specs.Tools.{when◌then◌else◌, between, only, ◌then◌, ◌or_else◌}
 use Rattle.rules.specs.Versions.{Setting}
 use Rattle.rules.specs.Rows.{value, bytes, Num, Id}
 use Rattle.rules.specs.Tree.{Operand, ref, outer, case, Scope, flatten, RowsRead, bad, deep, form}
@@ -63,7 +63,7 @@ outer_to fs (case name z ∷ os) = none
 -- reached.
 unfoldable pub follow : List Floor → Spot → Located → Option Located
 follow fs (original field at) x = some x
-follow fs (inserted h) x = if eqb h.code 11 then outer_to fs h.operands else some x
+follow fs (inserted h) x = when eqb h.code 11 then outer_to fs h.operands else some x
 
 -- what an operand reaches, in the first of these scopes
 unfoldable pub reached_from : List Floor → Operand → Option Located
@@ -82,7 +82,7 @@ reached s p = use_at s p then λ u. floors_at s p.way then λ fs. reached_from f
 -- bound as written, if what is reached has that name
 unfoldable pub bound_to : (name : ℕ) → Option Located → Binding
 bound_to name none = elsewhere 0
-bound_to name (some x) = if eqb x.standing.decl.name name then as_written else elsewhere x.row
+bound_to name (some x) = when eqb x.standing.decl.name name then as_written else elsewhere x.row
 
 -- the answer, where the references at the slot's place stand at these places
 unfoldable pub bound : (after : Scope) (name : ℕ) → List Place → Binding
@@ -113,7 +113,7 @@ passes (b ∷ bs) = is_as_written b && passes bs
 -- how many slots are not bound as written
 unfoldable pub failing : List Binding → ℕ
 failing [] = 0
-failing (b ∷ bs) = if is_as_written b then failing bs else suc (failing bs)
+failing (b ∷ bs) = when is_as_written b then failing bs else suc (failing bs)
 
 -- ---- a sheet as bytes: three little-endian numbers a slot
 
@@ -160,7 +160,7 @@ result_of (Result.ok r) = some r.0
 unfoldable pub run_in : Setting → (input : List ℕ) → Option Run
 run_in v input =
     let rows = row_count v.version input in
-    if not (between 1 v.version.rows rows) || not (eqb (length input) (v.version.header + 16 * rows)) then none
+    when not (between 1 v.version.rows rows) || not (eqb (length input) (v.version.header + 16 * rows)) then none
     else (form_of (read v.rules v.version.scopes (rows_in v input)) then λ before.
     result_of (resolve v.rules before) then λ after.
     some (record { before = before; after = after; bytes = form_bytes v (flatten after) }))
@@ -199,16 +199,16 @@ SheetAnswer = AnswerOf (List Binding)
 unfoldable pub answer_for : Option Run → (resolved : List ℕ) → List Slot → (room : ℕ) → SheetAnswer
 answer_for none resolved ss room = refused 15 0 []
 answer_for (some run) resolved ss room =
-    if not (same_numbers resolved run.bytes) then refused 15 0 []
-    else if ltb room (8 * length ss) then refused 3 0 []
+    when not (same_numbers resolved run.bytes) then refused 15 0 []
+    else when ltb room (8 * length ss) then refused 3 0 []
     else accepted (bindings run.before run.after ss)
 
 -- First the sheet, then the working area, without which nothing is known of the forms. `room` and `work` are the lengths of the buffer for
 -- the answers and of the working area.
 unfoldable pub sheet_answer : List Setting → (input resolved sheet : List ℕ) (room work : ℕ) → SheetAnswer
 sheet_answer settings input resolved sheet room work =
-    if not (sound_sheet sheet) then refused 15 0 []
-    else if ltb work (work_size settings input) then refused 3 0 []
+    when not (sound_sheet sheet) then refused 15 0 []
+    else when ltb work (work_size settings input) then refused 3 0 []
     else answer_for (run_of settings input) resolved (slots sheet) room
 
 -- the bytes of an answer: 0 as written, 1 elsewhere, 2 no reference, 3 several; then the row or 0

@@ -11,7 +11,7 @@ use borrow.Author.Rules.{rules}
 use borrow.Author.Tests.{eqb-true, leb-true, lt-ltb, ltb-false}
 use mir.Syntax.{w8}
 use mir.Val.{Fits}
-use Rattle.rules.specs.Tools.{if◌then◌else◌, only, ◌or_else◌}
+use Rattle.rules.specs.Tools.{when◌then◌else◌, only, ◌or_else◌}
 use Rattle.rules.specs.Versions.{Setting, as_claimed, all}
 use Rattle.rules.specs.Tree.{Scope}
 use Rattle.rules.specs.Answer.{AnswerOf, refused, accepted, has_header, setting_of}
@@ -107,18 +107,18 @@ of_asked form = setting_asked form ∙ unfold setting_of in refl
 
 module _ (form : List ℕ) (each : (j : ℕ) → Fits w8 (get_or form j 0)) (claim : List ℕ) (slots links : ℕ) (lent : Lent) (i : ℕ) (asks : setting i ≡ asked form) (fits : Bool) (f : fits ≡ roomy (setting i).version lent) (small : Bool) (is : small ≡ (not fits || (ltb slots (slots_of (version_of i)) || ltb links (links_of (version_of i))))) where
   abbrev taken : ℕ
-  taken = if fits then slots else 0
+  taken = when fits then slots else 0
 
   -- under the setting that is asked for
   with_asked : check_with form claim slots links lent ≡ check_for (only (has_header (setting i) form) (setting i) or_else none) form claim taken links
   unfolding check_with check_answer
   with_asked =
-      ap (λ (o : Option Setting). check_for o form claim (if roomy (asked form).version lent then slots else 0) links) (of_asked form)
-      ∙ (ap (λ (s : Setting). check_for (only (has_header s form) s or_else none) form claim (if roomy s.version lent then slots else 0) links) (sym asks)
-      ∙ ap (λ (b : Bool). check_for (only (has_header (setting i) form) (setting i) or_else none) form claim (if b then slots else 0) links) (sym f))
+      ap (λ (o : Option Setting). check_for o form claim (when roomy (asked form).version lent then slots else 0) links) (of_asked form)
+      ∙ (ap (λ (s : Setting). check_for (only (has_header s form) s or_else none) form claim (when roomy s.version lent then slots else 0) links) (sym asks)
+      ∙ ap (λ (b : Bool). check_for (only (has_header (setting i) form) (setting i) or_else none) form claim (when b then slots else 0) links) (sym f))
 
-  as_taken : (b : Bool) → (not b || (ltb slots (slots_of (version_of i)) || ltb links (links_of (version_of i)))) ≡ (ltb (if b then slots else 0) (slots_of (version_of i)) || ltb links (links_of (version_of i)))
-  unfolding if◌then◌else◌
+  as_taken : (b : Bool) → (not b || (ltb slots (slots_of (version_of i)) || ltb links (links_of (version_of i)))) ≡ (ltb (when b then slots else 0) (slots_of (version_of i)) || ltb links (links_of (version_of i)))
+  unfolding when◌then◌else◌
   as_taken true = refl
   as_taken false = rw (lt-ltb 0 (slots_of (version_of i)) (slots_some i))
 

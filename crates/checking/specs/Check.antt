@@ -2,7 +2,7 @@
 -- A claim's added fields are those that `Readings` calls inserted: with a DECL name from 2147483648 up.
 use Rattle.std.specs.Prelude.{Bool, true, false, ◌&&◌, List, [], ◌∷◌, ◌++◌, map, ℕ, suc, ◌+◌, eqb, leb, length}
 use Rattle.std.proofs.Math.Option.{Option, none, some}
-use Rattle.rules.specs.Tools.{if◌then◌else◌, only, ◌then◌, is_just, is_in, ◌or_else◌}
+use Rattle.rules.specs.Tools.{when◌then◌else◌, only, ◌then◌, is_just, is_in, ◌or_else◌}
 use Rattle.rules.specs.Versions.{RuleSet, Setting, as_claimed}
 use Rattle.rules.specs.Rows.{Index, Num, Id, Raw, raw, Row, Open, Close, encode}
 use Rattle.rules.specs.Tree.{Declaration, Operand, ref, outer, case, Head, Scope, scope, Fields, end, ◌▸◌, Item, plain, holds, head_of, head_rows, item_rows, flatten}
@@ -27,7 +27,7 @@ is_path (raw code b e x y z) = eqb code 4
 
 -- the parts of a row, without e, x and y of REF and OUTER
 unfoldable pub kept : Raw → Raw
-kept (raw code b e x y z) = if is_in code (3 ∷ 5 ∷ []) then raw code b 0 0 0 z else raw code b e x y z
+kept (raw code b e x y z) = when is_in code (3 ∷ 5 ∷ []) then raw code b 0 0 0 z else raw code b e x y z
 
 -- are all parts of two rows equal?
 unfoldable pub same_parts : (r r' : Raw) → Bool
@@ -37,7 +37,7 @@ same_parts (raw code b e x y z) (raw code' b' e' x' y' z') =
 -- these rows without the PATH rows
 unfoldable pub without_paths : List Row → List Row
 without_paths [] = []
-without_paths (r ∷ rs) = if is_path (encode r) then without_paths rs else r ∷ without_paths rs
+without_paths (r ∷ rs) = when is_path (encode r) then without_paths rs else r ∷ without_paths rs
 
 -- a claimed row: of a field of the input, or of an added one
 pub data Claimed : Type 0 where
@@ -53,7 +53,7 @@ unfoldable mutual
   -- of fields, in order
   pub fields_claimed : Fields → List Claimed
   fields_claimed end = []
-  fields_claimed (i ▸ fs) = (if is_inserted (head_of i) then map added (item_rows i) else item_claimed i) ++ fields_claimed fs
+  fields_claimed (i ▸ fs) = (when is_inserted (head_of i) then map added (item_rows i) else item_claimed i) ++ fields_claimed fs
 
   -- of a field that is not added
   pub item_claimed : Item → List Claimed
@@ -64,11 +64,11 @@ unfoldable mutual
 unfoldable pub differs : (n : ℕ) → List Claimed → List Row → Option ℕ
 differs n [] [] = none
 differs n [] (r ∷ rs) = some n
-differs n (added c ∷ cs) rs = if is_path (encode c) then some n else differs (suc n) cs rs
+differs n (added c ∷ cs) rs = when is_path (encode c) then some n else differs (suc n) cs rs
 differs n (own c ∷ cs) [] = some n
 differs n (own c ∷ cs) (r ∷ rs) =
-    if is_path (encode c) then some n
-    else if same_parts (kept (encode c)) (kept (encode r)) then differs (suc n) cs rs
+    when is_path (encode c) then some n
+    else when same_parts (kept (encode c)) (kept (encode r)) then differs (suc n) cs rs
     else some n
 
 -- the first claimed row that breaks condition 2
@@ -92,17 +92,17 @@ has_numbers (case name z) = true
 unfoldable pub not_new : (n : ℕ) (before ds : List Declaration) → Option ℕ
 not_new n before [] = none
 not_new n before (d ∷ ds) =
-    if is_just (find before d.space d.name) then some n else not_new (suc n) (before ++ (d ∷ [])) ds
+    when is_just (find before d.space d.name) then some n else not_new (suc n) (before ++ (d ∷ [])) ds
 
 -- the row of the first operand that has a name; `n` is the row of the first of these
 unfoldable pub not_number : (n : ℕ) → List Operand → Option ℕ
 not_number n [] = none
-not_number n (o ∷ os) = if has_numbers o then not_number (suc n) os else some n
+not_number n (o ∷ os) = when has_numbers o then not_number (suc n) os else some n
 
 -- the first row of an added field that breaks condition 3; its FIELD is row n
 unfoldable pub no_alias : (n : ℕ) (before : List Declaration) → Head → Option ℕ
 no_alias n before h =
-    if is_in h.code (9 ∷ 10 ∷ 11 ∷ []) then not_new (suc n) before h.decls or_else not_number (suc n + length h.decls) h.operands
+    when is_in h.code (9 ∷ 10 ∷ 11 ∷ []) then not_new (suc n) before h.decls or_else not_number (suc n + length h.decls) h.operands
     else some n
 
 -- the first row of an added field that breaks condition 3
@@ -115,7 +115,7 @@ unfoldable mutual
   pub fields_added : (n : ℕ) (before : List Declaration) → Fields → Option ℕ
   fields_added n before end = none
   fields_added n before (i ▸ fs) =
-      (if is_inserted (head_of i) then no_alias n before (head_of i) else none)
+      (when is_inserted (head_of i) then no_alias n before (head_of i) else none)
       or_else (item_added (n + length (head_rows (head_of i))) i
       or_else fields_added (n + length (item_rows i)) (before ++ (head_of i).decls) fs)
 
@@ -186,7 +186,7 @@ through_outer fs space n =
 -- an added alias of this export, with 01's code for the space: the number of its instance
 unfoldable pub through_export : Fields → (space name n : ℕ) → Option ℕ
 through_export fs space name n =
-    reached fs space n then λ h. only (eqb h.code (if leb space 6 then 10 else 9) && same h.export (some name)) h then λ h.
+    reached fs space n then λ h. only (eqb h.code (when leb space 6 then 10 else 9) && same h.export (some name)) h then λ h.
     first h.operands then ref_number
 
 -- "exactly as many added aliases, with those export numbers and 01's spaces": the number of the first one's instance
@@ -196,7 +196,7 @@ through_paths fs space p (q ∷ ps) n = through_paths fs space q ps n then λ m.
 
 -- 01's space of the instance that a path starts from
 unfoldable pub instance_space : ℕ → ℕ
-instance_space space = if leb space 6 then 6 else 10
+instance_space space = when leb space 6 then 6 else 10
 
 -- A scope as step C sees it, by its name and its declarations alone: rows play no part here, and neither does which field is the earlier
 -- one, since an input whose names come late is refused.
@@ -240,7 +240,7 @@ module _ (here : Scope) (outside : List Env) where
   unfoldable pub not_right : (n : ℕ) (now was : List Operand) → Option ℕ
   not_right n [] was = none
   not_right n (o ∷ now) [] = none
-  not_right n (o ∷ now) (w ∷ was) = if operand_right w o then not_right (suc n) now was else some n
+  not_right n (o ∷ now) (w ∷ was) = when operand_right w o then not_right (suc n) now was else some n
 
   -- the first claimed operand of a field that is not right; its FIELD is row n
   unfoldable pub head_operands : (n : ℕ) (now was : Head) → Option ℕ
@@ -257,7 +257,7 @@ unfoldable mutual
   fields_operands n end here outside was = none
   fields_operands n (i ▸ now) here outside end = none
   fields_operands n (i ▸ now) here outside (w ▸ was) =
-      if is_inserted (head_of i) then fields_operands (n + length (item_rows i)) now here outside (w ▸ was)
+      when is_inserted (head_of i) then fields_operands (n + length (item_rows i)) now here outside (w ▸ was)
       else (item_operands n i here outside w or_else fields_operands (n + length (item_rows i)) now here outside was)
 
   -- of a field and of the scope that it holds; its FIELD is row n

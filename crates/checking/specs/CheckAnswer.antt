@@ -3,7 +3,7 @@
 use Rattle.std.specs.Prelude.{Bool, ◌||◌, not, List, [], ◌∷◌, ℕ, ◌+◌, ◌*◌, eqb, ltb, length, replicate}
 use Rattle.std.proofs.Math.Option.{Option, none, some}
 use Rattle.clearing.specs.Cleared.{cleared}
-use Rattle.rules.specs.Tools.{if◌then◌else◌, between, ◌or_else◌}
+use Rattle.rules.specs.Tools.{when◌then◌else◌, between, ◌or_else◌}
 use Rattle.rules.specs.Versions.{Version, Setting}
 use Rattle.rules.specs.Answer.{setting_of, row_count}
 use Rattle.checking.specs.Check.{Verdict, refused, verdict_for}
@@ -26,8 +26,8 @@ check_for none input claim slots links = refused 1 0 []
 check_for (some s) input claim slots links =
     let v = s.version in
     let rows = row_count v input in
-    if not (between 1 v.rows rows) || not (eqb (length input) (v.header + 16 * rows)) then refused 2 0 []
-    else if ltb slots (slots_of v) || ltb links (links_of v) then refused 3 0 []
+    when not (between 1 v.rows rows) || not (eqb (length input) (v.header + 16 * rows)) then refused 2 0 []
+    else when ltb slots (slots_of v) || ltb links (links_of v) then refused 3 0 []
     else verdict_for (some s) input claim
 
 -- the answer to an input and a claim; `slots` and `links` are the lengths of the two areas

@@ -13,7 +13,7 @@ use mir.Val.{Fits}
 use borrow.Author.Tests.{eqb-true, leb-true}
 use Rattle.kit.specs.Pick.{pick}
 use Rattle.kit.specs.Out.{◌&◌}
-use Rattle.rules.specs.Tools.{if◌then◌else◌, between, only, ◌or_else◌}
+use Rattle.rules.specs.Tools.{when◌then◌else◌, between, only, ◌or_else◌}
 use Rattle.rules.specs.Versions.{Setting, version1, today, base, as_claimed}
 use Rattle.rules.specs.Tree.{Scope, flatten}
 use Rattle.rules.specs.Rules.{Result, ok, resolve}
@@ -127,37 +127,37 @@ module _ (i : ℕ) (form claim : List ℕ) (bytes : Bytes form) where
   header_said = ap (λ (s : Setting). header_for (only (has_header s form) s) form) (stand_for i)
 
   -- what is answered where an area is too small, and where none is, by what the header says
-  small_said : (h m : Bool) → has_header (setting i) form ≡ h → miscounted ≡ m → meaning (small_t i form) ≡ ruled (if h then (if m then Check.refused 2 0 [] else Check.refused 3 0 []) else Check.refused 1 0 [])
-  unfolding small_t small_by header_for header_in only if◌then◌else◌
+  small_said : (h m : Bool) → has_header (setting i) form ≡ h → miscounted ≡ m → meaning (small_t i form) ≡ ruled (when h then (when m then Check.refused 2 0 [] else Check.refused 3 0 []) else Check.refused 1 0 [])
+  unfolding small_t small_by header_for header_in only when◌then◌else◌
   small_said true true e f = rw (header_said, e, f)
   small_said true false e f = rw (header_said, e, f)
   small_said false m e f = rw (header_said, e)
 
   read_said : (h m : Bool) → has_header (setting i) form ≡ h → miscounted ≡ m
-      → meaning judged_by ≡ ruled (if h then (if m then Check.refused 2 0 [] else verdict_for (some (setting i)) form claim) else Check.refused 1 0 [])
-  read_said true true e f = judged ∙ unfold read_form of_input if◌then◌else◌ in rw (e, f)
-  read_said true false e f = judged ∙ unfold verdict_for if◌then◌else◌ in refl
-  read_said false m e f = judged ∙ unfold read_form of_input if◌then◌else◌ in rw e
+      → meaning judged_by ≡ ruled (when h then (when m then Check.refused 2 0 [] else verdict_for (some (setting i)) form claim) else Check.refused 1 0 [])
+  read_said true true e f = judged ∙ unfold read_form of_input when◌then◌else◌ in rw (e, f)
+  read_said true false e f = judged ∙ unfold verdict_for when◌then◌else◌ in refl
+  read_said false m e f = judged ∙ unfold read_form of_input when◌then◌else◌ in rw e
 
   -- under this one setting
   abbrev pub asked_by : (slots links : ℕ) → Ruled
   asked_by slots links = check_for (only (has_header (setting i) form) (setting i) or_else none) form claim slots links
 
   asked : (h : Bool) (slots links : ℕ)
-      → check_for (only h (setting i) or_else none) form claim slots links ≡ (if h then (if miscounted then Check.refused 2 0 [] else (if ltb slots (slots_of (version_of i)) || ltb links (links_of (version_of i)) then Check.refused 3 0 [] else verdict_for (some (setting i)) form claim)) else Check.refused 1 0 [])
-  unfolding only ◌or_else◌ check_for if◌then◌else◌
+      → check_for (only h (setting i) or_else none) form claim slots links ≡ (when h then (when miscounted then Check.refused 2 0 [] else (when ltb slots (slots_of (version_of i)) || ltb links (links_of (version_of i)) then Check.refused 3 0 [] else verdict_for (some (setting i)) form claim)) else Check.refused 1 0 [])
+  unfolding only ◌or_else◌ check_for when◌then◌else◌
   asked true slots links = refl
   asked false slots links = refl
 
   module _ (slots links : ℕ) where
     small_is : (ltb slots (slots_of (version_of i)) || ltb links (links_of (version_of i))) ≡ true
-        → asked_by slots links ≡ (if has_header (setting i) form then (if miscounted then Check.refused 2 0 [] else Check.refused 3 0 []) else Check.refused 1 0 [])
-    unfolding if◌then◌else◌
+        → asked_by slots links ≡ (when has_header (setting i) form then (when miscounted then Check.refused 2 0 [] else Check.refused 3 0 []) else Check.refused 1 0 [])
+    unfolding when◌then◌else◌
     small_is e = rw e at (asked (has_header (setting i) form) slots links)
 
     enough_is : (ltb slots (slots_of (version_of i)) || ltb links (links_of (version_of i))) ≡ false
-        → asked_by slots links ≡ (if has_header (setting i) form then (if miscounted then Check.refused 2 0 [] else verdict_for (some (setting i)) form claim) else Check.refused 1 0 [])
-    unfolding if◌then◌else◌
+        → asked_by slots links ≡ (when has_header (setting i) form then (when miscounted then Check.refused 2 0 [] else verdict_for (some (setting i)) form claim) else Check.refused 1 0 [])
+    unfolding when◌then◌else◌
     enough_is e = rw e at (asked (has_header (setting i) form) slots links)
 
     pub small_decided : (ltb slots (slots_of (version_of i)) || ltb links (links_of (version_of i))) ≡ true → meaning (small_t i form) ≡ ruled (asked_by slots links)

@@ -15,7 +15,7 @@ use Rattle.kit.specs.Pick.{pick}
 use Rattle.names.specs.Table.{Slot, space_of, name_of, number_of, find_in}
 use Rattle.names.specs.declared.Found.{Found}
 use Rattle.names.specs.declared.Found.TheVariants.{At, Nothing}
-use Rattle.rules.specs.Tools.{if◌then◌else◌, only, ◌then◌}
+use Rattle.rules.specs.Tools.{when◌then◌else◌, only, ◌then◌}
 use Rattle.rules.specs.Versions.{top_name}
 use Rattle.rules.specs.Rows.{Decl, encode}
 use Rattle.rules.specs.Tree.{Declaration, Head}
@@ -114,22 +114,22 @@ module _ (k : ℕ) (low : suc k < 65536) (space : ℕ) (narrow : space < 256) wh
   own_key s name number n e = let a = key_is k space (omega arith) in let b = key_is k s (omega arith) in n (omega arith)
 
   -- one declaration further
-  skip : (c : List ℕ) (m s : ℕ) (o : Option ℕ) (b : Bool) → Counts c m → m < 65536 → s < 13 → eqb s space ≡ b → number_from (get_or (more_count_t c s) space 0) o ≡ number_from (get_or c space 0) (if b then Option.map suc o else o)
-  unfolding if◌then◌else◌
+  skip : (c : List ℕ) (m s : ℕ) (o : Option ℕ) (b : Bool) → Counts c m → m < 65536 → s < 13 → eqb s space ≡ b → number_from (get_or (more_count_t c s) space 0) o ≡ number_from (get_or c space 0) (when b then Option.map suc o else o)
+  unfolding when◌then◌else◌
   skip c m s o true C l h e = let q : s ≡ space = eqb-true s space e in rw (← q, more_same c m s C l h) (from_next (get_or c s 0) o)
   skip c m s o false C l h e = rw (more_other c s space (λ q. false_not (sym e ∙ eq-eqb s space q)))
 
   -- a declaration of another name
-  find_next : (d : Declaration) (ds : List Declaration) (name : ℕ) → (d.name ≡ name → ⊥) → find (d ∷ ds) space name ≡ (if eqb d.space space then Option.map suc (find ds space name) else find ds space name)
-  unfolding find if◌then◌else◌
+  find_next : (d : Declaration) (ds : List Declaration) (name : ℕ) → (d.name ≡ name → ⊥) → find (d ∷ ds) space name ≡ (when eqb d.space space then Option.map suc (find ds space name) else find ds space name)
+  unfolding find when◌then◌else◌
   find_next d ds name n = rw (ne_eqb _ _ n)
 
-  find_else : (d : Declaration) (ds : List Declaration) (name : ℕ) → eqb d.space space ≡ false → find (d ∷ ds) space name ≡ (if eqb d.space space then Option.map suc (find ds space name) else find ds space name)
-  unfolding find if◌then◌else◌
+  find_else : (d : Declaration) (ds : List Declaration) (name : ℕ) → eqb d.space space ≡ false → find (d ∷ ds) space name ≡ (when eqb d.space space then Option.map suc (find ds space name) else find ds space name)
+  unfolding find when◌then◌else◌
   find_else d ds name e = rw e
 
   find_this : (d : Declaration) (ds : List Declaration) (name : ℕ) → d.space ≡ space → d.name ≡ name → find (d ∷ ds) space name ≡ some 0
-  unfolding find if◌then◌else◌
+  unfolding find when◌then◌else◌
   find_this d ds name e f = rw (eq-eqb _ _ e, eq-eqb _ _ f)
 
   low_fresh : (a name : ℕ) → is_fresh a ≡ true → name ≤ top_name → a ≡ name → ⊥
@@ -148,7 +148,7 @@ module _ (k : ℕ) (low : suc k < 65536) (space : ℕ) (narrow : space < 256) wh
   -- a declaration that is passed over
   names_past : (c : List ℕ) (m name : ℕ) (x : Declared) (xs : List Declared) → Counts c m → m < 65536 → Apt x → NamesFound (more_count_t c x.decl.space) name xs
       → find_in (slots_of k c (x ∷ xs)) (entry_key_t k space) name ≡ find_in (slots_of k (more_count_t c x.decl.space) xs) (entry_key_t k space) name
-      → find (decls_of (x ∷ xs)) space name ≡ (if eqb x.decl.space space then Option.map suc (find (decls_of xs) space name) else find (decls_of xs) space name) → NamesFound c name (x ∷ xs)
+      → find (decls_of (x ∷ xs)) space name ≡ (when eqb x.decl.space space then Option.map suc (find (decls_of xs) space name) else find (decls_of xs) space name) → NamesFound c name (x ∷ xs)
   names_past c m name x xs C l A f e g = e ∙ (f ∙ (skip c m x.decl.space (find (decls_of xs) space name) (eqb x.decl.space space) C l A.space refl ∙ rw g))
 
   names_next : (c : List ℕ) (m name : ℕ) (x : Declared) (xs : List Declared) (a b t : Bool) → is_inserted x.head ≡ a → eqb x.decl.space space ≡ b → eqb x.decl.name name ≡ t → name ≤ top_name → Counts c m → m < 65536 → Apt x
@@ -180,13 +180,13 @@ module _ (k : ℕ) (low : suc k < 65536) (space : ℕ) (narrow : space < 256) wh
 -- the e-th of a space
 unfoldable pub nth_of : List Declared → (space e : ℕ) → Option Declared
 nth_of [] space e = none
-nth_of (x ∷ xs) space zero = if eqb x.decl.space space then some x else nth_of xs space zero
-nth_of (x ∷ xs) space (suc e) = if eqb x.decl.space space then nth_of xs space e else nth_of xs space (suc e)
+nth_of (x ∷ xs) space zero = when eqb x.decl.space space then some x else nth_of xs space zero
+nth_of (x ∷ xs) space (suc e) = when eqb x.decl.space space then nth_of xs space e else nth_of xs space (suc e)
 
 -- its row, if its field is added
 unfoldable pub alias_from : Option Declared → Found
 alias_from none = Nothing
-alias_from (some x) = if is_inserted x.head then At (x.row % 65536) else Nothing
+alias_from (some x) = when is_inserted x.head then At (x.row % 65536) else Nothing
 
 module _ (k : ℕ) (low : suc k < 65536) (space : ℕ) (narrow : space < 256) where
   abbrev key : ℕ
@@ -269,16 +269,16 @@ module _ (k : ℕ) (low : suc k < 65536) (space : ℕ) (narrow : space < 256) wh
   AliasesFound c xs = (e : ℕ) → find_in (slots_of k c xs) key (suc (get_or c space 0 + e)) ≡ alias_from (nth_of xs space e)
 
   nth_other : (x : Declared) (xs : List Declared) (e : ℕ) → eqb x.decl.space space ≡ false → nth_of (x ∷ xs) space e ≡ nth_of xs space e
-  unfolding nth_of if◌then◌else◌
+  unfolding nth_of when◌then◌else◌
   nth_other x xs zero q = rw q
   nth_other x xs (suc e) q = rw q
 
   nth_first : (x : Declared) (xs : List Declared) → eqb x.decl.space space ≡ true → nth_of (x ∷ xs) space 0 ≡ some x
-  unfolding nth_of if◌then◌else◌
+  unfolding nth_of when◌then◌else◌
   nth_first x xs q = rw q
 
   nth_later : (x : Declared) (xs : List Declared) (e : ℕ) → eqb x.decl.space space ≡ true → nth_of (x ∷ xs) space (suc e) ≡ nth_of xs space e
-  unfolding nth_of if◌then◌else◌
+  unfolding nth_of when◌then◌else◌
   nth_later x xs e q = rw q
 
   later : (c : List ℕ) (x : Declared) (xs : List Declared) (e : ℕ) → Onward c x → AliasesFound (more_count_t c x.decl.space) xs → find_in (slots_of k (more_count_t c x.decl.space) xs) key (suc (get_or c space 0 + suc e)) ≡ alias_from (nth_of xs space e)
@@ -286,7 +286,7 @@ module _ (k : ℕ) (low : suc k < 65536) (space : ℕ) (narrow : space < 256) wh
 
   aliases_next : (c : List ℕ) (m : ℕ) (x : Declared) (xs : List Declared) (a b : Bool) → is_inserted x.head ≡ a → eqb x.decl.space space ≡ b → Counts c m → m < 65536 → Apt x → Below (more_count_t c x.decl.space) xs
       → AliasesFound (more_count_t c x.decl.space) xs → AliasesFound c (x ∷ xs)
-  unfolding pick alias_from if◌then◌else◌
+  unfolding pick alias_from when◌then◌else◌
   aliases_next c m x xs a false p q C l A low₁ f e =
       let t = more_other c x.decl.space space (λ g. false_not (sym q ∙ eq-eqb x.decl.space space g)) in
       past_slot c x xs _ (other_passed c x A q) ∙ rw (nth_other x xs e q) (rw t at (f e))

@@ -11,7 +11,7 @@ use Rattle.parts.specs.declared.Parts.{Parts}
 use Rattle.names.specs.Table.{Slot, space_of, find_in}
 use Rattle.names.specs.declared.Found.{Found}
 use Rattle.names.specs.declared.Found.TheVariants.{At, Nothing}
-use Rattle.rules.specs.Tools.{if◌then◌else◌, only, ◌then◌, is_in}
+use Rattle.rules.specs.Tools.{when◌then◌else◌, only, ◌then◌, is_in}
 use Rattle.rules.specs.Versions.{RuleSet, top_name}
 use Rattle.rules.specs.Rows.{Row, Close}
 use Rattle.rules.specs.Tree.{Declaration, Head, Scope, scope, Fields, end, ◌▸◌, Item, plain, holds, head_of, head_rows, flatten, fields_rows, item_rows}
@@ -74,21 +74,21 @@ unfolding in_original if_added only
 same_original h n field at [] e = none_same
 same_original h n field at (d ∷ ds) e = more_same {s = record { decl = d; spot = original field at }} {x = record { head = h; row = n; decl = d }} refl (rw e) (same_original h (suc n) field (suc at) ds e)
 
-same_head : (h : Head) (n field : ℕ) (b : Bool) → is_inserted h ≡ b → Same (if b then in_inserted h h.decls else in_original field 0 h.decls) (head_declared n h)
-unfolding if◌then◌else◌
+same_head : (h : Head) (n field : ℕ) (b : Bool) → is_inserted h ≡ b → Same (when b then in_inserted h h.decls else in_original field 0 h.decls) (head_declared n h)
+unfolding when◌then◌else◌
 same_head h n field true e = same_inserted h (suc n) h.decls e
 same_head h n field false e = same_original h (suc n) field 0 h.decls e
 
 same_fields : (j n : ℕ) (fs : Fields) → Same (standings j fs) (declared_in n fs)
 unfolding standings declared_in
 same_fields j n end = none_same
-same_fields j n (i ▸ fs) = same_append _ _ (head_declared n (head_of i)) (declared_in (n + length (item_rows i)) fs) (same_head (head_of i) n j (is_inserted (head_of i)) refl) (same_fields (if is_inserted (head_of i) then j else suc j) (n + length (item_rows i)) fs)
+same_fields j n (i ▸ fs) = same_append _ _ (head_declared n (head_of i)) (declared_in (n + length (item_rows i)) fs) (same_head (head_of i) n j (is_inserted (head_of i)) refl) (same_fields (when is_inserted (head_of i) then j else suc j) (n + length (item_rows i)) fs)
 
 same_space : (s : Standing) (x : Declared) → s.decl ≡ x.decl → (space : ℕ) → eqb s.decl.space space ≡ eqb x.decl.space space
 same_space s x e space = ap (λ (d : Declaration). eqb d.space space) e
 
 nth_same : (ss : List Standing) (xs : List Declared) (space e : ℕ) → Same ss xs → (get_elem? (of_space ss space) e then if_added) ≡ (nth_of xs space e then added_at)
-unfolding of_space nth_of ◌then◌ if◌then◌else◌
+unfolding of_space nth_of ◌then◌ when◌then◌else◌
 nth_same [] [] space e none_same = refl
 nth_same (s ∷ ss) (x ∷ xs) space e (more_same q f p) = go (eqb x.decl.space space) e (same_space s x q space) refl (λ m. nth_same ss xs space m p)
   where
@@ -142,13 +142,13 @@ unfolding alias_from ◌then◌
 alias_at at none p = nowhere
 alias_at at (some x) p = go (is_inserted x.head) refl
   where
-    go : (b : Bool) → is_inserted x.head ≡ b → AliasAt at (if is_inserted x.head then At (x.row % 65536) else Nothing) (only (is_inserted x.head) x.head)
+    go : (b : Bool) → is_inserted x.head ≡ b → AliasAt at (when is_inserted x.head then At (x.row % 65536) else Nothing) (only (is_inserted x.head) x.head)
     go true e =
         let P = p e in
         let low = P.low in
         let q : suc P.r % 65536 ≡ suc P.r = omega arith in
-        rw (e, P.row, q) (unfold if◌then◌else◌ only in there P.r x.head P.stands P.alias)
-    go false e = rw e (unfold if◌then◌else◌ only in nowhere)
+        rw (e, P.row, q) (unfold when◌then◌else◌ only in there P.r x.head P.stands P.alias)
+    go false e = rw e (unfold when◌then◌else◌ only in nowhere)
 
 -- ---- the slots of one scope
 

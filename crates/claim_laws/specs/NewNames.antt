@@ -16,7 +16,7 @@ use Rattle.parts.specs.declared.Parts.{Parts}
 use Rattle.names.specs.Table.{Slot, space_of, name_of, find_in}
 use Rattle.names.specs.declared.Found.{Found}
 use Rattle.names.specs.declared.Found.TheVariants as found
-use Rattle.rules.specs.Tools.{if◌then◌else◌, is_in, is_just, ◌or_else◌}
+use Rattle.rules.specs.Tools.{when◌then◌else◌, is_in, is_just, ◌or_else◌}
 use Rattle.rules.specs.Versions.{RuleSet}
 use Rattle.rules.specs.Rows.{Index, Num, Id, Row, Field, Decl, Ref, Path, Outer, Case, Open, Close, Export, encode, flag, number}
 use Rattle.rules.specs.Tree.{Declaration, Operand, ref, outer, case, Head, Scope, scope, Fields, end, ◌▸◌, Item, plain, holds, head_of, decl_rows, path_rows, operand_row, operand_rows, export_rows, head_rows, flatten, fields_rows, item_rows}
@@ -51,7 +51,7 @@ decl_slot k d = slot_t k d.space (alias_new_t d.name) 0
 
 -- those of an added alias in the scope whose OPEN is row k
 unfoldable head_names : (k : ℕ) → Head → List Slot
-head_names k h = if is_inserted h && is_in h.code (9 ∷ 10 ∷ 11 ∷ []) then map (decl_slot k) h.decls else []
+head_names k h = when is_inserted h && is_in h.code (9 ∷ 10 ∷ 11 ∷ []) then map (decl_slot k) h.decls else []
 
 -- of all scopes, in the order of the rows; row n is the scope's OPEN, the first field, or what follows the item's head
 unfoldable mutual
@@ -264,8 +264,8 @@ module _ (room : ℕ) where
       let i = export_inner name in
       added_row n st ss (Export name) ys false i.0 i.1 (export_breaks (here_t st) ss name) ∙ rw e
 
-  number_turn : (b : Bool) (m : ℕ) (t : Tried) → pick (not b) (Breaks m) t ≡ or_tried (if b then none else some m) t
-  unfolding pick or_tried if◌then◌else◌
+  number_turn : (b : Bool) (m : ℕ) (t : Tried) → pick (not b) (Breaks m) t ≡ or_tried (when b then none else some m) t
+  unfolding pick or_tried when◌then◌else◌
   number_turn true m t = refl
   number_turn false m t = refl
 
@@ -297,8 +297,8 @@ module _ (room : ℕ) where
       let e : suc n + length (export_rows h.export) ≡ n + suc (length (export_rows h.export)) = omega arith in
       rw o (outer_run n st ss space up at z h.export ys ∙ rw e)
 
-  new_turn : (b : Bool) (m : ℕ) (t : Tried) → pick b (Breaks m) t ≡ or_tried (if b then some m else none) t
-  unfolding pick or_tried if◌then◌else◌
+  new_turn : (b : Bool) (m : ℕ) (t : Tried) → pick b (Breaks m) t ≡ or_tried (when b then some m else none) t
+  unfolding pick or_tried when◌then◌else◌
   new_turn true m t = refl
   new_turn false m t = refl
 
@@ -322,7 +322,7 @@ module _ (room : ℕ) where
       ∙ rw (behind_decl (suc n) st (ss ++ (decl_slot (here_t st) d ∷ [])) h ys o, or_tried_lem (not_new n past (d ∷ [])), q, size))
 
   names_alias : (k : ℕ) (h : Head) → is_inserted h ≡ true → is_in h.code (9 ∷ 10 ∷ 11 ∷ []) ≡ true → head_names k h ≡ map (decl_slot k) h.decls
-  unfolding head_names if◌then◌else◌
+  unfolding head_names when◌then◌else◌
   names_alias k h e c = rw (e, c)
 
   any_one : (d : Declaration) (ds : List Declaration) → ds ≡ d ∷ [] → Readings.any_fresh ds ≡ true → is_fresh d.name ≡ true
@@ -331,7 +331,7 @@ module _ (room : ℕ) where
 
   alias_head : (rules : RuleSet) (kind n : ℕ) (b : Bool) (st : List (List ℕ)) (past : List Declaration) (ss : List Slot) (h : Head) (ys : List Row) → GoodHead rules kind h → is_inserted h ≡ true → is_in h.code (9 ∷ 10 ∷ 11 ∷ []) ≡ true → NoDecl ys → Known (here_t st) past ss → length ss < room
       → run n b st ss (head_rows h ++ ys) ≡ or_tried (no_alias n past h) (run (n + length (head_rows h)) true st (ss ++ head_names (here_t st) h) ys)
-  unfolding head_rows behind_field no_alias if◌then◌else◌ pick is_inserted
+  unfolding head_rows behind_field no_alias when◌then◌else◌ pick is_inserted
   alias_head rules kind n b st past ss h ys good e c nd g roomy =
       let D = one_declared rules kind h good c in
       let q : suc n + length (behind_field h) ≡ n + suc (length (behind_field h)) = omega arith in
@@ -342,7 +342,7 @@ module _ (room : ℕ) where
   -- ---- what is known behind a field
 
   names_own : (k : ℕ) (h : Head) → is_inserted h ≡ false → head_names k h ≡ []
-  unfolding head_names if◌then◌else◌
+  unfolding head_names when◌then◌else◌
   names_own k h e = rw e
 
   known_head : (rules : RuleSet) (kind k : ℕ) (past : List Declaration) (ss : List Slot) (h : Head) → GoodHead rules kind h → k < 65536 → (is_inserted h ≡ true → is_in h.code (9 ∷ 10 ∷ 11 ∷ []) ≡ true) → Known k past ss → Known k (past ++ h.decls) (ss ++ head_names k h)
@@ -355,7 +355,7 @@ module _ (room : ℕ) where
       go false e = rw (names_own k h e, append-nil ss) (known_own k past h.decls ss (unfold is_inserted in e) g)
 
   names_other : (k : ℕ) (h : Head) → is_in h.code (9 ∷ 10 ∷ 11 ∷ []) ≡ false → head_names k h ≡ []
-  unfolding head_names if◌then◌else◌
+  unfolding head_names when◌then◌else◌
   names_other k h c = rw (c, and-false (is_inserted h))
 
   slot_within : (k : ℕ) (d : Declaration) → k < 65536 → d.space < 256 → Of k (k + 1) (decl_slot k d)
@@ -429,21 +429,21 @@ module _ (room : ℕ) where
 
   -- what an item is found to be
   abbrev item_found : (n : ℕ) (past : List Declaration) → Item → Option ℕ
-  item_found n past i = (if is_inserted (head_of i) then no_alias n past (head_of i) else none) or_else item_added (n + length (head_rows (head_of i))) i
+  item_found n past i = (when is_inserted (head_of i) then no_alias n past (head_of i) else none) or_else item_added (n + length (head_rows (head_of i))) i
 
   no_more : (ss xs : List Slot) → ss ++ (xs ++ []) ≡ ss ++ xs
   no_more ss xs = rw (append-nil xs)
 
   found_other : (n : ℕ) (past : List Declaration) (i : Item) (K : Tried) → is_inserted (head_of i) ≡ true → is_in (head_of i).code (9 ∷ 10 ∷ 11 ∷ []) ≡ false → or_tried (item_found n past i) K ≡ Breaks n
-  unfolding no_alias if◌then◌else◌ ◌or_else◌ or_tried
+  unfolding no_alias when◌then◌else◌ ◌or_else◌ or_tried
   found_other n past i K e c = rw (e, c)
 
   found_alias : (n : ℕ) (past : List Declaration) (h : Head) (K : Tried) → is_inserted h ≡ true → or_tried (no_alias n past h) K ≡ or_tried (item_found n past (plain h)) K
-  unfolding if◌then◌else◌ scope_added head_of
+  unfolding when◌then◌else◌ scope_added head_of
   found_alias n past h K e = rw (e, or_tried_lem (no_alias n past h) none K) (unfold or_tried in refl)
 
   found_own : (n : ℕ) (past : List Declaration) (i : Item) → is_inserted (head_of i) ≡ false → item_found n past i ≡ item_added (n + length (head_rows (head_of i))) i
-  unfolding if◌then◌else◌ ◌or_else◌
+  unfolding when◌then◌else◌ ◌or_else◌
   found_own n past i e = rw e
 
   plain_run : (rules : RuleSet) (kind n : ℕ) (b : Bool) (st : List (List ℕ)) (past : List Declaration) (ss : List Slot) (h : Head) (ys : List Row) (K : Tried) (size deep : ℕ) → GoodHead rules kind h → Stands n st past ss (head_names (here_t st) h) size deep → NoDecl ys
@@ -546,7 +546,7 @@ module _ (room : ℕ) where
   item_other n b st ss (holds h s) ys e c d = rw (append_assoc (head_rows h) (flatten s) ys) (other_head n b st ss h (flatten s ++ ys) e c (scope_no_decl s ys))
 
   fields_other : (n : ℕ) (st : List (List ℕ)) (past : List Declaration) (ss : List Slot) (i : Item) (fs : Fields) (zs : List Row) → is_inserted (head_of i) ≡ true → is_in (head_of i).code (9 ∷ 10 ∷ 11 ∷ []) ≡ false → FieldsRun n st past ss (i ▸ fs) zs
-  unfolding flatten scope_added no_alias if◌then◌else◌ ◌or_else◌ or_tried
+  unfolding flatten scope_added no_alias when◌then◌else◌ ◌or_else◌ or_tried
   fields_other n st past ss i fs zs e c b = rw (append_assoc (item_rows i) (fields_rows fs) (Close ∷ zs), e, c) (item_other n b st ss i (fields_rows fs ++ (Close ∷ zs)) e c (fields_no_decl fs zs))
 
   alias_or_not : (X : Type 0) (i : Item) → (is_inserted (head_of i) ≡ true → is_in (head_of i).code (9 ∷ 10 ∷ 11 ∷ []) ≡ false → X) → ((is_inserted (head_of i) ≡ true → is_in (head_of i).code (9 ∷ 10 ∷ 11 ∷ []) ≡ true) → X) → X

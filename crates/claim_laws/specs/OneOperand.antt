@@ -13,7 +13,7 @@ use Rattle.parts.specs.declared.Parts.{Parts}
 use Rattle.names.specs.Table.{Slot, no_scope}
 use Rattle.names.specs.declared.Named.{Named}
 use Rattle.names.specs.declared.Named.TheVariants as named
-use Rattle.rules.specs.Tools.{if◌then◌else◌, ◌then◌}
+use Rattle.rules.specs.Tools.{when◌then◌else◌, ◌then◌}
 use Rattle.rules.specs.Versions.{top_name}
 use Rattle.rules.specs.Rows.{Index, Num, Id, Row, Ref, Path, Outer, Case, encode, flag, number}
 use Rattle.rules.specs.Tree.{Operand, ref, outer, case, Scope, scope, Fields, path_rows, operand_row}
@@ -68,9 +68,9 @@ space_of_instance : (space : ℕ) → instance_space space ≡ Check.instance_sp
 unfolding instance_space Check.instance_space
 space_of_instance space = go (leb space 6)
   where
-    go : (b : Bool) → ◌≡◌ {A = ℕ} (pick b 6 10) (if b then 6 else 10)
-    go true = unfold pick if◌then◌else◌ in refl
-    go false = unfold pick if◌then◌else◌ in refl
+    go : (b : Bool) → ◌≡◌ {A = ℕ} (pick b 6 10) (when b then 6 else 10)
+    go true = unfold pick when◌then◌else◌ in refl
+    go false = unfold pick when◌then◌else◌ in refl
 
 narrow_instance : (space : ℕ) → instance_space space < 256
 unfolding instance_space
@@ -209,7 +209,7 @@ module _ (claim : List ℕ) (ss : List Slot) (used kind name k : ℕ) (cs : Fiel
       ≡ (o then λ e. found (number_in e.entries space at z) then λ n. some (d, n))
   unfolding or_refused in_time ◌>>=◌
   in_scope_lem space at d z none = unfold found ◌then◌ in refl
-  in_scope_lem space at d z (some e) = rw (never_late e space at) (unfold if◌then◌else◌ ◌then◌ in numbers_of space d (number_in e.entries space at z) z)
+  in_scope_lem space at d z (some e) = rw (never_late e space at) (unfold when◌then◌else◌ ◌then◌ in numbers_of space d (number_in e.entries space at z) z)
 
   outer_is : (space : ℕ) (up at : Index) (z : ℕ) → (found (Rules.outer_numbers false envs 0 space up at z) then Check.outer_numbers) ≡ (found (up_number envs up 0) then λ d. nth envs d then λ e. found (number_in e.entries space at z) then λ n. some (d, n))
   unfolding Rules.outer_numbers

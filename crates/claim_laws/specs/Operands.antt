@@ -11,7 +11,7 @@ use Rattle.kit.specs.Pick.{pick}
 use Rattle.parts.specs.PartsAt.{parts_at}
 use Rattle.parts.specs.declared.Parts.{Parts}
 use Rattle.names.specs.Table.{Slot}
-use Rattle.rules.specs.Tools.{if◌then◌else◌, ◌or_else◌}
+use Rattle.rules.specs.Tools.{when◌then◌else◌, ◌or_else◌}
 use Rattle.rules.specs.Versions.{RuleSet}
 use Rattle.rules.specs.Rows.{Row, Field, Decl, Ref, Path, Outer, Case, Open, Close, Export, encode}
 use Rattle.rules.specs.Tree.{Declaration, Operand, ref, outer, case, Head, Scope, scope, Fields, end, ◌▸◌, Item, plain, holds, head_of, with_operands, decl_rows, path_rows, operand_row, operand_rows, export_rows, head_rows, flatten, fields_rows, item_rows}
@@ -175,8 +175,8 @@ module _ (claim : List ℕ) (ss : List Slot) (used : ℕ) where
   one_row (outer space up at z) b = (Outer space up at z, refl)
   one_row (case name z) b = (Case name z, refl)
 
-  turn_right : (t : Bool) (n : ℕ) (o : Option ℕ) (x y : Tried) → x ≡ or_tried o y → pick t x (Breaks n) ≡ or_tried (if t then o else some n) y
-  unfolding pick or_tried if◌then◌else◌
+  turn_right : (t : Bool) (n : ℕ) (o : Option ℕ) (x y : Tried) → x ≡ or_tried o y → pick t x (Breaks n) ≡ or_tried (when t then o else some n) y
+  unfolding pick or_tried when◌then◌else◌
   turn_right true n o x y e = e
   turn_right false n o x y e = refl
 
@@ -248,7 +248,7 @@ module _ (claim : List ℕ) (ss : List Slot) (used : ℕ) where
 
   skip_is : (n : ℕ) (i : Item) (cs : Fields) (here : Scope) (outside : List Env) (fs : Fields) → is_inserted (head_of i) ≡ true → fields_operands n (i ▸ cs) here outside fs ≡ fields_operands (n + length (item_rows i)) cs here outside fs
   skip_is n i cs here outside end t = past_end n (i ▸ cs) here outside ∙ sym (past_end (n + length (item_rows i)) cs here outside)
-  skip_is n i cs here outside (w ▸ fs) t = unfold scope_operands if◌then◌else◌ in rw t
+  skip_is n i cs here outside (w ▸ fs) t = unfold scope_operands when◌then◌else◌ in rw t
 
   plain_only : (n : ℕ) (st : List (List ℕ)) (i : Item) → IsAdded i → item_marks n st i ≡ []
   unfolding scope_marks
@@ -263,7 +263,7 @@ module _ (claim : List ℕ) (ss : List Slot) (used : ℕ) where
 
   -- one of the input
   both_is : (n : ℕ) (i w : Item) (cs : Fields) (here : Scope) (outside : List Env) (fs : Fields) → is_inserted (head_of i) ≡ false → fields_operands n (i ▸ cs) here outside (w ▸ fs) ≡ (item_operands n i here outside w or_else fields_operands (n + length (item_rows i)) cs here outside fs)
-  unfolding scope_operands if◌then◌else◌
+  unfolding scope_operands when◌then◌else◌
   both_is n i w cs here outside fs t = rw t
 
   both_run : (n : ℕ) (here : Scope) (st : List (List ℕ)) (outside : List Env) (i w : Item) (cs fs : Fields) (ms : List Mark) (ws : List Row) → is_inserted (head_of i) ≡ false → ((ks : List Mark) → ItemRun n here st outside i w ks (fields_rows fs ++ ws))

@@ -19,7 +19,7 @@ use Rattle.names.specs.declared.Met.{Met}
 use Rattle.names.specs.declared.Met.TheVariants as met
 use Rattle.names.specs.declared.Named.{Named}
 use Rattle.names.specs.declared.Named.TheVariants as named
-use Rattle.rules.specs.Tools.{if◌then◌else◌, only, ◌then◌, ◌or_else◌}
+use Rattle.rules.specs.Tools.{when◌then◌else◌, only, ◌then◌, ◌or_else◌}
 use Rattle.rules.specs.Versions.{top_name}
 use Rattle.rules.specs.Rows.{Index, Num, Id, Row, Field, Decl, Ref, Path, Outer, Export, encode, flag, number}
 use Rattle.rules.specs.Tree.{Declaration, Operand, ref, outer, case, Head, Fields, decl_rows, path_rows, operand_row, operand_rows, export_rows, head_rows}
@@ -81,13 +81,13 @@ module _ (claim : List ℕ) where
 
   -- operands of two numbers and of one
   both_numbers : (row space : ℕ) (up at : Index) (z : ℕ) → not_number row (outer space up at z ∷ []) ≡ none → (d n : ℕ) × (up ≡ Num d) × (at ≡ Num n)
-  unfolding not_number has_numbers is_number if◌then◌else◌
+  unfolding not_number has_numbers is_number when◌then◌else◌
   both_numbers row space (Num d) (Num n) z e = (d, n, refl, refl)
   both_numbers row space (Num d) (Id name) z e = no_option row (sym e)
   both_numbers row space (Id name) at z e = no_option row (sym e)
 
   one_number : (row from : ℕ) (at : Index) (z : ℕ) → not_number row (ref from at [] z ∷ []) ≡ none → (n : ℕ) × (at ≡ Num n)
-  unfolding not_number has_numbers is_number if◌then◌else◌
+  unfolding not_number has_numbers is_number when◌then◌else◌
   one_number row from (Num n) z e = (n, refl)
   one_number row from (Id name) z e = no_option row (sym e)
 
@@ -128,14 +128,14 @@ module _ (claim : List ℕ) where
   -- ---- through one alias of an export
 
   abbrev export_of : (space name : ℕ) → Head → Option ℕ
-  export_of space name h = only (eqb h.code (if leb space 6 then 10 else 9) && same h.export (some name)) h then λ h. first h.operands then ref_number
+  export_of space name h = only (eqb h.code (when leb space 6 then 10 else 9) && same h.export (some name)) h then λ h. first h.operands then ref_number
 
-  export_code_lem : (space : ℕ) → export_code space ≡ (if leb space 6 then 10 else 9)
+  export_code_lem : (space : ℕ) → export_code space ≡ (when leb space 6 then 10 else 9)
   export_code_lem space = go (leb space 6) refl
     where
-      go : (b : Bool) → leb space 6 ≡ b → export_code space ≡ (if leb space 6 then 10 else 9)
-      go true e = unfold export_code pick if◌then◌else◌ in rw e
-      go false e = unfold export_code pick if◌then◌else◌ in rw e
+      go : (b : Bool) → leb space 6 ≡ b → export_code space ≡ (when leb space 6 then 10 else 9)
+      go true e = unfold export_code pick when◌then◌else◌ in rw e
+      go false e = unfold export_code pick when◌then◌else◌ in rw e
 
   by_tests : (a b : Bool) (h : Head) (n : ℕ) → (first h.operands then ref_number) ≡ some n → pick a (pick b (Value n) Nothing) Nothing ≡ entered (only (a && b) h then λ h. first h.operands then ref_number)
   unfolding pick entered only ◌then◌
@@ -150,14 +150,14 @@ module _ (claim : List ℕ) where
       let q : suc r + 1 ≡ suc (suc r) = omega arith in
       let t : suc r + 2 ≡ suc (suc (suc r)) = omega arith in
       let y : same h.export (some name) ≡ eqb nm name = ap (λ (e : Option ℕ). same e (some name)) x in
-      rw (code_at_lem r h f, q, t, p, w, y, export_code_lem space) (by_tests (eqb h.code (if leb space 6 then 10 else 9)) (eqb nm name) h n (unfold first ref_number ◌then◌ in rw o))
+      rw (code_at_lem r h f, q, t, p, w, y, export_code_lem space) (by_tests (eqb h.code (when leb space 6 then 10 else 9)) (eqb nm name) h n (unfold first ref_number ◌then◌ in rw o))
 
   stands_export : (n nm : ℕ) → Stands (parts_at claim) n (export_rows (some nm)) → parts_at claim n ≡ as_parts (Export nm)
   unfolding export_rows
   stands_export n nm s = s.0
 
-  not_eleven : (b : Bool) → eqb 11 (if b then 10 else 9) ≡ false
-  unfolding if◌then◌else◌
+  not_eleven : (b : Bool) → eqb 11 (when b then 10 else 9) ≡ false
+  unfolding when◌then◌else◌
   not_eleven true = refl
   not_eleven false = refl
 
@@ -305,8 +305,8 @@ module _ (claim : List ℕ) (ss : List Slot) (used : ℕ) where
   named_as out none = named.Nowhere
   named_as out (some d) = named.Out (out + d)
 
-  named_next : (b : Bool) (out : ℕ) (o : Option ℕ) → pick b (named.Out out) (named_as (suc out) o) ≡ named_as out (if b then some 0 else map suc o)
-  unfolding pick named_as if◌then◌else◌
+  named_next : (b : Bool) (out : ℕ) (o : Option ℕ) → pick b (named.Out out) (named_as (suc out) o) ≡ named_as out (when b then some 0 else map suc o)
+  unfolding pick named_as when◌then◌else◌
   named_next true out o = ap named.Out (omega arith)
   named_next false out none = refl
   named_next false out (some d) = ap named.Out (omega arith)

@@ -8,7 +8,7 @@ use mathlib.Core.List.{List, [], ◌∷◌, ◌++◌, map, append_assoc, append-
 use Rattle.rules.specs.Laws.ToolLaws.{eqb_same, All, done, ◌&◌}
 use Rattle.kit.specs.Pick.{pick}
 use Rattle.parts.specs.declared.Parts.{Parts}
-use Rattle.rules.specs.Tools.{if◌then◌else◌, is_in}
+use Rattle.rules.specs.Tools.{when◌then◌else◌, is_in}
 use Rattle.rules.specs.Rows.{Raw, raw, Row, Field, Decl, Ref, Path, Outer, Case, Open, Close, Export, encode}
 use Rattle.rules.specs.Tree.{Declaration, Operand, ref, outer, case, Head, Scope, scope, Fields, end, ◌▸◌, Item, plain, holds, head_of, decl_rows, path_rows, operand_row, operand_rows, export_rows, head_rows, flatten, fields_rows, item_rows}
 use Rattle.rules.specs.Readings
@@ -53,20 +53,20 @@ is_path_lem Close = refl
 is_path_lem (Export name) = refl
 
 -- t: the row is a REF, u: it is an OUTER
-same_rest : (t u e x y z : Bool) → ((t || (u || (e && (x && y)))) && z) ≡ (if t || (u || false) then z else e && (x && (y && z)))
-unfolding if◌then◌else◌
+same_rest : (t u e x y z : Bool) → ((t || (u || (e && (x && y)))) && z) ≡ (when t || (u || false) then z else e && (x && (y && z)))
+unfolding when◌then◌else◌
 same_rest true u e x y z = refl
 same_rest false true e x y z = refl
 same_rest false false e x y z = simp and_assoc
 
 -- two rows of one code, and of two
-same_code : (t : Bool) (c b e x y z b' e' x' y' z' : ℕ) → same_parts (if t then raw c b 0 0 0 z else raw c b e x y z) (if t then raw c b' 0 0 0 z' else raw c b' e' x' y' z') ≡ (eqb b b' && (if t then eqb z z' else eqb e e' && (eqb x x' && (eqb y y' && eqb z z'))))
-unfolding same_parts if◌then◌else◌
+same_code : (t : Bool) (c b e x y z b' e' x' y' z' : ℕ) → same_parts (when t then raw c b 0 0 0 z else raw c b e x y z) (when t then raw c b' 0 0 0 z' else raw c b' e' x' y' z') ≡ (eqb b b' && (when t then eqb z z' else eqb e e' && (eqb x x' && (eqb y y' && eqb z z'))))
+unfolding same_parts when◌then◌else◌
 same_code true c b e x y z b' e' x' y' z' = rw (eqb_same c)
 same_code false c b e x y z b' e' x' y' z' = rw (eqb_same c)
 
-other_code : (t u : Bool) (c c' b e x y z b' e' x' y' z' : ℕ) → eqb c c' ≡ false → same_parts (if t then raw c b 0 0 0 z else raw c b e x y z) (if u then raw c' b' 0 0 0 z' else raw c' b' e' x' y' z') ≡ false
-unfolding same_parts if◌then◌else◌
+other_code : (t u : Bool) (c c' b e x y z b' e' x' y' z' : ℕ) → eqb c c' ≡ false → same_parts (when t then raw c b 0 0 0 z else raw c b e x y z) (when u then raw c' b' 0 0 0 z' else raw c' b' e' x' y' z') ≡ false
+unfolding same_parts when◌then◌else◌
 other_code true true c c' b e x y z b' e' x' y' z' h = rw h
 other_code true false c c' b e x y z b' e' x' y' z' h = rw h
 other_code false true c c' b e x y z b' e' x' y' z' h = rw h
@@ -77,7 +77,7 @@ unfolding is_same_t kept
 same_raw (raw c b e x y z) (raw c' b' e' x' y' z') = go (eqb c c') refl
   where
     go : (t : Bool) → eqb c c' ≡ t
-        → (t && (eqb b b' && ((eqb c 3 || (eqb c 5 || (eqb e e' && (eqb x x' && eqb y y')))) && eqb z z'))) ≡ same_parts (if is_in c (3 ∷ 5 ∷ []) then raw c b 0 0 0 z else raw c b e x y z) (if is_in c' (3 ∷ 5 ∷ []) then raw c' b' 0 0 0 z' else raw c' b' e' x' y' z')
+        → (t && (eqb b b' && ((eqb c 3 || (eqb c 5 || (eqb e e' && (eqb x x' && eqb y y')))) && eqb z z'))) ≡ same_parts (when is_in c (3 ∷ 5 ∷ []) then raw c b 0 0 0 z else raw c b e x y z) (when is_in c' (3 ∷ 5 ∷ []) then raw c' b' 0 0 0 z' else raw c' b' e' x' y' z')
     go true h = rw (← eqb-true c c' h) (ap (λ (k : Bool). eqb b b' && k) (same_rest (eqb c 3) (eqb c 5) (eqb e e') (eqb x x') (eqb y y') (eqb z z')) ∙ sym (same_code (is_in c (3 ∷ 5 ∷ [])) c b e x y z b' e' x' y' z'))
     go false h = sym (other_code (is_in c (3 ∷ 5 ∷ [])) (is_in c' (3 ∷ 5 ∷ [])) c c' b e x y z b' e' x' y' z' h)
 
@@ -94,23 +94,23 @@ Settled (r ∷ rs) = is_path (encode r) ≡ false
 -- without the PATHs that come first
 unfoldable onward : List Row → List Row
 onward [] = []
-onward (r ∷ rs) = if is_path (encode r) then onward rs else r ∷ rs
+onward (r ∷ rs) = when is_path (encode r) then onward rs else r ∷ rs
 
 onward_settled : (rs : List Row) → Settled (onward rs)
-unfolding onward if◌then◌else◌
+unfolding onward when◌then◌else◌
 onward_settled [] = tt
 onward_settled (r ∷ rs) = go (is_path (encode r)) refl (onward_settled rs)
   where
-    go : (t : Bool) → is_path (encode r) ≡ t → Settled (onward rs) → Settled (if t then onward rs else r ∷ rs)
+    go : (t : Bool) → is_path (encode r) ≡ t → Settled (onward rs) → Settled (when t then onward rs else r ∷ rs)
     go true h e = e
     go false h e = h
 
 onward_parts : (rs : List Row) → past_paths (all_parts rs) ≡ all_parts (onward rs)
-unfolding past_paths all_parts onward pick if◌then◌else◌
+unfolding past_paths all_parts onward pick when◌then◌else◌
 onward_parts [] = refl
 onward_parts (r ∷ rs) = go (eqb (code_in r) 4) (is_path (encode r)) (is_path_lem r) (onward_parts rs)
   where
-    go : (t u : Bool) → t ≡ u → past_paths (all_parts rs) ≡ all_parts (onward rs) → pick t (past_paths (all_parts rs)) (as_parts r ∷ all_parts rs) ≡ all_parts (if u then onward rs else r ∷ rs)
+    go : (t u : Bool) → t ≡ u → past_paths (all_parts rs) ≡ all_parts (onward rs) → pick t (past_paths (all_parts rs)) (as_parts r ∷ all_parts rs) ≡ all_parts (when u then onward rs else r ∷ rs)
     go t true h e = rw h e
     go t false h e = rw h
 
@@ -121,11 +121,11 @@ settled_parts [] s = refl
 settled_parts (r ∷ rs) s = rw (is_path_lem r, s)
 
 onward_without : (rs : List Row) → without_paths (onward rs) ≡ without_paths rs
-unfolding without_paths onward if◌then◌else◌
+unfolding without_paths onward when◌then◌else◌
 onward_without [] = refl
 onward_without (r ∷ rs) = go (is_path (encode r)) refl (onward_without rs)
   where
-    go : (t : Bool) → is_path (encode r) ≡ t → without_paths (onward rs) ≡ without_paths rs → without_paths (if t then onward rs else r ∷ rs) ≡ (if t then without_paths rs else r ∷ without_paths rs)
+    go : (t : Bool) → is_path (encode r) ≡ t → without_paths (onward rs) ≡ without_paths rs → without_paths (when t then onward rs else r ∷ rs) ≡ (when t then without_paths rs else r ∷ without_paths rs)
     go true h e = e
     go false h e = rw h
 
@@ -139,8 +139,8 @@ positive : (k : ℕ) → ltb 0 (suc k) ≡ true
 positive k = lt-ltb 0 (suc k) (omega arith)
 
 added_turn : (t : Bool) (r : Row) (rs : List Row) (n k : ℕ) (qs : List Row) → Settled qs → is_path (encode r) ≡ t → Found (suc n) (suc k) rs
-    → pick (same_breaks_t (as_parts r) (suc k) (all_parts qs)) (Breaks n) (differs_t (suc n) (suc k) (all_parts rs) (rows_behind_t (suc k) (all_parts qs))) ≡ tried (if t then some n else differs (suc n) (marks (suc k) rs) (without_paths qs))
-unfolding same_breaks_t rows_behind_t pick if◌then◌else◌
+    → pick (same_breaks_t (as_parts r) (suc k) (all_parts qs)) (Breaks n) (differs_t (suc n) (suc k) (all_parts rs) (rows_behind_t (suc k) (all_parts qs))) ≡ tried (when t then some n else differs (suc n) (marks (suc k) rs) (without_paths qs))
+unfolding same_breaks_t rows_behind_t pick when◌then◌else◌
 added_turn true r rs n k qs s h f = rw (is_path_lem r, h)
 added_turn false r rs n k qs s h f = rw (is_path_lem r, h, positive k) (f qs s)
 
@@ -150,20 +150,20 @@ missing_turn true r n X h = rw (is_path_lem r, h)
 missing_turn false r n X h = rw (is_path_lem r, h)
 
 own_turn : (t u : Bool) (r q : Row) (rs qs : List Row) (n : ℕ) → is_path (encode r) ≡ t → same_parts (kept (encode r)) (kept (encode q)) ≡ u → Found (suc n) 0 rs
-    → pick (same_breaks_t (as_parts r) 0 (all_parts (q ∷ qs))) (Breaks n) (differs_t (suc n) 0 (all_parts rs) (rows_behind_t 0 (all_parts (q ∷ qs)))) ≡ tried (if t then some n else if u then differs (suc n) (marks 0 rs) (without_paths qs) else some n)
-unfolding same_breaks_t rows_behind_t other_t same_next_t all_parts pick if◌then◌else◌
+    → pick (same_breaks_t (as_parts r) 0 (all_parts (q ∷ qs))) (Breaks n) (differs_t (suc n) 0 (all_parts rs) (rows_behind_t 0 (all_parts (q ∷ qs)))) ≡ tried (when t then some n else when u then differs (suc n) (marks 0 rs) (without_paths qs) else some n)
+unfolding same_breaks_t rows_behind_t other_t same_next_t all_parts pick when◌then◌else◌
 own_turn true u r q rs qs n h g f = rw (is_path_lem r, h)
 own_turn false true r q rs qs n h g f = rw (is_path_lem r, h, same_row r q, g) (rw (onward_parts qs) (f (onward qs) (onward_settled qs) ∙ rw (onward_without qs)))
 own_turn false false r q rs qs n h g f = rw (is_path_lem r, h, same_row r q, g)
 
 rest_turn : (n : ℕ) (qs : List Row) → Settled qs → rest_t n (all_parts qs) ≡ tried (differs n [] (without_paths qs))
-unfolding rest_t all_parts differs without_paths if◌then◌else◌
+unfolding rest_t all_parts differs without_paths when◌then◌else◌
 rest_turn n [] s = refl
 rest_turn n (q ∷ qs) s = rw s
 
 turn : (r : Row) (rs : List Row) (n d : ℕ) (qs : List Row) → Settled qs → Found (suc n) d rs
     → pick (same_breaks_t (as_parts r) d (all_parts qs)) (Breaks n) (differs_t (suc n) d (all_parts rs) (rows_behind_t d (all_parts qs))) ≡ tried (differs n (mark d r ∷ marks d rs) (without_paths qs))
-unfolding mark differs without_paths if◌then◌else◌
+unfolding mark differs without_paths when◌then◌else◌
 turn r rs n (suc k) qs s f = added_turn (is_path (encode r)) r rs n k qs s refl f
 turn r rs n zero [] s f = unfold all_parts in missing_turn (is_path (encode r)) r n _ refl
 turn r rs n zero (q ∷ qs) s f = rw s (own_turn (is_path (encode r)) (same_parts (kept (encode r)) (kept (encode q))) r q rs qs n refl refl f)
@@ -301,14 +301,14 @@ item_holds d h s ys e l p =
 -- the first field of a scope, and those behind it
 next_added : (d : ℕ) (i : Item) (fs : Fields) (zs : List Row) → is_inserted (head_of i) ≡ true → d ≤ 1 → marks 1 (fields_rows fs ++ (Close ∷ zs)) ≡ fields_claimed fs ++ (own Close ∷ marks 0 zs)
     → marks d (fields_rows (i ▸ fs) ++ (Close ∷ zs)) ≡ fields_claimed (i ▸ fs) ++ (own Close ∷ marks 0 zs)
-unfolding flatten scope_claimed if◌then◌else◌
+unfolding flatten scope_claimed when◌then◌else◌
 next_added d i fs zs e l p =
     rw (e, append_assoc (item_rows i) (fields_rows fs) (Close ∷ zs), append_assoc (map added (item_rows i)) (fields_claimed fs) (own Close ∷ marks 0 zs))
     (item_added_lem d i (fields_rows fs ++ (Close ∷ zs)) e l (fields_no_decl fs zs) ∙ rw p)
 
 next_own : (d : ℕ) (i : Item) (fs : Fields) (zs : List Row) → is_inserted (head_of i) ≡ false → marks d (item_rows i ++ (fields_rows fs ++ (Close ∷ zs))) ≡ item_claimed i ++ marks 0 (fields_rows fs ++ (Close ∷ zs))
     → marks 0 (fields_rows fs ++ (Close ∷ zs)) ≡ fields_claimed fs ++ (own Close ∷ marks 0 zs) → marks d (fields_rows (i ▸ fs) ++ (Close ∷ zs)) ≡ fields_claimed (i ▸ fs) ++ (own Close ∷ marks 0 zs)
-unfolding flatten scope_claimed if◌then◌else◌
+unfolding flatten scope_claimed when◌then◌else◌
 next_own d i fs zs e q p =
     rw (e, append_assoc (item_rows i) (fields_rows fs) (Close ∷ zs), append_assoc (item_claimed i) (fields_claimed fs) (own Close ∷ marks 0 zs)) (q ∙ rw p)
 

@@ -2,7 +2,7 @@
 ghost use Rattle.std.specs.Prelude.{◌≡◌, take};
 ghost use Rattle.command.specs.Status.{talk_beside};
 
-use files::parts::{front, is_dash};
+use files::path_parts::{front, is_dash};
 use words::{STDERR_FILENO, STDOUT_FILENO};
 
 // The first bytes of a buffer, this many.

@@ -1,7 +1,7 @@
 -- Two resolved forms compared: the list of what differs, and what applying the list to the left one gives.
 use Rattle.std.specs.Prelude.{Bool, ◌&&◌, List, [], ◌∷◌, ◌++◌, map, reverse, ℕ, suc, ◌+◌, ◌-◌, eqb, ltb, length, take, drop}
 use Rattle.std.proofs.Math.Option.{Option, none, some}
-use Rattle.rules.specs.Tools.{if◌then◌else◌}
+use Rattle.rules.specs.Tools.{when◌then◌else◌}
 use Rattle.rules.specs.Versions.{Setting, top_name, as_claimed}
 use Rattle.rules.specs.Rows.{bytes, Raw, raw, Index, Num, Id, Row, Field, Decl, Ref, Path, Outer, Case, Open, Close, Export, encode}
 use Rattle.rules.specs.Tree.{Scope, scope, Fields, end, ◌▸◌, Item, head_of, item_rows}
@@ -17,11 +17,11 @@ pub record Choice : Type 0 where
 
 -- a place as it counts under the choice: not at all, or as it is
 unfoldable pub blur_place : Choice → ℕ → ℕ
-blur_place c z = if c.places then 0 else z
+blur_place c z = when c.places then 0 else z
 
 -- all fresh names count as one, which is no original name
 unfoldable pub blur_name : Choice → ℕ → ℕ
-blur_name c n = if c.fresh && ltb top_name n then suc top_name else n
+blur_name c n = when c.fresh && ltb top_name n then suc top_name else n
 
 -- an operand as it counts
 unfoldable pub blur_index : Choice → Index → Index
@@ -87,7 +87,7 @@ unfoldable pub rest : (left right : List Item) → List Pair
 rest [] rs = map only_right rs
 rest (l ∷ []) [] = only_left l ∷ []
 rest (l ∷ []) (r ∷ []) =
-    if eqb (head_of l).code (head_of r).code then differs differing (item_rows l) (item_rows r) ∷ []
+    when eqb (head_of l).code (head_of r).code then differs differing (item_rows l) (item_rows r) ∷ []
     else only_left l ∷ only_right r ∷ []
 rest (l ∷ []) (r ∷ r' ∷ rs) = only_left l ∷ map only_right (r ∷ r' ∷ rs)
 rest (l ∷ l' ∷ ls) rs = map only_left (l ∷ l' ∷ ls) ++ map only_right rs
@@ -97,7 +97,7 @@ unfoldable pub front : Choice → (go : List Item → List Item → List Pair) �
 front c go [] rs = go [] rs
 front c go (l ∷ ls) [] = go (l ∷ ls) []
 front c go (l ∷ ls) (r ∷ rs) =
-    if same c (item_rows l) (item_rows r) then alike (item_rows l) (item_rows r) ∷ front c go ls rs
+    when same c (item_rows l) (item_rows r) then alike (item_rows l) (item_rows r) ∷ front c go ls rs
     else go (l ∷ ls) (r ∷ rs)
 
 -- `go` from the back: both sides are reversed, and what it makes of them is reversed again
@@ -110,7 +110,7 @@ field_pairs c = front c (mirrored (front c (mirrored rest)))
 
 -- the root's OPEN rows are a pair of their own
 unfoldable pub open_pair : Choice → (left right : List Row) → Pair
-open_pair c l r = if same c l r then alike l r else differs opening l r
+open_pair c l r = when same c l r then alike l r else differs opening l r
 
 -- all rows of two forms side by side
 unfoldable pub form_pairs : Choice → (left right : Scope) → List Pair
@@ -180,7 +180,7 @@ list_bytes (e ∷ es) = entry_bytes e ++ list_bytes es
 -- the list, if there is room for it; `room` is the length of the buffer: refusal 3, last
 unfoldable pub listed : List Setting → Choice → (left right : List ℕ) (room : ℕ) → AnswerOf (List Entry)
 listed settings c left right room =
-    compared settings c left right and_then λ es. if ltb room (length (list_bytes es)) then refused 3 0 [] else accepted es
+    compared settings c left right and_then λ es. when ltb room (length (list_bytes es)) then refused 3 0 [] else accepted es
 
 -- what the buffer for the list holds after this answer
 unfoldable pub list_after : AnswerOf (List Entry) → List ℕ → List ℕ

@@ -14,7 +14,7 @@ use mir.Syntax.{w32, w64}
 use mir.Val.{Fits}
 use Rattle.kit.specs.Pick.{pick}
 use Rattle.kit.proofs.Laws.{sets_append}
-use Rattle.rules.specs.Tools.{if◌then◌else◌, between, only, ◌or_else◌}
+use Rattle.rules.specs.Tools.{when◌then◌else◌, between, only, ◌or_else◌}
 use Rattle.rules.specs.Versions.{Version, Setting, top_name, all}
 use Rattle.rules.specs.Tree as tree
 use Rattle.rules.specs.Tree.{Scope}
@@ -309,7 +309,7 @@ module _ (version : ℕ) (one : 1 ≤ version) (two : version ≤ 2) (from : ℕ
       short = lt-ltb (length out) (v.header + 16 * row_count (setting from).version form) (omega (arith, S.counted, header_to_lem))
 
       is : converted all version form (length out) ≡ refused 3 0 []
-      is = unfold converted converted_for converted_in if◌then◌else◌ in rw (S.asks, asked_version, fits, short)
+      is = unfold converted converted_for converted_in when◌then◌else◌ in rw (S.asks, asked_version, fits, short)
 
   module _ (roomy : header + 16 * rows ≤ length out) where
     room_said : v.header + 16 * row_count (setting from).version form ≤ length out
@@ -383,7 +383,7 @@ module _ (version : ℕ) (form out : List ℕ) where
       asked_unsized a h w = rw w (says_refused _ 2 0 out is)
         where
           counts : (s : Setting) → setting_of all form ≡ some s → unsized s form ≡ true → converted all version form (length out) ≡ refused 2 0 []
-          counts s x y = unfold converted converted_for converted_in if◌then◌else◌ in rw (x, version_placed version 0 one two (omega arith), y)
+          counts s x y = unfold converted converted_for converted_in when◌then◌else◌ in rw (x, version_placed version 0 one two (omega arith), y)
 
           is : converted all version form (length out) ≡ refused 2 0 []
           is = let g = asked_count form (sym h ∙ e) in counts g.0 g.1 g.2

@@ -2,7 +2,7 @@
 -- first, in document 01's order; then those of the version asked for: 1 (its rule set), 2, 5.
 use Rattle.std.specs.Prelude.{◌&&◌, ◌||◌, not, List, [], ◌∷◌, ◌++◌, ℕ, ◌+◌, ◌*◌, eqb, ltb, length, drop}
 use Rattle.std.proofs.Math.Option.{Option, none, some}
-use Rattle.rules.specs.Tools.{if◌then◌else◌, between, only, ◌or_else◌}
+use Rattle.rules.specs.Tools.{when◌then◌else◌, between, only, ◌or_else◌}
 use Rattle.rules.specs.Versions.{Version, Setting}
 use Rattle.rules.specs.Tree.{RowsRead, bad, deep, form}
 use Rattle.rules.specs.Reader.{read}
@@ -36,7 +36,7 @@ within_scopes s t input (form tree) = accepted (recast s t input)
 unfoldable pub within_limits : (s : Setting) → Option Setting → List ℕ → AnswerOf (List ℕ)
 within_limits s none input = refused 1 0 []
 within_limits s (some t) input =
-    if ltb t.version.rows (row_count s.version input) then refused 2 0 []
+    when ltb t.version.rows (row_count s.version input) then refused 2 0 []
     else within_scopes s t input (read t.rules t.version.scopes (rows_in s input))
 
 -- refusals 4 and 5 of the form as it is
@@ -50,8 +50,8 @@ unfoldable pub converted_in : (s : Setting) → Option Setting → (header : ℕ
 converted_in s t header input room =
     let v = s.version in
     let rows = row_count v input in
-    if not (between 1 v.rows rows) || not (eqb (length input) (v.header + 16 * rows)) then refused 2 0 []
-    else if ltb room (header + 16 * rows) then refused 3 0 []
+    when not (between 1 v.rows rows) || not (eqb (length input) (v.header + 16 * rows)) then refused 2 0 []
+    else when ltb room (header + 16 * rows) then refused 3 0 []
     else if_form s t input (read s.rules v.scopes (rows_in s input))
 
 -- refusal 1 if the header is not that of any setting, or there is no version of the number asked for

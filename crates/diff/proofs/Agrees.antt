@@ -14,7 +14,7 @@ use borrow.Author.Rules.{rules}
 use borrow.Author.Tests.{ltb-false, eqb-true, leb-true}
 use Rattle.kit.specs.Pick.{pick}
 use Rattle.kit.specs.Out.{Out, ◌&◌}
-use Rattle.rules.specs.Tools.{if◌then◌else◌, between}
+use Rattle.rules.specs.Tools.{when◌then◌else◌, between}
 use Rattle.rules.specs.Versions.{Setting, all, as_claimed}
 use Rattle.rules.specs.Tree.{Scope, flatten}
 use Rattle.rules.specs.Answer.{AnswerOf, refused, accepted, map_answer, has_header, setting_of, row_count, rows_bytes, header_bytes, form_bytes}
@@ -128,12 +128,12 @@ says_refused x why list e = rw e (record { answers = refl; leaves = refl })
 
 -- with room, or without
 says_list : (list w : List ℕ) (es : List Entry) → w ≡ list_bytes es → (a : Answer) (out : List ℕ) → (a & out) ≡ pick (ltb (length list) (length w)) (refusing 3 0 & list) (Listed (length w) & sets list 0 w)
-    → Says (if ltb (length list) (length w) then refused 3 0 [] else accepted es) list a out
+    → Says (when ltb (length list) (length w) then refused 3 0 [] else accepted es) list a out
 says_list list w es p a out = go (ltb (length list) (length w)) refl
   where
-    go : (b : Bool) → ltb (length list) (length w) ≡ b → (a & out) ≡ pick b (refusing 3 0 & list) (Listed (length w) & sets list 0 w) → Says (if b then refused 3 0 [] else accepted es) list a out
-    go true h e = unfold pick if◌then◌else◌ in (let q : a ≡ refusing 3 0 = unfold answer_in in ap answer_in e in let r : out ≡ list = unfold list_in in ap list_in e in rw (q, r) (says_refused _ _ list refl))
-    go false h e = unfold pick if◌then◌else◌ meaning map_answer bytes_of list_after in (
+    go : (b : Bool) → ltb (length list) (length w) ≡ b → (a & out) ≡ pick b (refusing 3 0 & list) (Listed (length w) & sets list 0 w) → Says (when b then refused 3 0 [] else accepted es) list a out
+    go true h e = unfold pick when◌then◌else◌ in (let q : a ≡ refusing 3 0 = unfold answer_in in ap answer_in e in let r : out ≡ list = unfold list_in in ap list_in e in rw (q, r) (says_refused _ _ list refl))
+    go false h e = unfold pick when◌then◌else◌ meaning map_answer bytes_of list_after in (
         let q : a ≡ Listed (length w) = unfold answer_in in ap answer_in e in
         let r : out ≡ sets list 0 w = unfold list_in in ap list_in e in
         let z : 0 + length w ≡ length w = omega arith in
@@ -175,7 +175,7 @@ module _ (c : Choice) (i : ℕ) (left right list : List ℕ) (asks : setting_of 
         both_listed b a out q = go left_read.0 right_read.0 left_read.1 right_read.1
           where
             is_listed : (s t : Scope) → read_form (as_claimed (setting i)) left ≡ accepted s → read_form (as_claimed (setting i)) right ≡ accepted t
-                → said ≡ (if ltb (length list) (length (list_bytes (differences c s t))) then refused 3 0 [] else accepted (differences c s t))
+                → said ≡ (when ltb (length list) (length (list_bytes (differences c s t))) then refused 3 0 [] else accepted (differences c s t))
             is_listed s t p q = unfold listed compared both_read ◌and_then◌ in rw (asks, p, q)
 
             go : (s t : Scope) → read_form (as_claimed (setting i)) left ≡ accepted s → read_form (as_claimed (setting i)) right ≡ accepted t → Says said list a out
@@ -209,7 +209,7 @@ module _ (c : Choice) (left right list : List ℕ) where
     asked_unsized a h w = rw w (says_refused _ _ list (let g = claimed_count left (sym h ∙ e) in is g.0 g.1 (claimed_header g.0 left (found_in all left g.0 all_in_force g.1).has) g.2))
       where
         is : (s : Setting) → setting_of all left ≡ some s → has_header (as_claimed s) left ≡ true → unsized (as_claimed s) left ≡ true → listed all c left right (length list) ≡ refused 2 0 []
-        is s x has y = unfold listed compared both_read read_form if◌then◌else◌ ◌and_then◌ in rw (x, has, y)
+        is s x has y = unfold listed compared both_read read_form when◌then◌else◌ ◌and_then◌ in rw (x, has, y)
 
 pub asked_known : (left : List ℕ) (k : Asked) → k ≡ claimed_of left → (i rows : ℕ) → k ≡ asked.For i rows → setting_of all left ≡ some (setting i)
 asked_known left k e i rows h = (claimed_for left i rows (sym h ∙ e)).asks

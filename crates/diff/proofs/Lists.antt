@@ -11,7 +11,7 @@ use lib.ListN.{length, get_or, take, drop, length-append}
 use lib.Seq.{get_or-drop, drop-drop, take_at, drop_at}
 use borrow.Author.Tests.{lt-ltb, le-ltb, lt-leb, le-leb, eq-eqb, ne_eqb}
 use Rattle.kit.specs.Pick.{pick}
-use Rattle.rules.specs.Tools.{if◌then◌else◌}
+use Rattle.rules.specs.Tools.{when◌then◌else◌}
 use Rattle.rules.specs.Rows.{value, bytes, Raw, raw, raw_at, Row, Field, Open, Close, encode, decode_row, encode_row}
 use Rattle.rules.specs.Tree.{Scope, scope, Fields, Item, plain, holds, head_of, head_rows, flatten, fields_rows, item_rows}
 use Rattle.rules.specs.Answer.{rows_of, rows_bytes}
@@ -219,14 +219,14 @@ module _ (l r : List ℕ) (f : ℕ) where
 
   rest_list : (end other : ℕ) (xs ys more more' : List Item) → Stands l f (xs ++ more) → Stands r f (ys ++ more') → Held r f (items_rows (ys ++ more')) → end ≡ f + size xs → other ≡ f + size ys
       → rest_bytes l r f end other ≡ list_bytes (entries f f (rest xs ys))
-  unfolding rest_bytes rest pair_t is_one pick if◌then◌else◌
+  unfolding rest_bytes rest pair_t is_one pick when◌then◌else◌
   rest_list end other [] ys more more' s t k p q = rw (lone_is l f end [] more s p) (apart_list end other [] ys more more' s t k p q)
   rest_list end other (x ∷ []) [] more more' s t k p q = rw (lone_is l f end (x ∷ []) more s p, lone_is r f other [] more' t q) (apart_list end other (x ∷ []) [] more more' s t k p q)
   rest_list end other (x ∷ []) (y ∷ []) more more' s t k p q =
       rw (lone_is l f end (x ∷ []) more s p, lone_is r f other (y ∷ []) more' t q, code_there l x more s, code_there r y more' t) (go (eqb (head_of x).code (head_of y).code))
     where
       go : (b : Bool) → pick b (pair_bytes r f end other) (left_t l f end f ++ right_t r end other f)
-          ≡ list_bytes (entries f f (if b then differs differing (item_rows x) (item_rows y) ∷ [] else only_left x ∷ only_right y ∷ []))
+          ≡ list_bytes (entries f f (when b then differs differing (item_rows x) (item_rows y) ∷ [] else only_left x ∷ only_right y ∷ []))
       go true = pair_list end other x y more more' t k p q
       go false = apart_list end other (x ∷ []) (y ∷ []) more more' s t k p q
   rest_list end other (x ∷ []) (y ∷ y' ∷ ys) more more' s t k p q = rw (lone_is l f end (x ∷ []) more s p, lone_is r f other (y ∷ y' ∷ ys) more' t q) (apart_list end other (x ∷ []) (y ∷ y' ∷ ys) more more' s t k p q)
@@ -260,7 +260,7 @@ module _ (c : Choice) (l r : List ℕ) where
   -- The list of two forms whose rows these are.
   pub whole_list : (a b : Scope) → At l 0 (flatten a) → At r 0 (flatten b) → Held r 0 (flatten b) → length l / 16 ≡ length (flatten a) → length r / 16 ≡ length (flatten b)
       → list_t c l r ≡ list_bytes (differences c a b)
-  unfolding flatten differences form_pairs open_pair list_t both_bytes run.opening entries list_bytes entry_bytes kind_number if◌then◌else◌ pick
+  unfolding flatten differences form_pairs open_pair list_t both_bytes run.opening entries list_bytes entry_bytes kind_number when◌then◌else◌ pick
   whole_list (scope k n fs) (scope k' n' fs') u v h p q =
       let x = Open k n in
       let y = Open k' n' in
@@ -275,7 +275,7 @@ module _ (c : Choice) (l r : List ℕ) where
     where
       go : (b : Bool) (x y : Row) (ps : List Pair) → rest_of l r (middle_t c l r) ≡ list_bytes (entries 1 1 ps) → rows_held r 0 1 ≡ rows_bytes (y ∷ [])
           → pick b (rest_of l r (middle_t c l r)) ((entry_t 1 0 1 0 1 ++ rows_held r 0 1) ++ rest_of l r (middle_t c l r))
-          ≡ list_bytes (entries 0 0 ((if b then alike (x ∷ []) (y ∷ []) else differs opening (x ∷ []) (y ∷ [])) ∷ ps))
+          ≡ list_bytes (entries 0 0 ((when b then alike (x ∷ []) (y ∷ []) else differs opening (x ∷ []) (y ∷ [])) ∷ ps))
       go true x y ps o e = o
       go false x y ps o e =
           rw (e, o) (append_assoc (entry_t 1 0 1 0 1) (rows_bytes (y ∷ [])) (list_bytes (entries 1 1 ps)) ∙ entry_is 1 0 1 0 1 (rows_bytes (y ∷ [])) (list_bytes (entries 1 1 ps)))

@@ -2,7 +2,7 @@
 #![tactic(auto)]
 
 pub mod anonymous;
+pub mod from_text;
 pub mod given_back;
 pub mod mended;
-pub mod text;
 pub mod version;

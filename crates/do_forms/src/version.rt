@@ -6,7 +6,7 @@ use command::status::{DONE, FAILED, NO, said};
 use command::topic::{Task, say_topic};
 use convert::run::{Answer, convert};
 use files::host::{Host, arg};
-use files::parts::front;
+use files::path_parts::front;
 use files::read::Loaded;
 use files::standard::error_noted;
 use files::write::save;

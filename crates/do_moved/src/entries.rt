@@ -8,7 +8,7 @@ use row_parts::{OUTER, b_at, code_at, is_inserted, next, x_at};
 use scopes::number_of;
 use words::kinds::say_space;
 use words::names::say_export;
-use words::rows::say_declaration;
+use words::row_words::say_declaration;
 use words::{Talk, say, say_number};
 
 // More entries than a list has: what is taken from a list stays below it, so that no sum can wrap.

@@ -8,7 +8,7 @@ use command::status::{DONE, FAILED, NO, said};
 use command::topic::{Task, say_topic};
 use diff::run::{Answer, compare};
 use files::host::{Host, arg};
-use files::parts::front;
+use files::path_parts::front;
 use files::read::{Loaded, load};
 use files::standard::error_noted;
 use known::version::{is_second, say_second};

@@ -5,7 +5,7 @@ use form_bytes::word_at;
 use readings::{Meaning, final_meaning};
 use row_parts::{b_at, x_at};
 use scopes::number_of;
-use words::rows::say_declaration;
+use words::row_words::say_declaration;
 use words::{Talk, say, say_number};
 
 // More slots than a sheet has: what is taken from it stays below, so that no sum can wrap.

@@ -7,8 +7,8 @@ use borrow.Author.Rules.{rules}
 use lib.ListN.{length, get_or, drop, drop_of_length-le}
 use Rattle.kit.proofs.Laws.{yes!, no!, tests, drop_next}
 use Rattle.do_show.specs.Numbers.{with_digit, parsed_then, with_digits, number_in}
-use Rattle.do_show.specs.declared.numbers.Parsed.{Parsed}
-use Rattle.do_show.specs.declared.numbers.Parsed.TheVariants.{Number, NoNumber}
+use Rattle.do_show.specs.declared.digits.Parsed.{Parsed}
+use Rattle.do_show.specs.declared.digits.Parsed.TheVariants.{Number, NoNumber}
 
 module _ (number digit : ℕ) where
   pub digit_below : digit < 48 → NoNumber ≡ with_digit number digit

@@ -1,8 +1,8 @@
 -- The number that a text spells.
 use Rattle.std.specs.Prelude.{List, [], ◌∷◌, ℕ, ◌+◌, ◌*◌, ◌-◌, ltb}
 use Rattle.kit.specs.Pick.{pick}
-use Rattle.do_show.specs.declared.numbers.Parsed.{Parsed}
-use Rattle.do_show.specs.declared.numbers.Parsed.TheVariants.{Number, NoNumber}
+use Rattle.do_show.specs.declared.digits.Parsed.{Parsed}
+use Rattle.do_show.specs.declared.digits.Parsed.TheVariants.{Number, NoNumber}
 
 -- a number with a digit more, of those that are below 2^32
 unfoldable pub with_digit : (number digit : ℕ) → Parsed

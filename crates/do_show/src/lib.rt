@@ -2,8 +2,8 @@
 #![tactic(auto)]
 
 mod asked;
+mod digits;
 pub mod draw;
-mod numbers;
 mod told;
 
 use asked::Asked;
@@ -11,11 +11,11 @@ use command::arguments::{behind, has_words, wrong_count};
 use command::forms::part;
 use command::status::{DONE, FAILED, NO, said};
 use command::topic::{Task, say_topic};
+use digits::{Parsed, number_in};
 use files::host::{Host, arg};
 use files::read::{Loaded, load};
 use files::standard::error_noted;
 use known::file::{Known, say_refused, what_is};
-use numbers::{Parsed, number_in};
 use options::given::{Given, JSON, NAMES, Options, has, read_options};
 use options::names::load_names;
 use refusal::Refusal;

@@ -12,7 +12,7 @@ use view::references::say_reference;
 use view::show::say_content;
 use words::kinds::say_scope;
 use words::names::say_name_if_any;
-use words::rows::{say_declaration, say_place};
+use words::row_words::{say_declaration, say_place};
 use words::{Talk, say_number};
 
 // Whether a row is the FIELD of an inserted field, or its DECL.

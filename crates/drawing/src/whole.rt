@@ -10,7 +10,7 @@ use picture::lanes::{last_lane, note_lanes};
 use picture::places::{deepest, greater, lane_at, line_at, longest_line, right_of};
 use row_parts::{has_header, rows_in, rows_said};
 use words::Talk;
-use words::rows::say_header;
+use words::row_words::say_header;
 
 fn write_legend(talk: Talk<'_>) {
     begin_text(talk, b"l", 46, 36);

@@ -7,7 +7,7 @@ use Rattle.std.proofs.Math.Option.{Option, some}
 use mathlib.Core.List.{List, [], ◌∷◌, ◌++◌, append_assoc, append-nil}
 use Prim.Native.Nat.{ℕ, zero, suc}
 use Rattle.std.proofs.Math.ListN.{get_elem?}
-use Rattle.rules.specs.Tools.{if◌then◌else◌}
+use Rattle.rules.specs.Tools.{when◌then◌else◌}
 use Rattle.rules.specs.Rows.{Index, Id}
 use Rattle.rules.specs.Tree.{Declaration, Operand, ref, outer, case, Head, Scope, scope, Fields, end, ◌▸◌, Item, plain, holds, head_of, with_operands}
 use Rattle.rules.specs.Shapes.{here_only}
@@ -195,9 +195,9 @@ paths_on : (space name p : ℕ) (ps : List ℕ) (z k : ℕ) → OnInstance (inst
 unfolding path_aliases instance_space export_alias
 paths_on space name p [] z k = go (leb space 6)
   where
-    go : (b : Bool) → OnInstance (if b then 6 else 10) name ((if b then export_alias 10 space (fresh k) 6 (Id name) p z else export_alias 9 space (fresh k) 10 (Id name) p z) ∷ [])
-    go true = unfold if◌then◌else◌ in record { x = _; z = z; in_it = first; on = refl }
-    go false = unfold if◌then◌else◌ in record { x = _; z = z; in_it = first; on = refl }
+    go : (b : Bool) → OnInstance (when b then 6 else 10) name ((when b then export_alias 10 space (fresh k) 6 (Id name) p z else export_alias 9 space (fresh k) 10 (Id name) p z) ∷ [])
+    go true = unfold when◌then◌else◌ in record { x = _; z = z; in_it = first; on = refl }
+    go false = unfold when◌then◌else◌ in record { x = _; z = z; in_it = first; on = refl }
 paths_on space name p (q ∷ ps) z k = record { x = _; z = z; in_it = first; on = refl }
 
 module _ (ds : List Declaration) (outside : Outside) (space name p : ℕ) (ps : List ℕ) (z : ℕ) where
@@ -213,7 +213,7 @@ module _ (ds : List Declaration) (outside : Outside) (space name p : ℕ) (ps : 
   -- of a path in a field, the first inserted alias is on the instance that the path begins with
   pub head_on : (k : ℕ) (h : Head) (o : ℕ) → here_only h.code ≡ false → get_elem? h.operands o ≡ some (ref space (Id name) (p ∷ ps) z)
       → OkR (λ e. OnInstance (instance_space space ps) name e.inserted) (expand_head ds outside k h)
-  unfolding expand_head if◌then◌else◌
+  unfolding expand_head when◌then◌else◌
   head_on k h o c e = rw c (bind_ok _ _ _ _ (operands_on k h.operands o e) (λ es I. I))
 
 -- what step C let pass of the instance that a path begins with

@@ -7,7 +7,7 @@ use Rattle.std.proofs.Math.Bool.{true, false}
 use Rattle.std.proofs.Math.Option.{Option, none, some}
 use mathlib.Core.List.{List, [], ◌∷◌, ◌++◌, append_assoc, append-nil}
 use Rattle.std.proofs.Math.ListN.{get_elem?}
-use Rattle.rules.specs.Tools.{if◌then◌else◌}
+use Rattle.rules.specs.Tools.{when◌then◌else◌}
 use Rattle.rules.specs.Versions.{top_name}
 use Rattle.rules.specs.Rows.{Index, Num, Id}
 use Rattle.rules.specs.Tree.{Declaration, Operand, ref, outer, case, Head, Scope, scope, Fields, end, ◌▸◌, Item, plain, holds, head_of, with_operands}
@@ -48,7 +48,7 @@ late_weaker : {A : Type 0} {P Q : ℕ → Type 0} (m : steps.Result A) → ((z :
 late_weaker {P = P} {Q = Q} m g r = ref_weaker (Is not_earlier P) (Is not_earlier Q) m r (λ n z _ f e. g z (f e))
 
 timed : (Q : ℕ → Type 0) (late : Bool) (z : ℕ) → (late ≡ true → Q z) → Late13 Q (steps.in_time late z)
-unfolding steps.in_time if◌then◌else◌
+unfolding steps.in_time when◌then◌else◌
 timed Q true z f = λ e. f refl
 timed Q false z f = tt
 
@@ -116,10 +116,10 @@ head_b : (ds : List Declaration) (T : Env → Type 0) (outside : Outside) (k : �
 unfolding expand_head
 head_b ds T outside k h = go (here_only h.code) refl
   where
-    go : (b : Bool) → here_only h.code ≡ b → Late13 (Blamed ds T outside h h.operands) (if b then ok (steps.as_it_is h k) else (expand_operands ds outside k h.operands >>= λ e.
+    go : (b : Bool) → here_only h.code ≡ b → Late13 (Blamed ds T outside h h.operands) (when b then ok (steps.as_it_is h k) else (expand_operands ds outside k h.operands >>= λ e.
         ok (record { inserted = e.inserted; rows = e.rows; now = with_operands h e.now; k = e.k })))
-    go true c = unfold if◌then◌else◌ in tt
-    go false c = unfold if◌then◌else◌ in bind_ref _ _ _ (operands_b ds T outside h c k h.operands) (λ e _. tt)
+    go true c = unfold when◌then◌else◌ in tt
+    go false c = unfold when◌then◌else◌ in bind_ref _ _ _ (operands_b ds T outside h c k h.operands) (λ e _. tt)
 
 -- ---- step C, the fields that were inserted
 
@@ -161,14 +161,14 @@ module _ (here : Env) (outside : Outside) where
   unfolding path_aliases instance_space
   paths_c Q space at p [] z k f = go (leb space 6) f
     where
-      go : (b : Bool) → (steps.late_instance here outside (ref (if b then 6 else 10) at [] z ∷ []) ≡ true → Q z)
-          → Heads Q ((if b then export_alias 10 space (fresh k) 6 at p z else export_alias 9 space (fresh k) 10 at p z) ∷ [])
-      go true f = unfold if◌then◌else◌ in (alias_time Q 10 space (fresh k) 6 at p z f, alias_c Q 10 space (fresh k) 6 at p z, tt)
-      go false f = unfold if◌then◌else◌ in (alias_time Q 9 space (fresh k) 10 at p z f, alias_c Q 9 space (fresh k) 10 at p z, tt)
+      go : (b : Bool) → (steps.late_instance here outside (ref (when b then 6 else 10) at [] z ∷ []) ≡ true → Q z)
+          → Heads Q ((when b then export_alias 10 space (fresh k) 6 at p z else export_alias 9 space (fresh k) 10 at p z) ∷ [])
+      go true f = unfold when◌then◌else◌ in (alias_time Q 10 space (fresh k) 6 at p z f, alias_c Q 10 space (fresh k) 6 at p z, tt)
+      go false f = unfold when◌then◌else◌ in (alias_time Q 9 space (fresh k) 10 at p z f, alias_c Q 9 space (fresh k) 10 at p z, tt)
   paths_c Q space at p (q ∷ ps) z k f = (alias_time Q 9 10 (fresh k) 10 at p z f, alias_c Q 9 10 (fresh k) 10 at p z, paths_c Q space (Id (fresh k)) q ps z (suc k) (λ e. fresh_instance (instance_space space ps) k z e))
 
   outer_c : (Q : ℕ → Type 0) (space new d n z : ℕ) → Heads Q (outer_alias space new d n z ∷ [])
-  unfolding outer_alias steps.late_instance steps.in_time if◌then◌else◌
+  unfolding outer_alias steps.late_instance steps.in_time when◌then◌else◌
   outer_c Q space new d n z = (tt, self_ref _ _ (λ m p e. not_refused _ m p (sym (alias_resolved here outside space new d n z) ∙ e)), tt)
 
   -- what step B inserts for an operand, late because of it
@@ -205,10 +205,10 @@ module _ (here : Env) (outside : Outside) where
     unfolding expand_head steps.as_it_is
     head_c k = go (here_only h.code) refl
       where
-        go : (b : Bool) → here_only h.code ≡ b → OkR (λ e. Heads (Blamed ds T outside h h.operands) e.inserted) (if b then ok (steps.as_it_is h k) else (expand_operands ds outside k h.operands >>= λ e.
+        go : (b : Bool) → here_only h.code ≡ b → OkR (λ e. Heads (Blamed ds T outside h h.operands) e.inserted) (when b then ok (steps.as_it_is h k) else (expand_operands ds outside k h.operands >>= λ e.
             ok (record { inserted = e.inserted; rows = e.rows; now = with_operands h e.now; k = e.k })))
-        go true c = unfold if◌then◌else◌ in tt
-        go false c = unfold if◌then◌else◌ in bind_ok _ _ _ _ (operands_c c k h.operands) (λ e a. a)
+        go true c = unfold when◌then◌else◌ in tt
+        go false c = unfold when◌then◌else◌ in bind_ok _ _ _ _ (operands_c c k h.operands) (λ e a. a)
 
   -- ---- step C, the field itself
 
@@ -253,7 +253,7 @@ module _ (here : Env) (outside : Outside) where
 
       index : (at : Index) (d : ℕ) (e : Env) → steps.up_number (opened here outside) up fz ≡ ok d → steps.nth (opened here outside) d ≡ some e
           → Late13 (IndexLate (outer space up at z ∷ os)) (steps.in_time (steps.late_index outside.early e space at) z)
-      index (Num n) d e a b = unfold steps.late_index steps.in_time if◌then◌else◌ in tt
+      index (Num n) d e a b = unfold steps.late_index steps.in_time when◌then◌else◌ in tt
       index (Id name) d e a b = unfold steps.late_index in timed (IndexLate (outer space up (Id name) z ∷ os)) (outside.early && steps.comes_later (table_of e) e.before space name) z
           (λ l. record { at = 0; space = space; up = up; name = name; fz = fz; d = d; e = e; there = refl; early = and_left outside.early _ l; leads = a; table = b; late = and_right outside.early _ l })
 

@@ -6,7 +6,7 @@ use Rattle.std.proofs.Common.{sym, ◌∙◌, arith}
 use Rattle.std.proofs.Math.Option.{Option, none, some, map}
 use Prim.Native.Nat.{ℕ, suc, ◌+◌}
 use Rattle.std.proofs.Math.ListN.{get_elem?}
-use Rattle.rules.specs.Tools.{if◌then◌else◌, is_just, ◌or_else◌}
+use Rattle.rules.specs.Tools.{when◌then◌else◌, is_just, ◌or_else◌}
 use Rattle.rules.specs.Tree.{Declaration}
 use Rattle.rules.specs.Rules as steps
 use Rattle.rules.specs.Rules.{table_of, Env, find, walk, declarations}
@@ -76,10 +76,10 @@ walk_ends {way} (inside {l = l} {e = e} {ls = ls} {es = es} H Hs) c space name a
     go (find (table_of e) space name) refl w late (λ w late. walk_ends Hs (suc c) space name at w late)
   where
     go : (o : Option ℕ) → find (table_of e) space name ≡ o → map (λ n. (c, n)) o or_else walk es (suc c) space name ≡ some at
-        → (if is_just o then steps.comes_later (table_of e) e.before space name else steps.comes_later_out es space name) ≡ false
+        → (when is_just o then steps.comes_later (table_of e) e.before space name else steps.comes_later_out es space name) ≡ false
         → (walk es (suc c) space name ≡ some at → steps.comes_later_out es space name ≡ false → Ends way ls (suc c) space at) → Ends way (l ∷ ls) c space at
     go none f w late further =
-        let E = further (unfold ◌or_else◌ in w) (unfold if◌then◌else◌ in late) in
+        let E = further (unfold ◌or_else◌ in w) (unfold when◌then◌else◌ in late) in
         record { i = suc E.i; far = omega (arith, E.far); l = E.l; there = E.there; defined = E.defined }
     go (some n) f w late further =
         let is : (c, n) ≡ at = some_same (c, n) at (unfold ◌or_else◌ in w) in
@@ -90,5 +90,5 @@ walk_ends {way} (inside {l = l} {e = e} {ls = ls} {es = es} H Hs) c space name a
           far = omega (arith, count);
           l = l;
           there = refl;
-          defined = defined_before H space name at.1 (f ∙ ap {B = Option ℕ} some number) (H.before space name (before_if (table_of e) e.before space name n f (unfold if◌then◌else◌ in late)));
+          defined = defined_before H space name at.1 (f ∙ ap {B = Option ℕ} some number) (H.before space name (before_if (table_of e) e.before space name n f (unfold when◌then◌else◌ in late)));
         }

@@ -8,7 +8,7 @@ use Rattle.std.proofs.Math.Option.{Option, none, some, map}
 use mathlib.Core.List.{List, [], ◌∷◌, ◌++◌}
 use Prim.Native.Nat.{ℕ, zero, suc, ◌≤◌}
 use Rattle.std.proofs.Math.ListN.{get_elem?}
-use Rattle.rules.specs.Tools.{if◌then◌else◌, is_just, only, ◌then◌, is_in}
+use Rattle.rules.specs.Tools.{when◌then◌else◌, is_just, only, ◌then◌, is_in}
 use Rattle.rules.specs.Versions.{RuleSet, top_name}
 use Rattle.rules.specs.Rows.{Num, Id}
 use Rattle.rules.specs.Tree.{Declaration, Operand, ref, Head, Scope, scope, Fields, end, ◌▸◌, Item, head_of}
@@ -44,13 +44,13 @@ use Rattle.earlier.proofs.Descent.{Here, holds_itself, Arrived, descend}
 -- a name that the scope declares
 timely_here : (ds : List Declaration) (outside : Outside) (space name n : ℕ) → outside.early ≡ true → find ds space name ≡ some n → steps.late_name ds outside space name ≡ false
     → has outside.before.decls space name ≡ true
-unfolding steps.late_name if◌then◌else◌
+unfolding steps.late_name when◌then◌else◌
 timely_here ds outside space name n early f late = before_if ds outside.before.decls space name n f (rw (early, f) at late)
 
 -- one that it does not
 timely_out : (ds : List Declaration) (outside : Outside) (space name : ℕ) → outside.early ≡ true → find ds space name ≡ none → steps.late_name ds outside space name ≡ false
     → steps.comes_later_out outside.scopes space name ≡ false
-unfolding steps.late_name if◌then◌else◌
+unfolding steps.late_name when◌then◌else◌
 timely_out ds outside space name early f late = rw (early, f) at late
 
 -- what is first among inserted fields is declared by them
@@ -61,9 +61,9 @@ first_declared (h ∷ hs) space name =
     ap is_just (lookups.first_of_heads h hs space name) ∙ (go (has h.decls space name) (first_declared hs space name) ∙ sym (has_append h.decls (heads_decls hs) space name))
   where
     go : (b : Bool) → is_just (first_named (in_heads hs) space name) ≡ has (heads_decls hs) space name
-        → is_just (if b then some (readings.inserted h) else first_named (in_heads hs) space name) ≡ b || has (heads_decls hs) space name
-    go true e = unfold if◌then◌else◌ in refl
-    go false e = unfold if◌then◌else◌ in e
+        → is_just (when b then some (readings.inserted h) else first_named (in_heads hs) space name) ≡ b || has (heads_decls hs) space name
+    go true e = unfold when◌then◌else◌ in refl
+    go false e = unfold when◌then◌else◌ in e
 
 found_number : (o : Option ℕ) → is_just o ≡ true → (n : ℕ) × (o ≡ some n)
 found_number none e = false_not e
@@ -82,7 +82,7 @@ four_aliasable space e =
 -- what it denotes, by the explainer's reading
 explained_is : (ls : List Level) (space new count index z : ℕ) (l : Level) → is_in space FOUR ≡ true → get_elem? ls count ≡ some l
     → explained (record { around = ls; head = steps.outer_alias space new count index z }) ≡ get_elem? (explainer.index_space l.way space 0 l.fields) index
-unfolding explained explainer.outer_denotes explainer.denotes steps.outer_alias if◌then◌else◌ ◌then◌
+unfolding explained explainer.outer_denotes explainer.denotes steps.outer_alias when◌then◌else◌ ◌then◌
 explained_is ls space new count index z l four e = rw (four_aliasable space four, e)
 
 -- the definition that is denoted stands before what these steps go through
@@ -220,9 +220,9 @@ numbered_original (i₀ ▸ fs) zero m i e g = go (is_inserted (head_of i₀)) r
     go false q e s = ap (λ (x : Item). is_inserted (head_of x)) (sym s) ∙ q
 numbered_original (i₀ ▸ fs) (suc n) m i e g = go (is_inserted (head_of i₀)) e (λ m e. numbered_original fs n m i e g)
   where
-    go : (b : Bool) → (if b then renumbered fs n else map suc (renumbered fs n)) ≡ some m → ((m : ℕ) → renumbered fs n ≡ some m → is_inserted (head_of i) ≡ false) → is_inserted (head_of i) ≡ false
-    go true e f = f m (unfold if◌then◌else◌ in e)
-    go false e f = inner (renumbered fs n) (unfold if◌then◌else◌ in e) f
+    go : (b : Bool) → (when b then renumbered fs n else map suc (renumbered fs n)) ≡ some m → ((m : ℕ) → renumbered fs n ≡ some m → is_inserted (head_of i) ≡ false) → is_inserted (head_of i) ≡ false
+    go true e f = f m (unfold when◌then◌else◌ in e)
+    go false e f = inner (renumbered fs n) (unfold when◌then◌else◌ in e) f
       where
         inner : (o : Option ℕ) → map suc o ≡ some m → ((m : ℕ) → o ≡ some m → is_inserted (head_of i) ≡ false) → is_inserted (head_of i) ≡ false
         inner none e f = no_option m e

@@ -4,7 +4,7 @@ use Rattle.std.proofs.Math.Path.{ap, sym}
 use Rattle.std.proofs.Common.{◌∙◌, subst, append_assoc}
 use Rattle.std.proofs.Math.Option.{Option, none, some}
 use Rattle.std.proofs.Math.ListN.{get_elem?}
-use Rattle.rules.specs.Tools.{if◌then◌else◌, is_just, ◌then◌}
+use Rattle.rules.specs.Tools.{when◌then◌else◌, is_just, ◌then◌}
 use Rattle.rules.specs.Versions.{top_name}
 use Rattle.rules.specs.Rows.{Index, Num, Id}
 use Rattle.rules.specs.Tree.{Declaration, Scope, scope, Fields, holds}
@@ -108,8 +108,8 @@ one_of (inside T Ts) (suc d) e q = one_of Ts d e q
 
 -- ---- late in one table
 
-later_one : (a b : Bool) → (if a then a && not b else false) ≡ a && not b
-unfolding if◌then◌else◌
+later_one : (a b : Bool) → (when a then a && not b else false) ≡ a && not b
+unfolding when◌then◌else◌
 later_one true b = refl
 later_one false b = refl
 

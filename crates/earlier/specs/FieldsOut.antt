@@ -5,7 +5,7 @@ use Rattle.std.proofs.Common.{sym, ◌∙◌, subst}
 use Rattle.std.proofs.Math.Option.{some}
 use mathlib.Core.List.{List, [], ◌∷◌, ◌++◌, append_assoc}
 use Rattle.std.proofs.Math.ListN.{get_elem?}
-use Rattle.rules.specs.Tools.{if◌then◌else◌, only}
+use Rattle.rules.specs.Tools.{when◌then◌else◌, only}
 use Rattle.rules.specs.Tree.{Declaration, Head, Fields, end, ◌▸◌, Item, plain, head_of}
 use Rattle.rules.specs.Rules.{Before, ok, Env, Outside, onward, Expanded, expand_head, heads_decls, ◌before◌, resolve_head, resolve_inserted, resolve_item, resolve_fields}
 use Rattle.rules.specs.Readings.{is_inserted, originals}
@@ -56,7 +56,7 @@ firsts_behind [] m fs = refl
 firsts_behind (h ∷ hs) m fs = ap (λ (ds : List Declaration). h.decls ++ ds) (firsts_behind hs m fs) ∙ sym (append_assoc h.decls (heads_decls hs) (firsts m fs))
 
 renumbered_behind : (lo hi : ℕ) (hs : List Head) (m : ℕ) (fs : Fields) → AllNew lo hi hs → renumbered (◌before◌ hs fs) (past hs m) ≡ renumbered fs m
-unfolding renumbered ◌before◌ if◌then◌else◌
+unfolding renumbered ◌before◌ when◌then◌else◌
 renumbered_behind lo hi [] m fs a = refl
 renumbered_behind lo hi (h ∷ hs) m fs a =
     let new : is_inserted (head_of (plain h)) ≡ true = unfold head_of in lookups.new_inserted lo hi h a.0 in
@@ -155,7 +155,7 @@ module _ {i : Item} {fs : Fields} {ds : List Declaration} {here : Env} {outside 
   number_zero = rw (readings.stays_original R low.0.decls)
 
   number_suc : (m f : ℕ) → renumbered R.rs.0 m ≡ some f → renumbered (R.q.0 ▸ R.rs.0) (suc m) ≡ some (suc f)
-  unfolding renumbered if◌then◌else◌
+  unfolding renumbered when◌then◌else◌
   number_suc m f e = rw (readings.stays_original R low.0.decls, e)
 
   itself_kept : (j : ℕ) (i' : Item) → i' ≡ R.q.0 → j ≡ past R.new 0 → Comes 0 R.new R.q.0 R.h r.0 j i'

@@ -7,7 +7,7 @@ use Rattle.std.proofs.Math.Option.{Option, none, some, map}
 use mathlib.Core.List.{List, [], ◌∷◌, ◌++◌}
 use Prim.Native.Nat.{ℕ, zero, suc, ◌+◌, ◌<◌}
 use Rattle.std.proofs.Math.ListN.{get_elem?}
-use Rattle.rules.specs.Tools.{if◌then◌else◌}
+use Rattle.rules.specs.Tools.{when◌then◌else◌}
 use Rattle.rules.specs.Tree.{Declaration, Fields, end, ◌▸◌, head_of}
 use Rattle.rules.specs.Rules.{find, declarations}
 use Rattle.rules.specs.Explainer.{Definition, definitions, index_space}
@@ -34,13 +34,13 @@ module _ (way : List ℕ) (space name bound : ℕ) where
   in_field_lem j at (d ∷ ds) rest behind later n low e h g =
       go (eqb d.space space) (eqb d.name name) e h (λ m e h. in_field_lem j (suc at) ds rest behind later m low e h g)
     where
-      go : (a b : Bool) → (if a then if b then some 0 else map suc (find (ds ++ rest) space name) else find (ds ++ rest) space name) ≡ some n
+      go : (a b : Bool) → (when a then when b then some 0 else map suc (find (ds ++ rest) space name) else find (ds ++ rest) space name) ≡ some n
           → ((a && b) || has ds space name) || later ≡ true
           → ((m : ℕ) → find (ds ++ rest) space name ≡ some m → has ds space name || later ≡ true → EntryBelow way bound (definitions way space j (suc at) ds ++ behind) m)
-          → EntryBelow way bound ((if a then record { way = way; field = j; at = at } ∷ definitions way space j (suc at) ds else definitions way space j (suc at) ds) ++ behind) n
-      go true true e h f = unfold if◌then◌else◌ in (let zero_is : 0 ≡ n = some_same 0 n (unfold if◌then◌else◌ in e) in rw (← zero_is) (record { way = way; field = j; at = at }, refl, refl, low))
-      go true false e h f = unfold if◌then◌else◌ in (let M = mapped (find (ds ++ rest) space name) n (unfold if◌then◌else◌ in e) in let r = f M.0 M.1 h in rw (← M.2) r)
-      go false b e h f = unfold if◌then◌else◌ in f n (unfold if◌then◌else◌ in e) h
+          → EntryBelow way bound ((when a then record { way = way; field = j; at = at } ∷ definitions way space j (suc at) ds else definitions way space j (suc at) ds) ++ behind) n
+      go true true e h f = unfold when◌then◌else◌ in (let zero_is : 0 ≡ n = some_same 0 n (unfold when◌then◌else◌ in e) in rw (← zero_is) (record { way = way; field = j; at = at }, refl, refl, low))
+      go true false e h f = unfold when◌then◌else◌ in (let M = mapped (find (ds ++ rest) space name) n (unfold when◌then◌else◌ in e) in let r = f M.0 M.1 h in rw (← M.2) r)
+      go false b e h f = unfold when◌then◌else◌ in f n (unfold when◌then◌else◌ in e) h
 
 -- `j` fields stand before these, and the name is declared in the first `m` of them
 pub entry_below : (way : List ℕ) (space name j m : ℕ) (fs : Fields) (n : ℕ) → find (declarations fs) space name ≡ some n → has (firsts m fs) space name ≡ true

@@ -4,7 +4,7 @@
 use Rattle.std.specs.Prelude.{not, List, [], ◌∷◌, ℕ, suc, eqb, leb, take}
 use Rattle.std.proofs.Math.Option.{Option, none, some, map}
 use Rattle.std.proofs.Math.ListN.{get_elem?}
-use Rattle.rules.specs.Tools.{if◌then◌else◌, only, ◌then◌}
+use Rattle.rules.specs.Tools.{when◌then◌else◌, only, ◌then◌}
 use Rattle.rules.specs.Rows.{Index, Num, Id}
 use Rattle.rules.specs.Tree.{Operand, ref, outer, case, Head, Scope, scope, Item, plain, holds}
 use Rattle.rules.specs.Shapes.{here_only}
@@ -12,7 +12,7 @@ use Rattle.rules.specs.Readings.{originals, Place, Level, use_inside, outward}
 
 -- the space of the instance that a path begins with: `more` are its exports behind the first
 unfoldable pub instance_space : (space : ℕ) (more : List ℕ) → ℕ
-instance_space space [] = if leb space 6 then 6 else 10
+instance_space space [] = when leb space 6 then 6 else 10
 instance_space space (p ∷ more) = 10
 
 -- ---- how far out an OUTER goes
@@ -32,7 +32,7 @@ names_around (n ∷ way) (scope kind name fs) outside =
 -- how far out the nearest scope of that name is
 unfoldable pub nearest : List ℕ → (name : ℕ) → Option ℕ
 nearest [] name = none
-nearest (n ∷ ns) name = if eqb n name then some 0 else map suc (nearest ns name)
+nearest (n ∷ ns) name = when eqb n name then some 0 else map suc (nearest ns name)
 
 -- how far out an OUTER goes: as far as its number says, or to the nearest scope of its name
 unfoldable pub upward : List ℕ → Index → Option ℕ

@@ -8,7 +8,7 @@ use borrow.Author.Rules.{rules}
 use lib.Dec.{leb}
 use lib.ListN.{length, set, drop}
 use Rattle.kit.proofs.Laws.{tests}
-use Rattle.rules.specs.Tools.{if◌then◌else◌}
+use Rattle.rules.specs.Tools.{when◌then◌else◌}
 use Rattle.rules.specs.Versions.{base}
 use Rattle.rules.specs.Answer.{answer, output}
 use Rattle.refusal.specs.declared.Refusal.{Refusal}
@@ -24,11 +24,11 @@ use Rattle.ferhevok.specs.Telling.{answer_told, output_told, told_after}
 
 module _ (t : Told) (old : List ℕ) where
   pub told_not : length old < 2 → old ≡ told_after t old
-  unfolding told_after if◌then◌else◌
+  unfolding told_after when◌then◌else◌
   told_not h = let e : leb 2 (length old) ≡ false = omega tests in rw e
 
 pub told_put : (old : List ℕ) (space first : ℕ) → 2 ≤ length old → set (set old 0 space) 1 first ≡ told_after (tells space first) old
-unfolding told_after if◌then◌else◌
+unfolding told_after when◌then◌else◌
 told_put [] space first h = absurd (omega arith)
 told_put (a ∷ []) space first h = absurd (omega arith)
 told_put (a ∷ b ∷ old) space first h = let e : leb 2 (length (a ∷ b ∷ old)) ≡ true = omega tests in rw e
@@ -51,11 +51,11 @@ module _ (form out told : List ℕ) (a : Answer) (r : ℕ) (said : r ≡ packed 
     none = omega tests
 
     pub short_answer : r ≡ packed (ruled (answer_told form (length out) (length told))).plain
-    unfolding answer_told if◌then◌else◌
+    unfolding answer_told when◌then◌else◌
     short_answer = rw none (rw q at said)
 
     pub short_told : (new : List ℕ) → new ≡ told_after (meaning a).told told → new ≡ told_after (ruled (answer_told form (length out) (length told))).told told
-    unfolding answer_told if◌then◌else◌
+    unfolding answer_told when◌then◌else◌
     short_told new h = rw none (rw q at h)
 
   module _ (long : 2 ≤ length told) (q : meaning a ≡ ruled (answer base form (length out))) where
@@ -63,19 +63,19 @@ module _ (form out told : List ℕ) (a : Answer) (r : ℕ) (said : r ≡ packed 
     both = omega tests
 
     pub long_answer : r ≡ packed (ruled (answer_told form (length out) (length told))).plain
-    unfolding answer_told if◌then◌else◌
+    unfolding answer_told when◌then◌else◌
     long_answer = rw both (rw q at said)
 
     pub long_told : (new : List ℕ) → new ≡ told_after (meaning a).told told → new ≡ told_after (ruled (answer_told form (length out) (length told))).told told
-    unfolding answer_told if◌then◌else◌
+    unfolding answer_told when◌then◌else◌
     long_told new h = rw both (rw q at h)
 
 pub short_output : (form out told : List ℕ) → length told < 2 → out ≡ output_told form out (length told)
-unfolding output_told if◌then◌else◌
+unfolding output_told when◌then◌else◌
 short_output form out told h = let e : leb 2 (length told) ≡ false = omega tests in rw e
 
 pub long_output : (form out new told : List ℕ) → 2 ≤ length told → new ≡ output base form out → new ≡ output_told form out (length told)
-unfolding output_told if◌then◌else◌
+unfolding output_told when◌then◌else◌
 long_output form out new told h q = let e : leb 2 (length told) ≡ true = omega tests in rw e q
 
 pub ruleset tell_ways = (told_not, told_put, tells_accepted, tells_refused, rules)

@@ -5,7 +5,7 @@ pub mod errors;
 pub mod host;
 mod links;
 mod mode;
-pub mod parts;
+pub mod path_parts;
 pub mod read;
 pub mod standard;
 mod temporary;

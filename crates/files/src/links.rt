@@ -4,7 +4,7 @@ ghost use Rattle.files.specs.Paths.{folder_of, start_of};
 
 use crate::errors::text_of;
 use crate::host::Host;
-use crate::parts::{copy, front};
+use crate::path_parts::{copy, front};
 use std::fs;
 use std::io::Error;
 

@@ -3,7 +3,7 @@ ghost use Rattle.files.specs.Loaded.{Fits};
 
 use crate::errors::{say_failure, say_wrong, text_of};
 use crate::host::Host;
-use crate::parts::is_dash;
+use crate::path_parts::is_dash;
 use std::fs::File;
 use std::io::Read;
 use std::os::fd::AsRawFd;

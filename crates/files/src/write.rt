@@ -3,7 +3,7 @@ use crate::errors::{say_failure, say_wrong, text_of};
 use crate::host::Host;
 use crate::links::{Target, follow};
 use crate::mode::{is_regular, mode_of, rights};
-use crate::parts::{copy, front, is_dash};
+use crate::path_parts::{copy, front, is_dash};
 use crate::temporary::create_temp;
 use std::fs;
 use std::fs::{File, OpenOptions, Permissions};

@@ -12,7 +12,7 @@ use borrow.Author.Rules.{rules}
 use borrow.Author.Tests.{not-true, not-false}
 use Rattle.kit.specs.Pick.{pick}
 use Rattle.kit.proofs.Laws.{tests, yes!, no! }
-use Rattle.rules.specs.Tools.{if◌then◌else◌, only, zeros, ◌or_else◌}
+use Rattle.rules.specs.Tools.{when◌then◌else◌, only, zeros, ◌or_else◌}
 use Rattle.rules.specs.Rows.{value, bytes}
 use Rattle.rules.specs.Versions.{Setting}
 use Rattle.rules.specs.Answer.{mark, same_numbers, has_header, setting_of, row_count}
@@ -170,11 +170,11 @@ module _ (lim : Limits) (l : List ℕ) (m : Bool) (is : m ≡ has_header (settin
       counted = count_right lim l ∙ sym got
 
       pub no_rows_lem : n ≡ 0 → Count ≡ header_to lim l
-      unfolding header_in if◌then◌else◌
+      unfolding header_in when◌then◌else◌
       no_rows_lem h = sym (sym headed ∙ rw (counted, h))
 
       pub many_rows : lim.rows < n → Count ≡ header_to lim l
-      unfolding header_in if◌then◌else◌
+      unfolding header_in when◌then◌else◌
       many_rows h =
           let t : leb 1 n ≡ true = omega tests in
           let u : leb n (setting_in lim).version.rows ≡ false = unfold setting_in in omega tests in
@@ -189,13 +189,13 @@ module _ (lim : Limits) (l : List ℕ) (m : Bool) (is : m ≡ has_header (settin
             rw (t, u) refl
 
         pub other_length : (length l ≡ b + 16 * n → ⊥) → Count ≡ header_to lim l
-        unfolding header_in if◌then◌else◌
+        unfolding header_in when◌then◌else◌
         other_length h =
             let v : eqb (length l) ((setting_in lim).version.header + 16 * n) ≡ false = unfold setting_in in rw (← bs) (omega tests) in
             sym (sym headed ∙ rw (counted, within, v))
 
         pub right_length : length l ≡ b + 16 * n → Rows n ≡ header_to lim l
-        unfolding header_in if◌then◌else◌
+        unfolding header_in when◌then◌else◌
         right_length h =
             let v : eqb (length l) ((setting_in lim).version.header + 16 * n) ≡ true = unfold setting_in in rw (← bs) (omega tests) in
             sym (sym headed ∙ rw (counted, within, v))

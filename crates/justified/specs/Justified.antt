@@ -5,7 +5,7 @@ use Rattle.std.proofs.Math.Path.{refl, ap}
 use Rattle.std.proofs.Common.{sym, ap₂, ◌∙◌, subst, arith}
 use Rattle.std.proofs.Math.Option.{Option, none, some}
 use mathlib.Core.List.{List, [], ◌∷◌, ◌++◌}
-use Rattle.rules.specs.Tools.{if◌then◌else◌, is_just, is_in, ◌or_else◌}
+use Rattle.rules.specs.Tools.{when◌then◌else◌, is_just, is_in, ◌or_else◌}
 use Rattle.rules.specs.Versions.{Setting, as_claimed}
 use Rattle.rules.specs.Rows.{Row, encode}
 use Rattle.rules.specs.Tree.{Declaration, Operand, Head, Scope, scope, Fields, end, ◌▸◌, Item, plain, holds, head_of, head_rows, item_rows, flatten}
@@ -27,7 +27,7 @@ pub data Trial : Type 0 where
 
 unfoldable pub first_failing : List Trial → Option ℕ
 first_failing [] = none
-first_failing (trial row passes ∷ ts) = if passes then first_failing ts else some row
+first_failing (trial row passes ∷ ts) = when passes then first_failing ts else some row
 
 abbrev pub Passes : Trial → Type 0
 Passes (trial row passes) = passes ≡ true
@@ -40,7 +40,7 @@ pub record First (ts : List Trial) (row : ℕ) : Type 0 where
   pub pass : All Passes before
 
 pub first_is : (ts : List Trial) (row : ℕ) → first_failing ts ≡ some row → First ts row
-unfolding first_failing if◌then◌else◌
+unfolding first_failing when◌then◌else◌
 first_is [] row e = no_option row e
 first_is (trial n true ∷ ts) row e =
     let F = first_is ts row e in
@@ -48,15 +48,15 @@ first_is (trial n true ∷ ts) row e =
 first_is (trial n false ∷ ts) row e =
     record { before = []; after = ts; are = ap (λ (m : ℕ). trial m false ∷ ts) (some_same n row e); pass = done }
 
-if_or_else : (b : Bool) (a o : Option ℕ) (n : ℕ) → ((if b then a else some n) or_else o) ≡ (if b then (a or_else o) else some n)
-unfolding if◌then◌else◌ ◌or_else◌
+if_or_else : (b : Bool) (a o : Option ℕ) (n : ℕ) → ((when b then a else some n) or_else o) ≡ (when b then (a or_else o) else some n)
+unfolding when◌then◌else◌ ◌or_else◌
 if_or_else true a o n = refl
 if_or_else false a o n = refl
 
 first_append : (xs ys : List Trial) → first_failing (xs ++ ys) ≡ (first_failing xs or_else first_failing ys)
 unfolding first_failing ◌or_else◌
 first_append [] ys = refl
-first_append (trial n b ∷ xs) ys = ap (λ (o : Option ℕ). if b then o else some n) (first_append xs ys) ∙ sym (if_or_else b (first_failing xs) (first_failing ys) n)
+first_append (trial n b ∷ xs) ys = ap (λ (o : Option ℕ). when b then o else some n) (first_append xs ys) ∙ sym (if_or_else b (first_failing xs) (first_failing ys) n)
 
 no_trials : none ≡ first_failing []
 unfolding first_failing
@@ -66,25 +66,25 @@ no_trials = refl
 both_first : (a b : Option ℕ) (xs ys : List Trial) → a ≡ first_failing xs → b ≡ first_failing ys → (a or_else b) ≡ first_failing (xs ++ ys)
 both_first a b xs ys e f = rw (e, f) (sym (first_append xs ys))
 
-if_first : (b : Bool) (a : Option ℕ) (xs : List Trial) → a ≡ first_failing xs → (if b then a else none) ≡ first_failing (if b then xs else [])
-unfolding if◌then◌else◌ first_failing
+if_first : (b : Bool) (a : Option ℕ) (xs : List Trial) → a ≡ first_failing xs → (when b then a else none) ≡ first_failing (when b then xs else [])
+unfolding when◌then◌else◌ first_failing
 if_first true a xs e = e
 if_first false a xs e = refl
 
-if_not : (b : Bool) (a o : Option ℕ) → (if b then a else o) ≡ (if not b then o else a)
-unfolding if◌then◌else◌
+if_not : (b : Bool) (a o : Option ℕ) → (when b then a else o) ≡ (when not b then o else a)
+unfolding when◌then◌else◌
 if_not true a o = refl
 if_not false a o = refl
 
 -- ---- condition 2: the claimed rows before it are, without the added ones, the first of the input
 
-if_known : (b : Bool) (n r : ℕ) (o : Option ℕ) (X : Type 0) → (if b then some n else o) ≡ some r → (n ≡ r → X) → (b ≡ false → o ≡ some r → X) → X
-unfolding if◌then◌else◌
+if_known : (b : Bool) (n r : ℕ) (o : Option ℕ) (X : Type 0) → (when b then some n else o) ≡ some r → (n ≡ r → X) → (b ≡ false → o ≡ some r → X) → X
+unfolding when◌then◌else◌
 if_known true n r o X e f g = f (some_same n r e)
 if_known false n r o X e f g = g refl e
 
-if_known' : (b : Bool) (n r : ℕ) (o : Option ℕ) (X : Type 0) → (if b then o else some n) ≡ some r → (n ≡ r → X) → (b ≡ true → o ≡ some r → X) → X
-unfolding if◌then◌else◌
+if_known' : (b : Bool) (n r : ℕ) (o : Option ℕ) (X : Type 0) → (when b then o else some n) ≡ some r → (n ≡ r → X) → (b ≡ true → o ≡ some r → X) → X
+unfolding when◌then◌else◌
 if_known' true n r o X e f g = g refl e
 if_known' false n r o X e f g = f (some_same n r e)
 
@@ -99,11 +99,11 @@ unfolding differs
 alike_none n cs rs r e = record { claimed = 0; inputs = 0; row = omega (arith, e); same = refl }
 
 alike_added : (n : ℕ) (c : Row) (cs : List Claimed) (rs : List Row) (r : ℕ) → is_path (encode c) ≡ false → Alike (suc n) cs rs r → Alike n (added c ∷ cs) rs r
-unfolding differs if◌then◌else◌
+unfolding differs when◌then◌else◌
 alike_added n c cs rs r p a = record { claimed = suc a.claimed; inputs = a.inputs; row = omega (arith, a.row); same = rw p a.same }
 
 alike_own : (n : ℕ) (c x : Row) (cs : List Claimed) (rs : List Row) (r : ℕ) → is_path (encode c) ≡ false → same_parts (kept (encode c)) (kept (encode x)) ≡ true → Alike (suc n) cs rs r → Alike n (own c ∷ cs) (x ∷ rs) r
-unfolding differs if◌then◌else◌
+unfolding differs when◌then◌else◌
 alike_own n c x cs rs r p q a = record { claimed = suc a.claimed; inputs = suc a.inputs; row = omega (arith, a.row); same = rw (p, q) a.same }
 
 alike : (n : ℕ) (cs : List Claimed) (rs : List Row) (r : ℕ) → differs n cs rs ≡ some r → Alike n cs rs r
@@ -152,7 +152,7 @@ unfoldable mutual
   pub fields_trials : (n : ℕ) (before : List Declaration) → Fields → List Trial
   fields_trials n before end = []
   fields_trials n before (i ▸ fs) =
-      (if is_inserted (head_of i) then alias_trials n before (head_of i) else [])
+      (when is_inserted (head_of i) then alias_trials n before (head_of i) else [])
       ++ (item_trials (n + length (head_rows (head_of i))) i ++ fields_trials (n + length (item_rows i)) (before ++ (head_of i).decls) fs)
 
   pub item_trials : (n : ℕ) → Item → List Trial
@@ -164,17 +164,17 @@ unfolding not_new decl_trials first_failing
 decls_first n before [] = refl
 decls_first n before (d ∷ ds) =
     if_not (is_just (find before d.space d.name)) (some n) (not_new (suc n) (before ++ (d ∷ [])) ds)
-    ∙ ap (λ (o : Option ℕ). if not (is_just (find before d.space d.name)) then o else some n) (decls_first (suc n) (before ++ (d ∷ [])) ds)
+    ∙ ap (λ (o : Option ℕ). when not (is_just (find before d.space d.name)) then o else some n) (decls_first (suc n) (before ++ (d ∷ [])) ds)
 
 operands_first : (n : ℕ) (os : List Operand) → not_number n os ≡ first_failing (operand_trials n os)
 unfolding not_number operand_trials first_failing
 operands_first n [] = refl
-operands_first n (o ∷ os) = ap (λ (x : Option ℕ). if has_numbers o then x else some n) (operands_first (suc n) os)
+operands_first n (o ∷ os) = ap (λ (x : Option ℕ). when has_numbers o then x else some n) (operands_first (suc n) os)
 
 alias_first : (n : ℕ) (before : List Declaration) (h : Head) → no_alias n before h ≡ first_failing (alias_trials n before h)
 unfolding no_alias alias_trials first_failing
 alias_first n before h =
-    ap (λ (o : Option ℕ). if is_in h.code (9 ∷ 10 ∷ 11 ∷ []) then o else some n)
+    ap (λ (o : Option ℕ). when is_in h.code (9 ∷ 10 ∷ 11 ∷ []) then o else some n)
     (both_first (not_new (suc n) before h.decls) (not_number (suc n + length h.decls) h.operands) (decl_trials (suc n) before h.decls) (operand_trials (suc n + length h.decls) h.operands)
     (decls_first (suc n) before h.decls) (operands_first (suc n + length h.decls) h.operands))
 
@@ -212,7 +212,7 @@ unfoldable mutual
   fields_tried n end here outside was = []
   fields_tried n (i ▸ now) here outside end = []
   fields_tried n (i ▸ now) here outside (w ▸ was) =
-      if is_inserted (head_of i) then fields_tried (n + length (item_rows i)) now here outside (w ▸ was)
+      when is_inserted (head_of i) then fields_tried (n + length (item_rows i)) now here outside (w ▸ was)
       else (item_tried n i here outside w ++ fields_tried (n + length (item_rows i)) now here outside was)
 
   pub item_tried : (n : ℕ) (now : Item) (here : Scope) (outside : List Env) (was : Item) → List Trial
@@ -225,14 +225,14 @@ right_first : (here : Scope) (outside : List Env) (n : ℕ) (now was : List Oper
 unfolding not_right right_trials first_failing
 right_first here outside n [] was = refl
 right_first here outside n (o ∷ now) [] = refl
-right_first here outside n (o ∷ now) (w ∷ was) = ap (λ (x : Option ℕ). if operand_right here outside w o then x else some n) (right_first here outside (suc n) now was)
+right_first here outside n (o ∷ now) (w ∷ was) = ap (λ (x : Option ℕ). when operand_right here outside w o then x else some n) (right_first here outside (suc n) now was)
 
 head_first : (here : Scope) (outside : List Env) (n : ℕ) (now was : Head) → head_operands here outside n now was ≡ first_failing (head_tried here outside n now was)
 unfolding head_operands head_tried
 head_first here outside n now was = right_first here outside (suc n + length now.decls) now.operands was.operands
 
-either_first : (b : Bool) (a o : Option ℕ) (xs ys : List Trial) → a ≡ first_failing xs → o ≡ first_failing ys → (if b then a else o) ≡ first_failing (if b then xs else ys)
-unfolding if◌then◌else◌
+either_first : (b : Bool) (a o : Option ℕ) (xs ys : List Trial) → a ≡ first_failing xs → o ≡ first_failing ys → (when b then a else o) ≡ first_failing (when b then xs else ys)
+unfolding when◌then◌else◌
 either_first true a o xs ys e f = e
 either_first false a o xs ys e f = f
 

@@ -5,7 +5,7 @@ use mathlib.Core.Option.{Option, none, some}
 use mathlib.Core.List.{List, [], ◌∷◌}
 use native.Mathlib.Omega.{arith}
 use Prim.Native.Nat.{ℕ, zero, suc, ◌≤◌}
-use Rattle.rules.specs.Tools.{if◌then◌else◌, only, ◌or_else◌}
+use Rattle.rules.specs.Tools.{when◌then◌else◌, only, ◌or_else◌}
 use Rattle.rules.specs.Versions.{Setting, all}
 use Rattle.rules.specs.Answer.{has_header, setting_of}
 use Rattle.rules.specs.Laws.Results.{some_same, no_option}
@@ -16,11 +16,11 @@ use Rattle.resolver_with.specs.Asked.{first, asked_in, asked}
 use Rattle.resolver_with.proofs.Asked.{setting_asked}
 
 first_in_lem : (ss : List Setting) (input : List ℕ) → (setting_of ss input or_else some first) ≡ some (asked_in ss input)
-unfolding setting_of asked_in only ◌or_else◌ if◌then◌else◌
+unfolding setting_of asked_in only ◌or_else◌ when◌then◌else◌
 first_in_lem [] input = refl
 first_in_lem (s ∷ ss) input = go (has_header s input) (first_in_lem ss input)
   where
-    go : (b : Bool) → (setting_of ss input or_else some first) ≡ some (asked_in ss input) → ((only b s or_else setting_of ss input) or_else some first) ≡ some (if b then s else asked_in ss input)
+    go : (b : Bool) → (setting_of ss input or_else some first) ≡ some (asked_in ss input) → ((only b s or_else setting_of ss input) or_else some first) ≡ some (when b then s else asked_in ss input)
     go true later = refl
     go false later = later
 

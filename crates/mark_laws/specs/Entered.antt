@@ -10,7 +10,7 @@ use Rattle.std.proofs.Math.Dec.{eqb}
 use Rattle.std.proofs.Math.ListN.{length, length-append}
 use Rattle.kit.specs.Pick.{pick}
 use Rattle.kit.specs.Out.{Out, ◌&◌}
-use Rattle.rules.specs.Tools.{if◌then◌else◌, is_just}
+use Rattle.rules.specs.Tools.{when◌then◌else◌, is_just}
 use Rattle.rules.specs.Rows.{Row, Field, Decl, Ref, Path, Outer, Case, Open, Close, Export, encode}
 use Rattle.rules.specs.Tree.{Declaration, Operand, ref, outer, case, Head, Scope, scope, Fields, end, ◌▸◌, Item, plain, holds, head_of, decl_rows, path_rows, operand_row, operand_rows, export_rows, item_rows}
 use Rattle.rules.specs.Rules.{find, declarations}
@@ -109,10 +109,10 @@ just_map none = refl
 just_map (some n) = refl
 
 find_snoc : (ds : List Declaration) (d : Declaration) (space name : ℕ) → is_just (find (ds ++ (d ∷ [])) space name) ≡ (is_just (find ds space name) || (eqb d.space space && eqb d.name name))
-unfolding find if◌then◌else◌
+unfolding find when◌then◌else◌
 find_snoc [] d space name = go (eqb d.space space) (eqb d.name name)
   where
-    go : (t u : Bool) → is_just (if t then if u then some 0 else map suc none else none) ≡ (false || (t && u))
+    go : (t u : Bool) → is_just (when t then when u then some 0 else map suc none else none) ≡ (false || (t && u))
     go true true = refl
     go true false = refl
     go false u = refl
@@ -122,8 +122,8 @@ find_snoc (c ∷ ds) d space name = go (eqb c.space space) (eqb c.name name) (fi
     T = eqb d.space space && eqb d.name name
 
     go : (t u : Bool) → is_just (find (ds ++ (d ∷ [])) space name) ≡ (is_just (find ds space name) || T)
-        → is_just (if t then if u then some 0 else map suc (find (ds ++ (d ∷ [])) space name) else find (ds ++ (d ∷ [])) space name)
-        ≡ (is_just (if t then if u then some 0 else map suc (find ds space name) else find ds space name) || T)
+        → is_just (when t then when u then some 0 else map suc (find (ds ++ (d ∷ [])) space name) else find (ds ++ (d ∷ [])) space name)
+        ≡ (is_just (when t then when u then some 0 else map suc (find ds space name) else find ds space name) || T)
     go true true e = refl
     go true false e = just_map (find (ds ++ (d ∷ [])) space name) ∙ e ∙ ap (λ (b : Bool). b || T) (sym (just_map (find ds space name)))
     go false u e = e

@@ -12,7 +12,7 @@ use Rattle.std.proofs.lemmas.List.Edits.{sets}
 use Rattle.kit.specs.Pick.{pick}
 use Rattle.kit.specs.Out.{Out, ◌&◌}
 use Rattle.kit.proofs.Laws.{sets_seam}
-use Rattle.rules.specs.Tools.{if◌then◌else◌, is_just}
+use Rattle.rules.specs.Tools.{when◌then◌else◌, is_just}
 use Rattle.rules.specs.Rows.{Index, Num, Id, Row, Field, Decl, Ref, Path, Outer, Case, Open, Close, Export, encode, flag, number, encode_row}
 use Rattle.rules.specs.Tree.{Declaration, Operand, ref, outer, case, Head, Scope, scope, Fields, end, ◌▸◌, Item, plain, holds, head_of, with_operands, decl_rows, path_rows, operand_row, operand_rows, export_rows, head_rows, flatten, fields_rows, item_rows}
 use Rattle.rules.specs.Shapes.{here_only}
@@ -258,7 +258,7 @@ module _ (here : List Declaration) (own room : ℕ) where
   served_more : (ss : List Slot) (seen : List Served) (space name k : ℕ) → served_by seen space name ≡ none
       → ((sp n : ℕ) → find_in ss sp n ≡ alias_of (served_by seen sp n)) → (sp n : ℕ)
       → find_in (ss ++ ((space ∷ name ∷ fresh k ∷ 0 ∷ 0 ∷ 0 ∷ []) ∷ [])) sp n ≡ alias_of (served_by (record { space = space; name = name; k = k } ∷ seen) sp n)
-  unfolding served_by if◌then◌else◌ alias_of
+  unfolding served_by when◌then◌else◌ alias_of
   served_more ss seen space name k none_yet same sp n =
       found_snoc ss (space ∷ name ∷ fresh k ∷ 0 ∷ 0 ∷ 0 ∷ []) sp n ∙ go (eqb space sp) (eqb name n) refl refl
     where
@@ -272,7 +272,7 @@ module _ (here : List Declaration) (own room : ℕ) where
       absent : space ≡ sp → name ≡ n → F ≡ Nothing
       absent e f = same sp n ∙ (rw (← e, ← f, none_yet))
 
-      go : (t u : Bool) → eqb space sp ≡ t → eqb name n ≡ u → pick (is_found F) F (pick (t && u) (FoundAt (fresh k)) Nothing) ≡ alias_of (if t && u then some k else served_by seen sp n)
+      go : (t u : Bool) → eqb space sp ≡ t → eqb name n ≡ u → pick (is_found F) F (pick (t && u) (FoundAt (fresh k)) Nothing) ≡ alias_of (when t && u then some k else served_by seen sp n)
       go true true e f = unfold pick in (rw (absent (eqb-true space sp e) (eqb-true name n f)))
       go true false e f = unfold pick in rest F ∙ same sp n
       go false u e f = unfold pick in rest F ∙ same sp n
@@ -344,10 +344,10 @@ module _ (here : List Declaration) (own room : ℕ) where
         }
 
     name_goes : used < room → k + 1 < 2147483648 → NameGoes (mark_operand here seen k (ref space (Id name) [] z))
-    unfolding mark_operand if◌then◌else◌
+    unfolding mark_operand when◌then◌else◌
     name_goes h g = go (is_just (find here space name)) refl
       where
-        go : (b : Bool) → is_just (find here space name) ≡ b → NameGoes (if b then record { now = ref space (Id name) [] z; seen = seen; k = k } else mark_outer seen k space name z (served_by seen space name))
+        go : (b : Bool) → is_just (find here space name) ≡ b → NameGoes (when b then record { now = ref space (Id name) [] z; seen = seen; k = k } else mark_outer seen k space name z (served_by seen space name))
         go true e =
             unfold operand_row path_rows in record {
               used' = used;
@@ -401,12 +401,12 @@ module _ (here : List Declaration) (own room : ℕ) where
   outer_size seen k space name z (some j) = (refl, omega arith)
 
   pub operand_size : (seen : List Served) (k : ℕ) (o : Operand) → (length (operand_row (mark_operand here seen k o).now) ≡ length (operand_row o)) × ((mark_operand here seen k o).k ≤ k + length (operand_row o))
-  unfolding mark_operand if◌then◌else◌
+  unfolding mark_operand when◌then◌else◌
   operand_size seen k (ref space (Num n) [] z) = (refl, omega arith)
   operand_size seen k (ref space (Id name) [] z) = go (is_just (find here space name))
     where
-      go : (b : Bool) → (length (operand_row (if b then record { now = ref space (Id name) [] z; seen = seen; k = k } else mark_outer seen k space name z (served_by seen space name)).now) ≡ length (operand_row (ref space (Id name) [] z)))
-          × ((if b then record { now = ref space (Id name) [] z; seen = seen; k = k } else mark_outer seen k space name z (served_by seen space name)).k ≤ k + length (operand_row (ref space (Id name) [] z)))
+      go : (b : Bool) → (length (operand_row (when b then record { now = ref space (Id name) [] z; seen = seen; k = k } else mark_outer seen k space name z (served_by seen space name)).now) ≡ length (operand_row (ref space (Id name) [] z)))
+          × ((when b then record { now = ref space (Id name) [] z; seen = seen; k = k } else mark_outer seen k space name z (served_by seen space name)).k ≤ k + length (operand_row (ref space (Id name) [] z)))
       go true = (refl, omega arith)
       go false = unfold operand_row path_rows in outer_size seen k space name z (served_by seen space name)
   operand_size seen k (ref space at (q ∷ qs) z) = (refl, unfold operand_row in omega (arith, paths_length (q ∷ qs)))
@@ -510,23 +510,23 @@ module _ (here : List Declaration) (own room : ℕ) where
 
     -- ONE FIELD
     item_goes : used + length (operand_rows h.operands) ≤ room → k + length (operand_rows h.operands) < 2147483648 → ItemGoes (item_visits (length pre) w i) (mark_head here seen k h)
-    unfolding mark_head if◌then◌else◌
+    unfolding mark_head when◌then◌else◌
     item_goes b g = go (here_only h.code)
       where
         go : (t : Bool) → ItemGoes (visit (length pre) w (field_row h) ∷ visit_rows (length pre + 1) (not t) (own_rows h ++ open_rows i))
-            (if t then record { now = h; seen = seen; k = k } else (let r = mark_operands here seen k h.operands in record { now = with_operands h r.now; seen = r.seen; k = r.k }))
+            (when t then record { now = h; seen = seen; k = k } else (let r = mark_operands here seen k h.operands in record { now = with_operands h r.now; seen = r.seen; k = r.k }))
         go true = unwalked_goes
         go false = walked_goes b g
 
   -- a marked field has as many rows, and counts no more insertions than it has operand rows
   pub item_size : (i : Item) (seen : List Served) (k : ℕ) → (length (item_rows (with_head i (mark_head here seen k (head_of i)).now)) ≡ length (item_rows i)) × ((mark_head here seen k (head_of i)).k ≤ k + refs i)
-  unfolding mark_head if◌then◌else◌
+  unfolding mark_head when◌then◌else◌
   item_size i seen k = go (here_only (head_of i).code)
     where
       R : Marked Head
       R = let r = mark_operands here seen k (head_of i).operands in record { now = with_operands (head_of i) r.now; seen = r.seen; k = r.k }
 
-      go : (t : Bool) → (length (item_rows (with_head i (if t then record { now = head_of i; seen = seen; k = k } else R).now)) ≡ length (item_rows i)) × ((if t then record { now = head_of i; seen = seen; k = k } else R).k ≤ k + refs i)
+      go : (t : Bool) → (length (item_rows (with_head i (when t then record { now = head_of i; seen = seen; k = k } else R).now)) ≡ length (item_rows i)) × ((when t then record { now = head_of i; seen = seen; k = k } else R).k ≤ k + refs i)
       go true = (ap (λ (j : Item). length (item_rows j)) (same_head i), omega arith)
       go false =
           let r = mark_operands here seen k (head_of i).operands in

@@ -10,7 +10,7 @@ use lib.Seq.{take_at}
 use borrow.Author.Tests.{lt-ltb, le-ltb, le-leb, lt-leb, eq-eqb, ne_eqb, eqb-true, eqb-false}
 use Rattle.kit.specs.Pick.{pick}
 use Rattle.kit.proofs.Laws.{lt_or_le}
-use Rattle.rules.specs.Tools.{if◌then◌else◌}
+use Rattle.rules.specs.Tools.{when◌then◌else◌}
 use Rattle.rules.specs.Rows.{Raw, raw, Row, Close, encode}
 use Rattle.rules.specs.Tree.{Item, item_rows}
 use Rattle.rules.specs.Answer.{same_numbers}
@@ -88,34 +88,34 @@ module _ (c : Choice) where
 
   -- as many from the front have as many rows
   pub alikes_size : (ls rs : List Item) → size (take (alikes c ls rs) ls) ≡ size (take (alikes c ls rs) rs)
-  unfolding alikes if◌then◌else◌
+  unfolding alikes when◌then◌else◌
   alikes_size [] [] = refl
   alikes_size [] (y ∷ rs) = refl
   alikes_size (x ∷ ls) [] = refl
   alikes_size (x ∷ ls) (y ∷ rs) = go (same c (item_rows x) (item_rows y)) refl (alikes_size ls rs)
     where
       go : (b : Bool) → same c (item_rows x) (item_rows y) ≡ b → size (take (alikes c ls rs) ls) ≡ size (take (alikes c ls rs) rs)
-          → size (take (if b then suc (alikes c ls rs) else 0) (x ∷ ls)) ≡ size (take (if b then suc (alikes c ls rs) else 0) (y ∷ rs))
+          → size (take (when b then suc (alikes c ls rs) else 0) (x ∷ ls)) ≡ size (take (when b then suc (alikes c ls rs) else 0) (y ∷ rs))
       go true e rec = omega (arith, same_length (item_rows x) (item_rows y) e, size_cons x (take (alikes c ls rs) ls), size_cons y (take (alikes c ls rs) rs))
       go false e rec = refl
 
   pub alikes_left : (ls rs : List Item) → alikes c ls rs ≤ length ls
-  unfolding alikes if◌then◌else◌
+  unfolding alikes when◌then◌else◌
   alikes_left [] rs = omega arith
   alikes_left (x ∷ ls) [] = omega arith
   alikes_left (x ∷ ls) (y ∷ rs) = go (same c (item_rows x) (item_rows y)) (alikes_left ls rs)
     where
-      go : (b : Bool) → alikes c ls rs ≤ length ls → (if b then suc (alikes c ls rs) else 0) ≤ suc (length ls)
+      go : (b : Bool) → alikes c ls rs ≤ length ls → (when b then suc (alikes c ls rs) else 0) ≤ suc (length ls)
       go true h = omega arith
       go false h = omega arith
 
   pub alikes_right : (ls rs : List Item) → alikes c ls rs ≤ length rs
-  unfolding alikes if◌then◌else◌
+  unfolding alikes when◌then◌else◌
   alikes_right [] rs = omega arith
   alikes_right (x ∷ ls) [] = omega arith
   alikes_right (x ∷ ls) (y ∷ rs) = go (same c (item_rows x) (item_rows y)) (alikes_right ls rs)
     where
-      go : (b : Bool) → alikes c ls rs ≤ length rs → (if b then suc (alikes c ls rs) else 0) ≤ suc (length rs)
+      go : (b : Bool) → alikes c ls rs ≤ length rs → (when b then suc (alikes c ls rs) else 0) ≤ suc (length rs)
       go true h = omega arith
       go false h = omega arith
 
@@ -189,7 +189,7 @@ module _ (c : Choice) where
     front_moves most i e h n g = rw (lt-ltb _ _ h, n, lt-leb _ _ g)
 
     pub front_is : (most i : ℕ) (ls rs : List Item) → Stands l i ls → Stands r i rs → length l / 16 ≤ i + most → Front i ls rs (alikes c ls rs) (front_t c l r i most)
-    unfolding alikes if◌then◌else◌ pick
+    unfolding alikes when◌then◌else◌ pick
     front_is most i [] rs s t h = rw (front_stays most i (next_none i rs s)) (stays i [] rs s t)
     front_is most i (x ∷ ls) [] s t h = rw (front_stays most i (next_left_only i x ls s t)) (stays i (x ∷ ls) [] s t)
     front_is zero i (x ∷ ls) (y ∷ rs) s t h = let n = s.count in absurd (omega arith)
@@ -197,7 +197,7 @@ module _ (c : Choice) where
       where
         go : (b : Bool) → same c (item_rows x) (item_rows y) ≡ b
             → (Stands r (i + length (item_rows x)) rs → length l / 16 ≤ i + length (item_rows x) + most → Front (i + length (item_rows x)) ls rs (alikes c ls rs) (front_t c l r (i + length (item_rows x)) most))
-            → Front i (x ∷ ls) (y ∷ rs) (if b then suc (alikes c ls rs) else 0) (front_t c l r i (suc most))
+            → Front i (x ∷ ls) (y ∷ rs) (when b then suc (alikes c ls rs) else 0) (front_t c l r i (suc most))
         go true e rec =
             let n = s.count in
             let p = item_long_lem x in

@@ -9,7 +9,7 @@ use lib.ListN.{length, take, drop, length-append, length-reverse, length-drop, t
 use lib.Seq.{take_at}
 use borrow.Author.Tests.{lt-ltb, le-ltb, le-leb, lt-leb, leb-true, leb-false, ltb-true, ltb-false}
 use Rattle.kit.specs.Pick.{pick}
-use Rattle.rules.specs.Tools.{if◌then◌else◌}
+use Rattle.rules.specs.Tools.{when◌then◌else◌}
 use Rattle.rules.specs.Rows.{Row, Close, encode}
 use Rattle.rules.specs.Tree.{Item, item_rows}
 use Rattle.comparing.specs.Compare.{Choice, same, rest, field_pairs, entries}
@@ -75,35 +75,35 @@ module _ (c : Choice) where
         let rec : back_t c l r from (s + 1) (length xs) ≡ s + 1 + common c xs ys = back_is xs ys (s + 1) (omega arith) (omega arith) (rw m' at a.1) (rw n' at b.1) in
         rw (lt-leb _ _ h, is) (go (same c (x ∷ []) (y ∷ [])) rec)
       where
-        go : (b : Bool) → back_t c l r from (s + 1) (length xs) ≡ s + 1 + common c xs ys → pick b (back_t c l r from (s + 1) (length xs)) s ≡ s + (if b then suc (common c xs ys) else 0)
-        go true e = unfold if◌then◌else◌ in (e ∙ omega arith)
-        go false e = unfold if◌then◌else◌ in omega arith
+        go : (b : Bool) → back_t c l r from (s + 1) (length xs) ≡ s + 1 + common c xs ys → pick b (back_t c l r from (s + 1) (length xs)) s ≡ s + (when b then suc (common c xs ys) else 0)
+        go true e = unfold when◌then◌else◌ in (e ∙ omega arith)
+        go false e = unfold when◌then◌else◌ in omega arith
 
   -- ---- fields that fit
 
   fit_all : (n : ℕ) (xs : List Item) (x : Item) → size xs + length (item_rows x) ≤ n → fitting n (xs ++ (x ∷ [])) ≡ suc (length xs)
-  unfolding fitting if◌then◌else◌
+  unfolding fitting when◌then◌else◌
   fit_all n [] x h = rw (le-leb (length (item_rows x)) n (omega arith))
   fit_all n (y ∷ xs) x h =
       let w = size_cons y xs in
       rw (le-leb (length (item_rows y)) n (omega arith)) (ap suc (fit_all (n - length (item_rows y)) xs x (omega arith)))
 
   fit_less : (n : ℕ) (xs : List Item) (x : Item) → n < size xs + length (item_rows x) → fitting n (xs ++ (x ∷ [])) ≡ fitting n xs
-  unfolding fitting if◌then◌else◌ size items_rows
+  unfolding fitting when◌then◌else◌ size items_rows
   fit_less n [] x h = rw (lt-leb (length (item_rows x)) n (omega arith))
   fit_less n (y ∷ xs) x h = go (leb (length (item_rows y)) n) refl (fit_less (n - length (item_rows y)) xs x)
     where
       go : (b : Bool) → leb (length (item_rows y)) n ≡ b → (n - length (item_rows y) < size xs + length (item_rows x) → fitting (n - length (item_rows y)) (xs ++ (x ∷ [])) ≡ fitting (n - length (item_rows y)) xs)
-          → (if b then suc (fitting (n - length (item_rows y)) (xs ++ (x ∷ []))) else 0) ≡ (if b then suc (fitting (n - length (item_rows y)) xs) else 0)
+          → (when b then suc (fitting (n - length (item_rows y)) (xs ++ (x ∷ []))) else 0) ≡ (when b then suc (fitting (n - length (item_rows y)) xs) else 0)
       go true e rec = ap suc (rec (omega (arith, leb-true (length (item_rows y)) n e, length-append (item_rows y) (items_rows xs))))
       go false e rec = refl
 
   fit_low : (n : ℕ) (xs : List Item) → fitting n xs ≤ length xs
-  unfolding fitting if◌then◌else◌
+  unfolding fitting when◌then◌else◌
   fit_low n [] = omega arith
   fit_low n (x ∷ xs) = go (leb (length (item_rows x)) n) (fit_low (n - length (item_rows x)) xs)
     where
-      go : (b : Bool) → fitting (n - length (item_rows x)) xs ≤ length xs → (if b then suc (fitting (n - length (item_rows x)) xs) else 0) ≤ suc (length xs)
+      go : (b : Bool) → fitting (n - length (item_rows x)) xs ≤ length xs → (when b then suc (fitting (n - length (item_rows x)) xs) else 0) ≤ suc (length xs)
       go true h = omega arith
       go false h = omega arith
 

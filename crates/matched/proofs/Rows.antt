@@ -8,7 +8,7 @@ use lib.Dec.{eqb, ltb}
 use borrow.Author.Rules.{rules}
 use borrow.Author.Tests.{lt-ltb, le-ltb, eq-eqb, ne_eqb}
 use Rattle.kit.specs.Pick.{pick}
-use Rattle.rules.specs.Tools.{if◌then◌else◌}
+use Rattle.rules.specs.Tools.{when◌then◌else◌}
 use Rattle.rules.specs.Rows.{Raw, raw, Row, encode}
 use Rattle.rules.specs.Answer.{same_numbers}
 use Rattle.comparing.specs.Compare.{Choice, blur_place, blur_name, blur, six_parts, rows_parts, same}
@@ -21,23 +21,23 @@ use Rattle.matched.specs.Counted.{choice_of, raw_of, number_t, counted_t, all_sa
 
 module _ (choice n : ℕ) where
   pub place_ignored : choice % 2 ≡ 1 → 0 ≡ blur_place (choice_of choice) n
-  unfolding blur_place choice_of if◌then◌else◌
+  unfolding blur_place choice_of when◌then◌else◌
   place_ignored h = rw (eq-eqb _ _ h)
 
   pub place_kept : (choice % 2 ≡ 1 → ⊥) → n ≡ blur_place (choice_of choice) n
-  unfolding blur_place choice_of if◌then◌else◌
+  unfolding blur_place choice_of when◌then◌else◌
   place_kept h = rw (ne_eqb _ _ h)
 
   pub fresh_ignored : choice / 2 % 2 ≡ 1 → 2147483647 < n → 2147483648 ≡ blur_name (choice_of choice) n
-  unfolding blur_name choice_of if◌then◌else◌
+  unfolding blur_name choice_of when◌then◌else◌
   fresh_ignored h g = rw (eq-eqb _ _ h, lt-ltb _ _ g)
 
   pub original_kept : choice / 2 % 2 ≡ 1 → n ≤ 2147483647 → n ≡ blur_name (choice_of choice) n
-  unfolding blur_name choice_of if◌then◌else◌
+  unfolding blur_name choice_of when◌then◌else◌
   original_kept h g = rw (eq-eqb _ _ h, le-ltb _ _ g)
 
   pub name_kept : (choice / 2 % 2 ≡ 1 → ⊥) → n ≡ blur_name (choice_of choice) n
-  unfolding blur_name choice_of if◌then◌else◌
+  unfolding blur_name choice_of when◌then◌else◌
   name_kept h = rw (ne_eqb _ _ h)
 
 pub ruleset counts = (place_ignored, place_kept, fresh_ignored, original_kept, name_kept, rules)
@@ -81,8 +81,8 @@ row_found c l r i j p q p' q' b h e k f g = g ∙ rw (e, f, h, k)
 
 -- ---- the rules' row as it counts
 
-number_is : (c : Choice) (b : Bool) (n : ℕ) → number_t c b n ≡ (if b then blur_name c n else n)
-unfolding number_t pick if◌then◌else◌
+number_is : (c : Choice) (b : Bool) (n : ℕ) → number_t c b n ≡ (when b then blur_name c n else n)
+unfolding number_t pick when◌then◌else◌
 number_is c true n = refl
 number_is c false n = refl
 

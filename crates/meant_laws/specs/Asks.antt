@@ -9,7 +9,7 @@ use Rattle.std.proofs.Math.ListN.{get_elem?}
 use Rattle.std.proofs.lemmas.List.{length-map}
 use Rattle.kit.specs.Pick.{pick}
 use Rattle.kit.proofs.Laws.{yes!, no!, tests}
-use Rattle.rules.specs.Tools.{if◌then◌else◌, ◌then◌}
+use Rattle.rules.specs.Tools.{when◌then◌else◌, ◌then◌}
 use Rattle.rules.specs.Rows.{Index, Num, Id, Outer, encode, flag, number}
 use Rattle.rules.specs.Tree.{Scope, scope, flatten}
 use Rattle.rules.specs.Good.{name_of}
@@ -56,7 +56,7 @@ within (y ∷ xs) (suc n) x e = omega (arith, within xs n x e)
 
 -- the innermost scope of a name, with one more scope behind all
 nearest_left : (ns ms : List ℕ) (name d : ℕ) → nearest_named ns name ≡ some d → nearest_named (ns ++ ms) name ≡ some d
-unfolding nearest_named if◌then◌else◌
+unfolding nearest_named when◌then◌else◌
 nearest_left [] ms name d e = no_option d e
 nearest_left (n ∷ ns) ms name d e = go (eqb n name) d e (λ k q. nearest_left ns ms name k q)
   where
@@ -64,13 +64,13 @@ nearest_left (n ∷ ns) ms name d e = go (eqb n name) d e (λ k q. nearest_left 
     one_less none d e = no_option d e
     one_less (some k) d e = (k, refl, some_same (suc k) d e)
 
-    go : (b : Bool) (d : ℕ) → (if b then some 0 else map suc (nearest_named ns name)) ≡ some d → ((k : ℕ) → nearest_named ns name ≡ some k → nearest_named (ns ++ ms) name ≡ some k)
-        → (if b then some 0 else map suc (nearest_named (ns ++ ms) name)) ≡ some d
+    go : (b : Bool) (d : ℕ) → (when b then some 0 else map suc (nearest_named ns name)) ≡ some d → ((k : ℕ) → nearest_named ns name ≡ some k → nearest_named (ns ++ ms) name ≡ some k)
+        → (when b then some 0 else map suc (nearest_named (ns ++ ms) name)) ≡ some d
     go true d e below = e
     go false d e below = let L = one_less (nearest_named ns name) d e in ap (map suc) (below L.0 L.1) ∙ ap {B = Option ℕ} some L.2
 
-nearest_last : (ns : List ℕ) (m name : ℕ) → nearest_named ns name ≡ none → nearest_named (ns ++ (m ∷ [])) name ≡ (if eqb m name then some (length ns) else none)
-unfolding nearest_named if◌then◌else◌
+nearest_last : (ns : List ℕ) (m name : ℕ) → nearest_named ns name ≡ none → nearest_named (ns ++ (m ∷ [])) name ≡ (when eqb m name then some (length ns) else none)
+unfolding nearest_named when◌then◌else◌
 nearest_last [] m name e = refl
 nearest_last (n ∷ ns) m name e = go (eqb n name) e (λ q. nearest_last ns m name q)
   where
@@ -78,12 +78,12 @@ nearest_last (n ∷ ns) m name e = go (eqb n name) e (λ q. nearest_last ns m na
     none_back none e = refl
     none_back (some k) e = no_option (suc k) (sym e)
 
-    last : (b : Bool) → map suc (if b then some (length ns) else none) ≡ (if b then some (suc (length ns)) else none)
+    last : (b : Bool) → map suc (when b then some (length ns) else none) ≡ (when b then some (suc (length ns)) else none)
     last true = refl
     last false = refl
 
-    go : (b : Bool) → (if b then some 0 else map suc (nearest_named ns name)) ≡ none → (nearest_named ns name ≡ none → nearest_named (ns ++ (m ∷ [])) name ≡ (if eqb m name then some (length ns) else none))
-        → (if b then some 0 else map suc (nearest_named (ns ++ (m ∷ [])) name)) ≡ (if eqb m name then some (suc (length ns)) else none)
+    go : (b : Bool) → (when b then some 0 else map suc (nearest_named ns name)) ≡ none → (nearest_named ns name ≡ none → nearest_named (ns ++ (m ∷ [])) name ≡ (when eqb m name then some (length ns) else none))
+        → (when b then some 0 else map suc (nearest_named (ns ++ (m ∷ [])) name)) ≡ (when eqb m name then some (suc (length ns)) else none)
     go true e below = no_option 0 (sym e)
     go false e below = ap (map suc) (below (none_back _ e)) ∙ last (eqb m name)
 
@@ -192,13 +192,13 @@ module _ (P M : List ℕ) (s m : Scope) (RP : Rows P s) (low : LowScope s)
   -- ---- by a name
 
   by_name_lem : (x : ℕ) → Told s m (map meant_by (nearest_named (names ++ (name_of s ∷ [])) x then λ d. declared_out all d space name)) (asked_for (Named x))
-  unfolding ◌then◌ if◌then◌else◌ pick is_root_t
+  unfolding ◌then◌ when◌then◌else◌ pick is_root_t
   by_name_lem x = go (nearest_named names x) refl
     where
       named : Option ℕ → Option Meant
       named o = map meant_by (o then λ d. declared_out all d space name)
 
-      behind : (b : Bool) → Told s m (named (if b then some (length names) else none)) (pick b (in_root P space name) Nowhere)
+      behind : (b : Bool) → Told s m (named (when b then some (length names) else none)) (pick b (in_root P space name) Nowhere)
       behind true = in_prelude_lem (length names) (names_length M fs names N)
       behind false = nothing
 
@@ -209,7 +209,7 @@ module _ (P M : List ℕ) (s m : Scope) (RP : Rows P s) (low : LowScope s)
       go none e =
           no_such_scope (Named x) _ (goes (Named x) ∙ named_nowhere M fs names N x 0 e)
           (subst (λ (o : Option ℕ). Told s m (named o) (pick (is_root_t P M r (Named x)) (in_root P space name) Nowhere)) (sym (nearest_last names (name_of s) x e))
-          (subst (λ (c : Bool). Told s m (named (if eqb (name_of s) x then some (length names) else none)) (pick c (in_root P space name) Nowhere)) asks (behind (eqb (name_of s) x))))
+          (subst (λ (c : Bool). Told s m (named (when eqb (name_of s) x then some (length names) else none)) (pick c (in_root P space name) Nowhere)) asks (behind (eqb (name_of s) x))))
       go (some d) e =
           let F = named_found M fs names N x 0 d e in
           subst (λ (o : Option ℕ). Told s m (named o) (asked_for (Named x))) (sym (nearest_left names (name_of s ∷ []) x d e))

@@ -8,7 +8,7 @@ use mathlib.Core.List.{List, [], ◌∷◌, ◌++◌}
 use Rattle.std.proofs.Math.Dec.{eqb}
 use Rattle.kit.specs.Pick.{pick}
 use Rattle.kit.proofs.Laws.{tests}
-use Rattle.rules.specs.Tools.{if◌then◌else◌, only, ◌then◌, ◌or_else◌}
+use Rattle.rules.specs.Tools.{when◌then◌else◌, only, ◌then◌, ◌or_else◌}
 use Rattle.rules.specs.Rows.{Index, Num, Id, Ref, Outer, Case, encode, flag, number}
 use Rattle.rules.specs.Tree.{Operand, ref, outer, case, Scope, head_of}
 use Rattle.rules.specs.Shapes.{here_only}
@@ -177,10 +177,10 @@ module _ (P M : List ℕ) (s m : Scope) (RP : Rows P s) (RM : Rows M m) (low-s :
   walks space name z q here = (rw (U.used_as, q, here), rw (U.used_as, q, here))
 
   bare_told : (space name z : ℕ) → U.operand ≡ ref space (Id name) [] z → Is M r (Ref space (Id name) 0 z) → eqb name 0 ≡ false → Told s m (means (ref space (Id name) [] z)) (name_meant_t P M r)
-  unfolding name_in sought if◌then◌else◌ pick
+  unfolding name_in sought when◌then◌else◌ pick
   bare_told space name z q is is_name = go (here_only code) refl
     where
-      go : (b : Bool) → here_only code ≡ b → Told s m (map meant_by (if b then declared_out all 0 space name else outward all space name)) (name_meant_t P M r)
+      go : (b : Bool) → here_only code ≡ b → Told s m (map meant_by (when b then declared_out all 0 space name else outward all space name)) (name_meant_t P M r)
       go true here = here_told space name 0 z is is_name (ap (λ (c : ℕ). not (here_only c)) U.of_field ∙ ap not here)
       go false here = let W = walks space name z q here in outward_told space name z W.0 is is_name (ap here_only U.of_field ∙ here) W.1
 

@@ -13,7 +13,7 @@ use lib.Seq.{take_all, length-take-le, drop-drop, drop-append-add}
 use borrow.Author.Rules.{rules}
 use borrow.Author.Tests.{lt-ltb, le-ltb, le-leb}
 use Rattle.kit.proofs.Laws.{lt_or_le}
-use Rattle.rules.specs.Tools.{if◌then◌else◌}
+use Rattle.rules.specs.Tools.{when◌then◌else◌}
 use Rattle.rules.specs.Versions.{Setting, base}
 use Rattle.rules.specs.Rows.{Row}
 use Rattle.rules.specs.Tree.{flatten}
@@ -207,16 +207,16 @@ module _ (i : ℕ) (prelude area : List ℕ) (e n : List Slot) (k c m : List ℕ
   abbrev enough : Bool
   enough = roomy (setting i).version (lent_of e n k c m)
 
-  room_is : (if enough then length area else 0) ≡ length area
+  room_is : (when enough then length area else 0) ≡ length area
   room_is = go (length area) (λ h. suits_roomy i e n k c m (suits h))
     where
-      both : (b : Bool) → ◌≡◌ {A = ℕ} (if b then 0 else 0) 0
-      both true = unfold if◌then◌else◌ in refl
-      both false = unfold if◌then◌else◌ in refl
+      both : (b : Bool) → ◌≡◌ {A = ℕ} (when b then 0 else 0) 0
+      both true = unfold when◌then◌else◌ in refl
+      both false = unfold when◌then◌else◌ in refl
 
-      go : (r : ℕ) → (0 < r → enough ≡ true) → (if enough then r else 0) ≡ r
+      go : (r : ℕ) → (0 < r → enough ≡ true) → (when enough then r else 0) ≡ r
       go zero f = both enough
-      go (suc r) f = rw (f (omega arith)) (unfold if◌then◌else◌ in refl)
+      go (suc r) f = rw (f (omega arith)) (unfold when◌then◌else◌ in refl)
 
   pub lent_ran : meaning a ≡ ruled (answer (setting i ∷ []) prelude (length area))
   lent_ran = ran.answers ∙ ap (λ (r : ℕ). ruled (answer (setting i ∷ []) prelude r)) room_is
@@ -224,12 +224,12 @@ module _ (i : ℕ) (prelude area : List ℕ) (e n : List Slot) (k c m : List ℕ
   pub lent_left : area' ≡ output (setting i ∷ []) prelude area
   lent_left = ran.leaves ∙ go (lt_or_le 0 (length area))
     where
-      same : (b : Bool) → area ≡ output (setting i ∷ []) prelude area → (if b then output (setting i ∷ []) prelude area else area) ≡ output (setting i ∷ []) prelude area
-      same true h = unfold if◌then◌else◌ in refl
-      same false h = unfold if◌then◌else◌ in h
+      same : (b : Bool) → area ≡ output (setting i ∷ []) prelude area → (when b then output (setting i ∷ []) prelude area else area) ≡ output (setting i ∷ []) prelude area
+      same true h = unfold when◌then◌else◌ in refl
+      same false h = unfold when◌then◌else◌ in h
 
-      go : (0 < length area) ⊎ (length area ≤ 0) → (if enough then output (setting i ∷ []) prelude area else area) ≡ output (setting i ∷ []) prelude area
-      go (inl h) = rw (suits_roomy i e n k c m (suits h)) (unfold if◌then◌else◌ in refl)
+      go : (0 < length area) ⊎ (length area ≤ 0) → (when enough then output (setting i ∷ []) prelude area else area) ≡ output (setting i ∷ []) prelude area
+      go (inl h) = rw (suits_roomy i e n k c m (suits h)) (unfold when◌then◌else◌ in refl)
       go (inr h) =
           let b : area ≡ [] = none_long area (omega arith) in
           let l : length (output (setting i ∷ []) prelude area) ≡ length area = unfold output in output_length [] (setting i ∷ []) ((able_at i).usual, tt) prelude area in
@@ -246,11 +246,11 @@ module _ (i : ℕ) (prelude area : List ℕ) (e n : List Slot) (k c m : List ℕ
 -- ---- room_in
 
 pub room_none : (area : ℕ) → area < 65480 → 0 ≡ room_with (ltb area 65480) 65480
-unfolding room_with if◌then◌else◌
+unfolding room_with when◌then◌else◌
 room_none area h = rw (lt-ltb area 65480 h)
 
 pub room_whole : (area : ℕ) → 65480 ≤ area → 65480 ≡ room_with (ltb area 65480) 65480
-unfolding room_with if◌then◌else◌
+unfolding room_with when◌then◌else◌
 room_whole area h = rw (le-ltb area 65480 h)
 
 -- ---- clear

@@ -11,7 +11,7 @@ use Rattle.std.proofs.Math.ListN.{drop, length-set}
 use Rattle.std.proofs.lemmas.List.{length-replicate}
 use Rattle.kit.specs.Out.{◌&◌}
 use Rattle.kit.proofs.Laws.{tests}
-use Rattle.rules.specs.Tools.{if◌then◌else◌, is_just}
+use Rattle.rules.specs.Tools.{when◌then◌else◌, is_just}
 use Rattle.rules.specs.Versions.{Version, Setting, top_name}
 use Rattle.rules.specs.Tree.{Declaration, Scope, scope, flatten}
 use Rattle.rules.specs.Good.{height}
@@ -150,7 +150,7 @@ module _ (s : Setting) (root : Env) (input : List ℕ) (room : ℕ) (why : Refus
   inside_early = rw refuses
 
   pub inside_stays : (old : List ℕ) → length old ≡ room → old ≡ inside_output s root input old
-  unfolding output_after if◌then◌else◌
+  unfolding output_after when◌then◌else◌
   inside_stays old l =
       let low = admits.1 in
       let t : leb why.number 5 ≡ true = omega tests in

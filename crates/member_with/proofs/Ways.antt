@@ -13,7 +13,7 @@ use lib.Seq.{length-take-le, drop_at}
 use borrow.Author.Rules.{rules}
 use borrow.Author.Tests.{ltb-false}
 use Rattle.kit.proofs.Laws.{lt_or_le}
-use Rattle.rules.specs.Tools.{if◌then◌else◌}
+use Rattle.rules.specs.Tools.{when◌then◌else◌}
 use Rattle.rules.specs.Versions.{Version, Setting, all}
 use Rattle.rules.specs.Answer as rules
 use Rattle.rules.specs.Answer.{answer, output}
@@ -147,11 +147,11 @@ module _ (i room : ℕ) (e n : List Slot) (k c m : List ℕ) (se sn sk sc sm a b
 
 module _ (i size work : ℕ) (is : size ≡ area_for (setting i).version) (small : Bool) where
   pub room_none : (ltb work size || small) ≡ true → 0 ≡ room_with (ltb work (area_for (setting i).version) || small) (area_for (setting i).version)
-  unfolding room_with if◌then◌else◌
+  unfolding room_with when◌then◌else◌
   room_none h = rw (← is, h)
 
   pub room_whole : (ltb work size || small) ≡ false → size ≡ room_with (ltb work (area_for (setting i).version) || small) (area_for (setting i).version)
-  unfolding room_with if◌then◌else◌
+  unfolding room_with when◌then◌else◌
   room_whole h = rw (← is, h)
 
   pub room_low : (ltb work size || small) ≡ false → size ≤ work
@@ -161,7 +161,7 @@ module _ (i size work : ℕ) (is : size ≡ area_for (setting i).version) (small
 
 -- there is no room where a table is too small
 pub not_small : (x small : Bool) (size : ℕ) → 0 < room_with (x || small) size → small ≡ false
-unfolding room_with if◌then◌else◌
+unfolding room_with when◌then◌else◌
 not_small true true size h = absurd (omega arith)
 not_small false true size h = absurd (omega arith)
 not_small x false size h = refl

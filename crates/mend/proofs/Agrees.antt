@@ -14,7 +14,7 @@ use borrow.Author.Tests.{ltb-false, eqb-true}
 use Rattle.kit.specs.Out.{◌&◌}
 use Rattle.kit.specs.Pick.{pick}
 use Rattle.kit.proofs.Laws.{tests, lt_or_le, sets_append}
-use Rattle.rules.specs.Tools.{if◌then◌else◌, only, ◌or_else◌, between}
+use Rattle.rules.specs.Tools.{when◌then◌else◌, only, ◌or_else◌, between}
 use Rattle.rules.specs.Versions.{RuleSet, Version, Setting, all}
 use Rattle.rules.specs.Rows.{Row, value, bytes}
 use Rattle.rules.specs.Tree.{RowsRead, bad, deep, form}
@@ -249,7 +249,7 @@ module _ (l : Limits) (L : Held l) (old : List ℕ) (asks_it : asks_for (setting
     headed = written_header s total body L.fits
 
     read_at : read_form s new ≡ as_answer (read s.rules v.scopes (rows_in s new))
-    unfolding read_form if◌then◌else◌ setting_in
+    unfolding read_form when◌then◌else◌ setting_in
     read_at = rw (headed, between_right, length_right)
 
     behind_head : drop l.header new ≡ body
@@ -313,12 +313,12 @@ module _ (buffer list : List ℕ) (long-is : ℕ) where
     says_read rules scopes (form t) rs h few f g = says_written f g
 
     says_to : (rules : RuleSet) (scopes : ℕ) (r : RowsRead) (rs : List (Option Row)) → Right rules scopes rs r → length rs ≤ 16383 → read_to l (mended_body_t (drop l.header (take long-is buffer)) kept) ≡ answer_of r → length made ≡ l.header + 16 * (kept.rows + kept.scopes)
-        → Says (if ltb (length buffer) (length made) || ltb (length list) (length (list_bytes cs)) then refused 3 0 else Mend.read (as_answer r) made cs) (to_t l buffer long-is list kept)
-    unfolding to_t room_t if◌then◌else◌ pick
+        → Says (when ltb (length buffer) (length made) || ltb (length list) (length (list_bytes cs)) then refused 3 0 else Mend.read (as_answer r) made cs) (to_t l buffer long-is list kept)
+    unfolding to_t room_t when◌then◌else◌ pick
     says_to rules scopes r rs h few e size = rw (e, ← size) (go (ltb (length buffer) (length made)) (lt_or_le (length list) (length (list_bytes cs))) refl)
       where
         go : (b : Bool) → (length list < length (list_bytes cs)) ⊎ (length (list_bytes cs) ≤ length list) → ltb (length buffer) (length made) ≡ b
-            → Says (if b || ltb (length list) (length (list_bytes cs)) then refused 3 0 else Mend.read (as_answer r) made cs)
+            → Says (when b || ltb (length list) (length (list_bytes cs)) then refused 3 0 else Mend.read (as_answer r) made cs)
             (pick (pick b false (leb (length (list_bytes cs)) (length list))) (read_then (answer_of r) l buffer long-is list kept) (refused_t 3 0 & buffer & list))
         go true c p = says_refused 3 0
         go false (inl c) p =
@@ -344,14 +344,14 @@ module _ (buffer list : List ℕ) (long-is : ℕ) where
 
     -- refusal 2
     too_few : (rows_left ≡ 0) ⊎ (l.rows < rows_left) → mend_in (setting_in l) old (length buffer) (length list) ≡ refused 2 0
-    unfolding mend_in if◌then◌else◌
+    unfolding mend_in when◌then◌else◌
     too_few h = rw (form_right l L old asks_it, unsized l L old asks_it h)
 
     mend_at : (some_rows : rows_left ≡ 0 → ⊥) (few_rows : rows_left ≤ l.rows)
         → mend_in (setting_in l) old (length buffer) (length list)
-        ≡ (if ltb (length buffer) (length (new_t l old kept)) || ltb (length list) (length (list_bytes (changes_in l old))) then refused 3 0
+        ≡ (when ltb (length buffer) (length (new_t l old kept)) || ltb (length list) (length (list_bytes (changes_in l old))) then refused 3 0
         else Mend.read (as_answer (read (setting_in l).rules (setting_in l).version.scopes (rows_in (setting_in l) (new_t l old kept)))) (new_t l old kept) (changes_in l old))
-    unfolding mend_in if◌then◌else◌
+    unfolding mend_in when◌then◌else◌
     mend_at some_rows few_rows = rw (form_right l L old asks_it, ← list_is l L old asks_it some_rows few_rows, sized_right l L old asks_it some_rows few_rows, read_at l L old asks_it some_rows few_rows)
 
     says_made : Says (mend_in (setting_in l) old (length buffer) (length list)) (made_t l buffer long-is list)
@@ -383,18 +383,18 @@ module _ (buffer list : List ℕ) (n : ℕ) where
   R = mend_buffer all buffer n (length list)
 
   far : length buffer < n → R ≡ refused 2 0
-  unfolding mend_buffer if◌then◌else◌
+  unfolding mend_buffer when◌then◌else◌
   far h = let t : ltb (length buffer) n ≡ true = omega tests in rw t
 
   other : n ≤ length buffer → (i : ℕ) → i ≡ place_t (take n buffer) → 3 ≤ i → R ≡ refused 1 0
-  unfolding mend_buffer mend mend_for if◌then◌else◌
+  unfolding mend_buffer mend mend_for when◌then◌else◌
   other h zero e g = absurd (omega arith)
   other h (suc zero) e g = absurd (omega arith)
   other h (suc (suc zero)) e g = absurd (omega arith)
   other h (suc (suc (suc i))) e g = let t : ltb (length buffer) n ≡ false = omega tests in rw (t, found (take n buffer), ← e)
 
   chosen : n ≤ length buffer → (i : ℕ) → i ≡ place_t (take n buffer) → i < 3 → R ≡ mend_in (setting_in (limits_of (setting i))) (take n buffer) (length buffer) (length list)
-  unfolding mend_buffer mend mend_for if◌then◌else◌
+  unfolding mend_buffer mend mend_for when◌then◌else◌
   chosen h zero e g = let t : ltb (length buffer) n ≡ false = omega tests in rw (t, found (take n buffer), ← e, stand_for 0)
   chosen h (suc zero) e g = let t : ltb (length buffer) n ≡ false = omega tests in rw (t, found (take n buffer), ← e, stand_for 1)
   chosen h (suc (suc zero)) e g = let t : ltb (length buffer) n ≡ false = omega tests in rw (t, found (take n buffer), ← e, stand_for 2)

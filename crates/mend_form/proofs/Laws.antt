@@ -13,7 +13,7 @@ use borrow.Author.Rules.{rules}
 use borrow.Author.Tests.{ne_eqb}
 use Rattle.kit.specs.Pick.{pick}
 use Rattle.kit.proofs.Laws.{tests, left_suc, yes!, no! }
-use Rattle.rules.specs.Tools.{if◌then◌else◌}
+use Rattle.rules.specs.Tools.{when◌then◌else◌}
 use Rattle.rules.specs.Rows.{Close, encode_row}
 use Rattle.rules.specs.Rows
 use Rattle.mending.specs.Mend.{closes_root, depth_after, close_rows}
@@ -25,19 +25,19 @@ use Rattle.mend_form.specs.declared.Kept.{Kept}
 
 module _ (code depth : ℕ) where
   pub depth_opens : code ≡ 7 → depth + 1 ≡ depth_after code depth
-  unfolding depth_after if◌then◌else◌
+  unfolding depth_after when◌then◌else◌
   depth_opens h = rw (h, add-one)
 
   pub depth_none : code ≡ 8 → depth ≡ 0 → depth ≡ depth_after code depth
-  unfolding depth_after if◌then◌else◌
+  unfolding depth_after when◌then◌else◌
   depth_none h e = rw (h, e)
 
   pub depth_closes : code ≡ 8 → depth - 1 ≡ depth_after code depth
-  unfolding depth_after if◌then◌else◌
+  unfolding depth_after when◌then◌else◌
   depth_closes h = rw h
 
   pub depth_stays : (code ≡ 7 → ⊥) → (code ≡ 8 → ⊥) → depth ≡ depth_after code depth
-  unfolding depth_after if◌then◌else◌
+  unfolding depth_after when◌then◌else◌
   depth_stays h g = rw (ne_eqb code 7 h, ne_eqb code 8 g)
 
 pub ruleset depth_ways = (depth_opens, depth_none, depth_closes, depth_stays, rules)

@@ -10,7 +10,7 @@ use lib.ListN.{length, get_or, take, drop, length-drop, get_or-eq_default}
 use lib.Seq.{drop-drop, get_or-take, get_or-drop, length-take-le}
 use Rattle.kit.specs.Pick.{pick}
 use Rattle.kit.proofs.Laws.{tests}
-use Rattle.rules.specs.Tools.{if◌then◌else◌}
+use Rattle.rules.specs.Tools.{when◌then◌else◌}
 use Rattle.rules.specs.Rows.{value, bytes}
 use Rattle.mending.specs.Mend.{Piece, piece, afters, Fate, stays, fates, fated, parts, row_pieces, closes_root, depth_after, close_rows, all_rows}
 use Rattle.mending.proofs.Laws.Pieces.{afters_append}
@@ -32,7 +32,7 @@ abbrev Mends : (c b e f x₀ x₁ x₂ x₃ y₀ y₁ y₂ y₃ z₀ z₁ z₂ z
 Mends c b e f x₀ x₁ x₂ x₃ y₀ y₁ y₂ y₃ z₀ z₁ z₂ z₃ = mended_row_t (c ∷ b ∷ e ∷ f ∷ x₀ ∷ x₁ ∷ x₂ ∷ x₃ ∷ y₀ ∷ y₁ ∷ y₂ ∷ y₃ ∷ z₀ ∷ z₁ ∷ z₂ ∷ z₃ ∷ []) 0 0 16 ≡ afters (parts widths (stays ∷ fates c b) (c ∷ b ∷ e ∷ f ∷ x₀ ∷ x₁ ∷ x₂ ∷ x₃ ∷ y₀ ∷ y₁ ∷ y₂ ∷ y₃ ∷ z₀ ∷ z₁ ∷ z₂ ∷ z₃ ∷ []))
 
 field_row_lem : (b e f x₀ x₁ x₂ x₃ y₀ y₁ y₂ y₃ z₀ z₁ z₂ z₃ : ℕ) (t u : Bool) → eqb b 19 ≡ t → eqb b 22 ≡ u → Mends 1 b e f x₀ x₁ x₂ x₃ y₀ y₁ y₂ y₃ z₀ z₁ z₂ z₃
-unfolding mended_row_t byte_t stays_t part_at pick fates fated parts afters bytes value if◌then◌else◌
+unfolding mended_row_t byte_t stays_t part_at pick fates fated parts afters bytes value when◌then◌else◌
 field_row_lem b e f x₀ x₁ x₂ x₃ y₀ y₁ y₂ y₃ z₀ z₁ z₂ z₃ true u p q = rw p
 field_row_lem b e f x₀ x₁ x₂ x₃ y₀ y₁ y₂ y₃ z₀ z₁ z₂ z₃ false true p q = rw (p, q)
 field_row_lem b e f x₀ x₁ x₂ x₃ y₀ y₁ y₂ y₃ z₀ z₁ z₂ z₃ false false p q = rw (p, q)
@@ -57,7 +57,7 @@ no_fates c b h = past_ten _ _ _ _ _ _ _ _ _ _ c h
     past_ten f₀ f₁ f₂ f₃ f₄ f₅ f₆ f₇ f₈ f₉ n g = get_or-eq_default (f₀ ∷ f₁ ∷ f₂ ∷ f₃ ∷ f₄ ∷ f₅ ∷ f₆ ∷ f₇ ∷ f₈ ∷ f₉ ∷ []) [] g
 
 other_row : (c b e f x₀ x₁ x₂ x₃ y₀ y₁ y₂ y₃ z₀ z₁ z₂ z₃ : ℕ) → 10 ≤ c → Mends c b e f x₀ x₁ x₂ x₃ y₀ y₁ y₂ y₃ z₀ z₁ z₂ z₃
-unfolding mended_row_t byte_t stays_t part_at pick fates fated parts afters bytes value if◌then◌else◌
+unfolding mended_row_t byte_t stays_t part_at pick fates fated parts afters bytes value when◌then◌else◌
 other_row c b e f x₀ x₁ x₂ x₃ y₀ y₁ y₂ y₃ z₀ z₁ z₂ z₃ h =
     let h₁ : eqb c 1 ≡ false = omega tests in
     let h₂ : eqb c 2 ≡ false = omega tests in
@@ -71,7 +71,7 @@ other_row c b e f x₀ x₁ x₂ x₃ y₀ y₁ y₂ y₃ z₀ z₁ z₂ z₃ h 
     rw (none, h₁, h₂, h₄, h₅, h₆, h₇, h₈, h₉)
 
 by_code_lem : (c b e f x₀ x₁ x₂ x₃ y₀ y₁ y₂ y₃ z₀ z₁ z₂ z₃ : ℕ) → Mends c b e f x₀ x₁ x₂ x₃ y₀ y₁ y₂ y₃ z₀ z₁ z₂ z₃
-unfolding mended_row_t byte_t stays_t part_at pick fates fated parts afters bytes value if◌then◌else◌
+unfolding mended_row_t byte_t stays_t part_at pick fates fated parts afters bytes value when◌then◌else◌
 by_code_lem zero b e f x₀ x₁ x₂ x₃ y₀ y₁ y₂ y₃ z₀ z₁ z₂ z₃ = refl
 by_code_lem (suc zero) b e f x₀ x₁ x₂ x₃ y₀ y₁ y₂ y₃ z₀ z₁ z₂ z₃ = field_row_lem b e f x₀ x₁ x₂ x₃ y₀ y₁ y₂ y₃ z₀ z₁ z₂ z₃ (eqb b 19) (eqb b 22) refl refl
 by_code_lem (suc (suc zero)) b e f x₀ x₁ x₂ x₃ y₀ y₁ y₂ y₃ z₀ z₁ z₂ z₃ = refl
@@ -152,19 +152,19 @@ next_row rows i = let e : 16 * i + 16 ≡ 16 * (i + 1) = omega arith in drop-dro
 -- by whether the row is the root's CLOSE
 module _ (rows : List ℕ) (i left depth : ℕ) where
   abbrev Cut : (code : ℕ) (b : Bool) → List Piece
-  Cut code b = row_pieces (take 16 (drop (16 * i) rows)) ++ (if b then piece (drop 16 (drop (16 * i) rows)) [] ∷ [] else all_rows (depth_after code depth) left (drop 16 (drop (16 * i) rows)))
+  Cut code b = row_pieces (take 16 (drop (16 * i) rows)) ++ (when b then piece (drop 16 (drop (16 * i) rows)) [] ∷ [] else all_rows (depth_after code depth) left (drop 16 (drop (16 * i) rows)))
 
   cut_rows : (code : ℕ) → value (take 1 (drop (16 * i) rows)) ≡ code → all_rows depth (suc left) (drop (16 * i) rows) ≡ Cut code (closes_root code depth)
   unfolding all_rows
   cut_rows code e = rw e
 
   root_cut : (code : ℕ) → Cut code true ≡ kept_pieces rows i 1 ++ (piece (drop (16 * (i + 1)) rows) (close_rows 0) ∷ [])
-  unfolding kept_pieces if◌then◌else◌ close_rows
+  unfolding kept_pieces when◌then◌else◌ close_rows
   root_cut code = rw (next_row rows i, append-nil)
 
   more_cut : (code : ℕ) (m : ℕ) (k : Kept) → all_rows (depth_after code depth) left (drop (16 * (i + 1)) rows) ≡ kept_pieces rows (i + 1) m ++ (piece (drop (16 * k.rows) rows) (close_rows k.scopes) ∷ [])
       → Cut code false ≡ kept_pieces rows i (suc m) ++ (piece (drop (16 * k.rows) rows) (close_rows k.scopes) ∷ [])
-  unfolding kept_pieces if◌then◌else◌
+  unfolding kept_pieces when◌then◌else◌
   more_cut code m k e = rw (next_row rows i, e, append_assoc)
 
   by_root : (code : ℕ) (b : Bool) → Split rows (i + 1) left (depth_after code depth) (kept_t rows (i + 1) left (depth_after code depth)) → all_rows depth (suc left) (drop (16 * i) rows) ≡ Cut code b

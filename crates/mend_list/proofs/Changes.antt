@@ -12,7 +12,7 @@ use lib.Seq.{sets, sets-eq, take_all, take_at, drop_at, take-add, drop-drop, dro
 use borrow.Author.Tests.{eqb-true, eqb-false}
 use Rattle.kit.specs.Pick.{pick}
 use Rattle.kit.proofs.Laws.{tests, yes!, no! }
-use Rattle.rules.specs.Tools.{if◌then◌else◌}
+use Rattle.rules.specs.Tools.{when◌then◌else◌}
 use Rattle.rules.specs.Versions.{Setting}
 use Rattle.rules.specs.Rows.{bytes}
 use Rattle.rules.specs.Answer.{mark, same_numbers, header_bytes}
@@ -31,8 +31,8 @@ use Rattle.mend_list.specs.Listed.{change, piece_changes, width_t, row_changes, 
 
 -- ---- pieces one behind the other
 
-append_if : (b : Bool) (c : Change) (cs ds : List Change) → (if b then cs else c ∷ cs) ++ ds ≡ (if b then cs ++ ds else c ∷ (cs ++ ds))
-unfolding if◌then◌else◌
+append_if : (b : Bool) (c : Change) (cs ds : List Change) → (when b then cs else c ∷ cs) ++ ds ≡ (when b then cs ++ ds else c ∷ (cs ++ ds))
+unfolding when◌then◌else◌
 append_if true c cs ds = refl
 append_if false c cs ds = refl
 
@@ -43,8 +43,8 @@ changes_append at (p ∷ ps) qs =
     rw (changes_append (at + length p.after) ps qs, length-append, ← add_assoc) (sym (append_if (same_numbers p.before p.after) _ (changes (at + length p.after) ps) _))
 
 -- a piece, and what follows
-one_more_lem : (b : Bool) (c : Change) (cs : List Change) → (if b then cs else c ∷ cs) ≡ pick b [] (c ∷ []) ++ cs
-unfolding if◌then◌else◌ pick
+one_more_lem : (b : Bool) (c : Change) (cs : List Change) → (when b then cs else c ∷ cs) ≡ pick b [] (c ∷ []) ++ cs
+unfolding when◌then◌else◌ pick
 one_more_lem true c cs = refl
 one_more_lem false c cs = refl
 
@@ -95,7 +95,7 @@ first_cut l at w s h =
 
 cut_at : (ws old new : List ℕ) (at to : ℕ) → at + sum ws ≤ length old → to + sum ws ≤ length new → changes at (cuts ws (take (sum ws) (drop at old)) (take (sum ws) (drop to new))) ≡ cut_changes old new at to ws
 unfolding cuts changes
-cut_at [] old new at to h g = unfold same_numbers if◌then◌else◌ in refl
+cut_at [] old new at to h g = unfold same_numbers when◌then◌else◌ in refl
 cut_at (w ∷ ws) old new at to h g =
     let p = first_cut old at w (sum ws) h in
     let q = first_cut new to w (sum ws) g in
@@ -183,14 +183,14 @@ other_length (x ∷ a) (y ∷ b) h = go (eqb x y) (other_length a b (λ e. h (ap
     go true e = e
     go false e = refl
 
-both_empty : (rest : List ℕ) (scopes : ℕ) → rest ≡ [] → scopes ≡ 0 → (c : Change) → (if same_numbers rest (close_rows scopes) then [] else c ∷ []) ≡ []
-unfolding same_numbers close_rows if◌then◌else◌
+both_empty : (rest : List ℕ) (scopes : ℕ) → rest ≡ [] → scopes ≡ 0 → (c : Change) → (when same_numbers rest (close_rows scopes) then [] else c ∷ []) ≡ []
+unfolding same_numbers close_rows when◌then◌else◌
 both_empty rest scopes e z c = rw (e, z)
 
 -- as many bytes as before are none
 rest_changes_lem : (header : ℕ) (old : List ℕ) → header ≤ length old → (k : Kept) → k ≡ kept_in (drop header old) → header + 16 * k.rows ≤ length old
     → changes (header + 16 * k.rows) (piece (drop (header + 16 * k.rows) old) (close_rows k.scopes) ∷ []) ≡ rest_changes old (header + 16 * k.rows) (16 * k.scopes)
-unfolding changes rest_changes if◌then◌else◌ pick
+unfolding changes rest_changes when◌then◌else◌ pick
 rest_changes_lem header old h k is there = go (eqb n (16 * k.scopes)) refl
   where
     a : ℕ
@@ -216,7 +216,7 @@ rest_changes_lem header old h k is there = go (eqb n (16 * k.scopes)) refl
         from (inr z) = omega (arith, length-drop header old)
 
     go : (b : Bool) → eqb n (16 * k.scopes) ≡ b
-        → (if same_numbers rest (close_rows k.scopes) then [] else record { at = a; before = rest; now = length (close_rows k.scopes) } ∷ []) ≡ pick b [] (change old a n (16 * k.scopes) ∷ [])
+        → (when same_numbers rest (close_rows k.scopes) then [] else record { at = a; before = rest; now = length (close_rows k.scopes) } ∷ []) ≡ pick b [] (change old a n (16 * k.scopes) ∷ [])
     go true e =
         let z = no_such_scope (eqb-true n (16 * k.scopes) e) in
         let none : rest ≡ [] = empty rest (omega (arith, length-drop a old, eqb-true n (16 * k.scopes) e)) in
@@ -236,7 +236,7 @@ unfolding changes
 cut_one at before after n next e f ps = rw (e, f) (one_more_lem (same_numbers before after) _ (changes next ps))
 
 first_stays : (l : List ℕ) (n : ℕ) → length l ≡ n → (ps : List Piece) → changes 0 (piece l l ∷ ps) ≡ changes n ps
-unfolding changes if◌then◌else◌
+unfolding changes when◌then◌else◌
 first_stays l n e ps = rw (lists_same l, e, zero-add)
 
 no_piece : (at : ℕ) → changes at [] ≡ []

@@ -2,7 +2,7 @@
 -- A form is cut into pieces. Each is told with its bytes before and after; a piece whose bytes differ is a change.
 use Rattle.std.specs.Prelude.{Bool, ◌&&◌, ◌||◌, not, List, [], ◌∷◌, ◌++◌, ℕ, zero, suc, ◌+◌, ◌*◌, ◌-◌, ◌/◌, ◌%◌, eqb, leb, ltb, length, take, drop, replicate, get_or}
 use Rattle.std.proofs.Math.Option.{Option, none, some}
-use Rattle.rules.specs.Tools.{if◌then◌else◌, only, ◌or_else◌, between}
+use Rattle.rules.specs.Tools.{when◌then◌else◌, only, ◌or_else◌, between}
 use Rattle.rules.specs.Versions.{Version, Setting}
 use Rattle.rules.specs.Rows.{value, bytes, Close, encode_row}
 use Rattle.rules.specs.Tree.{Scope}
@@ -41,7 +41,7 @@ pub record Change : Type 0 where
 unfoldable pub changes : (at : ℕ) → List Piece → List Change
 changes at [] = []
 changes at (p ∷ ps) =
-    if same_numbers p.before p.after then changes (at + length p.after) ps
+    when same_numbers p.before p.after then changes (at + length p.after) ps
     else record { at = at; before = p.before; now = length p.after } ∷ changes (at + length p.after) ps
 
 -- the bytes with all changes taken back: the first of them is byte `at`
@@ -76,7 +76,7 @@ unfoldable pub fates : (code b : ℕ) → List Fate
 fates code b =
     get_or
     ([]
-    ∷ (stays ∷ (if eqb b 19 then stays else if eqb b 22 then stays else zeroed) ∷ zeroed ∷ zeroed ∷ stays ∷ [])
+    ∷ (stays ∷ (when eqb b 19 then stays else when eqb b 22 then stays else zeroed) ∷ zeroed ∷ zeroed ∷ stays ∷ [])
     ∷ (stays ∷ zeroed ∷ stays ∷ zeroed ∷ stays ∷ [])
     ∷ (stays ∷ stays ∷ stays ∷ stays ∷ stays ∷ [])
     ∷ (zeroed ∷ zeroed ∷ stays ∷ zeroed ∷ zeroed ∷ [])
@@ -114,7 +114,7 @@ closes_root code depth = eqb code 8 && leb depth 1
 
 -- how many scopes are open behind a row of this code
 unfoldable pub depth_after : (code depth : ℕ) → ℕ
-depth_after code depth = if eqb code 7 then suc depth else if eqb code 8 then depth - 1 else depth
+depth_after code depth = when eqb code 7 then suc depth else when eqb code 8 then depth - 1 else depth
 
 -- `count` CLOSE rows
 unfoldable pub close_rows : (count : ℕ) → List ℕ
@@ -127,7 +127,7 @@ all_rows depth zero bs = piece bs (close_rows depth) ∷ []
 all_rows depth (suc count) bs =
     let code = value (take 1 bs) in
     row_pieces (take 16 bs)
-    ++ (if closes_root code depth then piece (drop 16 bs) [] ∷ [] else all_rows (depth_after code depth) count (drop 16 bs))
+    ++ (when closes_root code depth then piece (drop 16 bs) [] ∷ [] else all_rows (depth_after code depth) count (drop 16 bs))
 
 -- the pieces behind the header: the whole rows there, and what follows them
 unfoldable pub behind_header : Version → List ℕ → List Piece
@@ -172,8 +172,8 @@ unfoldable pub mend_in : Setting → (input : List ℕ) (room space : ℕ) → M
 mend_in s input room space =
     let form = afters (form_pieces s input) in
     let list = changes 0 (form_pieces s input) in
-    if not (sized s.version form) then refused 2 0
-    else if ltb room (length form) || ltb space (length (list_bytes list)) then refused 3 0
+    when not (sized s.version form) then refused 2 0
+    else when ltb room (length form) || ltb space (length (list_bytes list)) then refused 3 0
     else read (read_form s form) form list
 
 -- Has it the header of a setting? Byte 5 of version 1 is zeroed, and so is not asked.
@@ -203,7 +203,7 @@ mend settings input room space = mend_for (setting_for settings input) input roo
 -- that is longer than the buffer is refusal 2.
 unfoldable pub mend_buffer : List Setting → (buffer : List ℕ) (long space : ℕ) → Mending
 mend_buffer settings buffer long space =
-    if ltb (length buffer) long then refused 2 0 else mend settings (take long buffer) (length buffer) space
+    when ltb (length buffer) long then refused 2 0 else mend settings (take long buffer) (length buffer) space
 
 -- what the form's buffer holds: the mended form, zeros where a cut left bytes behind it, and what lay behind the longer of the two
 unfoldable pub buffer_after : Mending → (long : ℕ) (old : List ℕ) → List ℕ

@@ -13,7 +13,7 @@ use lib.Seq.{sets, sets-eq, length-take-le}
 use borrow.Author.Tests.{ltb-false}
 use Rattle.kit.specs.Out.{Out, ◌&◌}
 use Rattle.kit.proofs.Laws.{tests}
-use Rattle.rules.specs.Tools.{if◌then◌else◌, between}
+use Rattle.rules.specs.Tools.{when◌then◌else◌, between}
 use Rattle.rules.specs.Versions.{RuleSet, Setting}
 use Rattle.rules.specs.Rows.{Row}
 use Rattle.rules.specs.Tree.{Scope, flatten, RowsRead, bad, deep, form as tree}
@@ -69,8 +69,8 @@ unfolding Answer.resolved
 steps_counted (Result.refused why z) = steps_number why
 steps_counted (ok r) = tt
 
-if_counted : {A : Type 0} (b : Bool) (x y : AnswerOf A) → Counted x → Counted y → Counted (if b then x else y)
-unfolding if◌then◌else◌
+if_counted : {A : Type 0} (b : Bool) (x y : AnswerOf A) → Counted x → Counted y → Counted (when b then x else y)
+unfolding when◌then◌else◌
 if_counted true x y p q = p
 if_counted false x y p q = q
 
@@ -103,11 +103,11 @@ module _ (v : Setting) (input : List ℕ) where
   wrong_count = not (between 1 v.version.rows (row_count v.version input)) || not (eqb (length input) (v.version.header + 16 * row_count v.version input))
 
   none_asked : wrong_count ≡ true → rows_of (header_for (some v) input) ≡ 0
-  unfolding header_for header_in if◌then◌else◌
+  unfolding header_for header_in when◌then◌else◌
   none_asked e = rw e
 
   all_asked : wrong_count ≡ false → rows_of (header_for (some v) input) ≡ row_count v.version input
-  unfolding header_for header_in if◌then◌else◌
+  unfolding header_for header_in when◌then◌else◌
   all_asked e = rw e
 
 -- ---- zeros and entries
@@ -164,7 +164,7 @@ module _ (v : Setting) (input o m a : List ℕ) where
   after_one x = buffers_after v x n (held o m a)
 
   lists_short : wrong_count v input ≡ false → (ltb (length m) (16 * n) || ltb (length a) (12 * n)) ≡ true → in_one ≡ refused 3 0 []
-  unfolding moved_in too_short rooms_of if◌then◌else◌
+  unfolding moved_in too_short rooms_of when◌then◌else◌
   lists_short e s = rw (e, s, or-true (ltb (length o) (v.version.header + 64 * n)))
 
   -- a refusal leaves the lists
@@ -173,7 +173,7 @@ module _ (v : Setting) (input o m a : List ℕ) where
   refused_leaves number place carried = refl
 
   short_leaves : output_after v (refused 3 0 []) (v.version.header + 64 * n) o ≡ o
-  unfolding output_after if◌then◌else◌
+  unfolding output_after when◌then◌else◌
   short_leaves = refl
 
   -- the output is that of the resolver
@@ -182,11 +182,11 @@ module _ (v : Setting) (input o m a : List ℕ) where
   same_output e = ap (λ (x : Answer.Answer). output_after v x (v.version.header + 64 * n) o) (same_answer v input (rooms_of (held o m a)) e)
 
   wrong_answer : wrong_count v input ≡ true → (in_one ≡ refused 2 0 []) × (Answer.answer_in [] v input (length o) ≡ refused 2 0 [])
-  unfolding moved_in Answer.answer_in form_in map_answer if◌then◌else◌
+  unfolding moved_in Answer.answer_in form_in map_answer when◌then◌else◌
   wrong_answer e = (rw e, rw e)
 
   wrong_leaves : output_after v (refused 2 0 []) (v.version.header + 64 * n) o ≡ o
-  unfolding output_after if◌then◌else◌
+  unfolding output_after when◌then◌else◌
   wrong_leaves = refl
 
 -- ---- answers
@@ -216,10 +216,10 @@ or_right false b e = e
 
 -- an accepted form has the count that its header says, and room
 right_count : (v : Setting) (input : List ℕ) (room : ℕ) (t : Scope) → form_in [] v input room ≡ accepted t → (wrong_count v input ≡ false) × (ltb room (v.version.header + 64 * row_count v.version input) ≡ false)
-unfolding form_in if◌then◌else◌
+unfolding form_in when◌then◌else◌
 right_count v input room t e = go (wrong_count v input) (ltb room (v.version.header + 64 * row_count v.version input)) _ e
   where
-    go : (b c : Bool) (rest : AnswerOf Scope) → (if b then refused 2 0 [] else if c then refused 3 0 [] else rest) ≡ accepted t → (b ≡ false) × (c ≡ false)
+    go : (b c : Bool) (rest : AnswerOf Scope) → (when b then refused 2 0 [] else when c then refused 3 0 [] else rest) ≡ accepted t → (b ≡ false) × (c ≡ false)
     go true c rest e = let no_way : ◌≡◌ {A = ℕ} 0 1 = cc in absurd (omega arith)
     go false true rest e = let no_way : ◌≡◌ {A = ℕ} 0 1 = cc in absurd (omega arith)
     go false false rest e = (refl, refl)
@@ -235,7 +235,7 @@ no_room_refuses settings usual within input bs rs e =
 lists_made : (v : Setting) (input : List ℕ) (rooms : Rooms) (s t : Scope) (k : ℕ) → wrong_count v input ≡ false → ltb rooms.out (v.version.header + 64 * row_count v.version input) ≡ false
     → (ltb rooms.moved (16 * row_count v.version input) || ltb rooms.apart (12 * row_count v.version input)) ≡ false → read v.rules v.version.scopes (rows_in v input) ≡ tree s → resolve v.rules s ≡ ok (t, k)
     → moved_in v input rooms ≡ accepted (listed s t)
-unfolding moved_in too_short MovedAnswer.of_reading Answer.resolved map_answer if◌then◌else◌
+unfolding moved_in too_short MovedAnswer.of_reading Answer.resolved map_answer when◌then◌else◌
 lists_made v input rooms s t k e₁ e₂ e₃ r q = rw (e₁, e₂, e₃, r, q)
 
 -- ---- the lists have no room

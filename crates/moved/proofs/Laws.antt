@@ -8,7 +8,7 @@ use lib.Dec.{eqb, leb}
 use borrow.Author.Rules.{rules}
 use lib.ListN.{length, take, drop}
 use Rattle.kit.specs.Out.{Out, ◌&◌}
-use Rattle.rules.specs.Tools.{if◌then◌else◌, only}
+use Rattle.rules.specs.Tools.{when◌then◌else◌, only}
 use Rattle.rules.specs.Versions.{Version}
 use Rattle.rules.specs.Answer.{has_header, row_count}
 use Rattle.rules.specs.Laws.ToolLaws.{leb_le}
@@ -31,10 +31,10 @@ use Rattle.moved.specs.Run.{rows_asked, listed_t, before, fronts_t}
 
 -- a right header asks for no more rows than its version may have
 few_in : (v : Version) (form : List ℕ) (rows : ℕ) → header_in v form ≡ Rows rows → rows ≤ v.rows
-unfolding header_in if◌then◌else◌
+unfolding header_in when◌then◌else◌
 few_in v form rows e = go (leb 1 (row_count v form)) (leb (row_count v form) v.rows) refl (eqb (length form) (v.header + 16 * row_count v form)) e
   where
-    go : (a b : Bool) → leb (row_count v form) v.rows ≡ b → (c : Bool) → (if not (a && b) || not c then Count else Rows (row_count v form)) ≡ Rows rows → rows ≤ v.rows
+    go : (a b : Bool) → leb (row_count v form) v.rows ≡ b → (c : Bool) → (when not (a && b) || not c then Count else Rows (row_count v form)) ≡ Rows rows → rows ≤ v.rows
     go true true q true e = let same : row_count v form ≡ rows = cc in let low = leb_le (row_count v form) v.rows q in omega (arith, same, low)
     go true true q false e = let no_way : ◌≡◌ {A = ℕ} 0 1 = cc in absurd (omega arith)
     go true false q c e = let no_way : ◌≡◌ {A = ℕ} 0 1 = cc in absurd (omega arith)

@@ -8,7 +8,7 @@ use native.Mathlib.Omega.{arith}
 use Rattle.std.proofs.Math.ListN.{get_elem?}
 use Rattle.kit.specs.Pick.{pick}
 use Rattle.kit.proofs.Laws.{yes!, no!, tests}
-use Rattle.rules.specs.Tools.{if◌then◌else◌, only, ◌then◌, is_just}
+use Rattle.rules.specs.Tools.{when◌then◌else◌, only, ◌then◌, is_just}
 use Rattle.rules.specs.Versions.{RuleSet}
 use Rattle.rules.specs.Rows.{Index, Num, Id, encode, flag, number, Ref, Outer, Case}
 use Rattle.rules.specs.Tree.{Operand, ref, outer, case, Scope, scope, flatten}
@@ -110,10 +110,10 @@ flag_low (Num n) = refl
 flag_low (Id n) = refl
 
 pub instance_space_lem : (space paths : ℕ) → pick (eqb (suc paths) 0) space (pick (ltb space 7) 6 10) ≡ instance_space space
-unfolding instance_space pick if◌then◌else◌
+unfolding instance_space pick when◌then◌else◌
 instance_space_lem space paths = let past : eqb (suc paths) 0 ≡ false = omega tests in rw past (go (leb space 6) refl)
   where
-    go : (b : Bool) → leb space 6 ≡ b → ◌≡◌ {A = ℕ} (pick (ltb space 7) 6 10) (if b then 6 else 10)
+    go : (b : Bool) → leb space 6 ≡ b → ◌≡◌ {A = ℕ} (pick (ltb space 7) 6 10) (when b then 6 else 10)
     go true e = let l = leb_le space 6 e in let t : ltb space 7 ≡ true = omega (tests, l) in rw t
     go false e = let l = leb_lt space 6 e in let t : ltb space 7 ≡ false = omega (tests, l) in rw t
 

@@ -8,7 +8,7 @@ use mathlib.Core.List.{List, [], ◌∷◌, ◌++◌, map}
 use native.Mathlib.Omega.{arith}
 use Rattle.std.proofs.Math.ListN.{get_elem?}
 use Rattle.kit.proofs.Laws.{tests}
-use Rattle.rules.specs.Tools.{if◌then◌else◌, ◌then◌}
+use Rattle.rules.specs.Tools.{when◌then◌else◌, ◌then◌}
 use Rattle.rules.specs.Tree.{Declaration, Head, Scope, scope, Fields, end, ◌▸◌, Item, plain, holds, head_of}
 use Rattle.rules.specs.Rules.{fresh}
 use Rattle.rules.specs.Readings
@@ -55,12 +55,12 @@ marked_inserted (plain h) a =
 marked_inserted (holds h s) a = absurd a
 
 marks : (n : ℕ) (fs : Fields) → AliasesFields fs → All IsMarked (standings n fs)
-unfolding standings if◌then◌else◌ is_inserted
+unfolding standings when◌then◌else◌ is_inserted
 marks n end a = done
 marks n (i ▸ fs) a = go (any_fresh (head_of i).decls) refl (λ m. marks m fs a.2)
   where
     go : (b : Bool) → any_fresh (head_of i).decls ≡ b → ((m : ℕ) → All IsMarked (standings m fs))
-        → All IsMarked ((if b then in_inserted (head_of i) (head_of i).decls else in_original n 0 (head_of i).decls) ++ standings (if b then n else suc n) fs)
+        → All IsMarked ((when b then in_inserted (head_of i) (head_of i).decls else in_original n 0 (head_of i).decls) ++ standings (when b then n else suc n) fs)
     go true e below = all_append _ _ (marked_inserted i (a.0 e)) (below n)
     go false e below = all_append _ _ (marked_original n 0 (head_of i).decls e) (below (suc n))
 

@@ -8,7 +8,7 @@ use Prim.Native.Nat.{ℕ, zero, suc, ◌+◌, ◌-◌}
 use Rattle.std.proofs.Math.Dec.{eqb}
 use Rattle.std.proofs.Math.ListN.{length, get_elem?}
 use Rattle.kit.proofs.Laws.{yes!, no! }
-use Rattle.rules.specs.Tools.{if◌then◌else◌, ◌then◌}
+use Rattle.rules.specs.Tools.{when◌then◌else◌, ◌then◌}
 use Rattle.rules.specs.Rows.{Open, Close, encode}
 use Rattle.rules.specs.Tree.{Head, Scope, scope, Fields, Item, plain, holds, head_of, flatten, fields_rows, item_rows, head_rows}
 use Rattle.rules.specs.Readings
@@ -90,7 +90,7 @@ module _ (form : List ℕ) where
   -- ---- outward by a name
 
   pub named_found : (fs : List Floor) (names : List ℕ) → NamesAre form fs names → (name out d : ℕ) → nearest_named names name ≡ some d → (f : Floor) × (get_elem? fs d ≡ some f) × (first_wanted form (Named name) out fs ≡ OuterAt f.row (out + d))
-  unfolding nearest_named first_wanted if◌then◌else◌
+  unfolding nearest_named first_wanted when◌then◌else◌
   named_found [] [] N name out d e = no_option d e
   named_found [] (m ∷ ms) N name out d e = absurd N
   named_found (f ∷ fs) [] N name out d e = absurd N
@@ -103,7 +103,7 @@ module _ (form : List ℕ) where
       suc_back none d e = no_option d e
       suc_back (some k) d e = (k, refl, some_same (suc k) d e)
 
-      go : (b : Bool) → eqb m name ≡ b → (d : ℕ) → (if b then some 0 else map suc (nearest_named ms name)) ≡ some d
+      go : (b : Bool) → eqb m name ≡ b → (d : ℕ) → (when b then some 0 else map suc (nearest_named ms name)) ≡ some d
           → ((k : ℕ) → nearest_named ms name ≡ some k → (g : Floor) × (get_elem? fs k ≡ some g) × (first_wanted form (Named name) (out + 1) fs ≡ OuterAt g.row (out + 1 + k)))
           → (g : Floor) × (get_elem? (f ∷ fs) d ≡ some g) × (first_wanted form (Named name) out (f ∷ fs) ≡ OuterAt g.row (out + d))
       go true q d e below =
@@ -118,7 +118,7 @@ module _ (form : List ℕ) where
           (I.0, ap (get_elem? (f ∷ fs)) (sym next) ∙ I.1, sym (no! _ (here ∙ q) refl) ∙ (I.2 ∙ ap (λ (k : ℕ). OuterAt I.0.row k) on))
 
   pub named_nowhere : (fs : List Floor) (names : List ℕ) → NamesAre form fs names → (name out : ℕ) → nearest_named names name ≡ none → first_wanted form (Named name) out fs ≡ Nowhere
-  unfolding nearest_named first_wanted if◌then◌else◌
+  unfolding nearest_named first_wanted when◌then◌else◌
   named_nowhere [] [] N name out e = refl
   named_nowhere [] (m ∷ ms) N name out e = absurd N
   named_nowhere (f ∷ fs) [] N name out e = absurd N
@@ -128,7 +128,7 @@ module _ (form : List ℕ) where
       none_back none e = refl
       none_back (some k) e = no_option (suc k) (sym e)
 
-      go : (b : Bool) → eqb m name ≡ b → (if b then some 0 else map suc (nearest_named ms name)) ≡ none → (nearest_named ms name ≡ none → first_wanted form (Named name) (out + 1) fs ≡ Nowhere)
+      go : (b : Bool) → eqb m name ≡ b → (when b then some 0 else map suc (nearest_named ms name)) ≡ none → (nearest_named ms name ≡ none → first_wanted form (Named name) (out + 1) fs ≡ Nowhere)
           → first_wanted form (Named name) out (f ∷ fs) ≡ Nowhere
       go true q e below = no_option 0 (sym e)
       go false q e below = sym (no! _ (ap (λ (x : ℕ). eqb x name) N.0 ∙ q) refl) ∙ below (none_back (nearest_named ms name) e)

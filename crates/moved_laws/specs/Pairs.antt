@@ -2,7 +2,7 @@
 -- which hold no scope.
 use Rattle.std.specs.Prelude.{◌≡◌, refl, Bool, true, false, [], ℕ}
 use Rattle.std.proofs.Common.{ap, sym, ◌∙◌, subst, arith}
-use Rattle.rules.specs.Tools.{if◌then◌else◌}
+use Rattle.rules.specs.Tools.{when◌then◌else◌}
 use Rattle.rules.specs.Versions.{RuleSet}
 use Rattle.rules.specs.Tree.{Head, Scope, scope, Fields, end, ◌▸◌, Item, plain, holds, head_of}
 use Rattle.rules.specs.Rules.{ok, resolve}
@@ -32,10 +32,10 @@ comes_in (holds h s) e a P = absurd a
 next : (j : Item) (gs fs : Fields) → blank_fields (without_fields (j ▸ gs)) ≡ blank_fields fs → AliasesFields (j ▸ gs) → DeclFields fs
     → ((fs : Fields) → blank_fields (without_fields gs) ≡ blank_fields fs → DeclFields fs → PairedFields fs gs)
     → ((i : Item) → blank_item (without_item j) ≡ blank_item i → DeclItem i → PairedItems i j) → PairedFields fs (j ▸ gs)
-unfolding blank without if◌then◌else◌
+unfolding blank without when◌then◌else◌
 next j gs fs e a low rest item = go (is_inserted (head_of j)) refl fs e low
   where
-    go : (b : Bool) → is_inserted (head_of j) ≡ b → (fs : Fields) → blank_fields (if b then without_fields gs else without_item j ▸ without_fields gs) ≡ blank_fields fs → DeclFields fs → PairedFields fs (j ▸ gs)
+    go : (b : Bool) → is_inserted (head_of j) ≡ b → (fs : Fields) → blank_fields (when b then without_fields gs else without_item j ▸ without_fields gs) ≡ blank_fields fs → DeclFields fs → PairedFields fs (j ▸ gs)
     go true q fs e low = comes_in j q (a.0 q) (rest fs e low)
     go false q end e low = let no_way : ◌≡◌ {A = ℕ} 0 1 = cc in absurd (omega arith)
     go false q (i ▸ fs) e low =

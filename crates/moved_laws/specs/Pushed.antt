@@ -9,7 +9,7 @@ use Prim.Native.Nat.{ℕ, zero, suc, ◌+◌, ◌≤◌, ◌<◌}
 use Rattle.std.proofs.Math.ListN.{get_elem?}
 use Rattle.kit.specs.Pick.{pick}
 use Rattle.kit.proofs.Laws.{yes!, no!, tests}
-use Rattle.rules.specs.Tools.{if◌then◌else◌}
+use Rattle.rules.specs.Tools.{when◌then◌else◌}
 use Rattle.rules.specs.Tree.{Declaration, Head, Fields, end, ◌▸◌, head_of}
 use Rattle.rules.specs.Rules.{fresh}
 use Rattle.rules.specs.Answer.{same_numbers}
@@ -31,38 +31,38 @@ use Rattle.reading_laws.specs.Find.{search}
 
 unfoldable pub of_one : (space : ℕ) → List Standing → List Standing
 of_one space [] = []
-of_one space (x ∷ xs) = if eqb x.decl.space space then x ∷ of_one space xs else of_one space xs
+of_one space (x ∷ xs) = when eqb x.decl.space space then x ∷ of_one space xs else of_one space xs
 
 pub located_one : (space : ℕ) (xs : List Located) → map standing (located_of xs space) ≡ of_one space (map standing xs)
-unfolding located_of of_one if◌then◌else◌
+unfolding located_of of_one when◌then◌else◌
 located_one space [] = refl
 located_one space (x ∷ xs) = go (eqb x.standing.decl.space space) (located_one space xs)
   where
     go : (b : Bool) → map standing (located_of xs space) ≡ of_one space (map standing xs)
-        → map standing (if b then x ∷ located_of xs space else located_of xs space) ≡ (if b then x.standing ∷ of_one space (map standing xs) else of_one space (map standing xs))
+        → map standing (when b then x ∷ located_of xs space else located_of xs space) ≡ (when b then x.standing ∷ of_one space (map standing xs) else of_one space (map standing xs))
     go true e = ap {B = List Standing} (λ l. x.standing ∷ l) e
     go false e = e
 
 pub kin_one : (space : ℕ) {xs ys : List Standing} → Kin xs ys → Kin (of_one space xs) (of_one space ys)
-unfolding of_one if◌then◌else◌
+unfolding of_one when◌then◌else◌
 kin_one space nothing_left = nothing_left
 kin_one space (stays {x = x} {xs = xs} {ys = ys} k) = go (eqb x.decl.space space) (kin_one space k)
   where
-    go : (b : Bool) → Kin (of_one space xs) (of_one space ys) → Kin (if b then x ∷ of_one space xs else of_one space xs) (if b then x ∷ of_one space ys else of_one space ys)
+    go : (b : Bool) → Kin (of_one space xs) (of_one space ys) → Kin (when b then x ∷ of_one space xs else of_one space xs) (when b then x ∷ of_one space ys else of_one space ys)
     go true r = stays r
     go false r = r
 kin_one space (comes {d = d} {h = h} {xs = xs} {ys = ys} k) = go (eqb d.space space) (kin_one space k)
   where
-    go : (b : Bool) → Kin (of_one space xs) (of_one space ys) → Kin (of_one space xs) (if b then record { decl = d; spot = inserted h } ∷ of_one space ys else of_one space ys)
+    go : (b : Bool) → Kin (of_one space xs) (of_one space ys) → Kin (of_one space xs) (when b then record { decl = d; spot = inserted h } ∷ of_one space ys else of_one space ys)
     go true r = comes r
     go false r = r
 
 pub all_one : {P : Standing → Type 0} (space : ℕ) (xs : List Standing) → All P xs → All P (of_one space xs)
-unfolding of_one if◌then◌else◌
+unfolding of_one when◌then◌else◌
 all_one space [] a = done
 all_one {P} space (x ∷ xs) (h & a) = go (eqb x.decl.space space) (all_one space xs a)
   where
-    go : (b : Bool) → All P (of_one space xs) → All P (if b then x ∷ of_one space xs else of_one space xs)
+    go : (b : Bool) → All P (of_one space xs) → All P (when b then x ∷ of_one space xs else of_one space xs)
     go true r = h & r
     go false r = r
 
@@ -88,7 +88,7 @@ module _ (space : ℕ) where
       go false c e₁ e₂ = e₁
 
   pub first_inserted : (xs : List Located) (start n : ℕ) → reaches (search space Inserted start xs) (start + n) ≡ fresh_to (map standing (located_of xs space)) n
-  unfolding search reaches located_of if◌then◌else◌ fresh_to pick
+  unfolding search reaches located_of when◌then◌else◌ fresh_to pick
   first_inserted [] start n = refl
   first_inserted (x ∷ xs) start n =
       go (eqb x.standing.decl.space space) (is_fresh x.standing.decl.name) refl n (λ from m. first_inserted xs from m) (too_high xs (start + 1) start (omega arith))
@@ -110,7 +110,7 @@ module _ (space : ℕ) where
       go : (b c : Bool) → is_fresh x.standing.decl.name ≡ c → (n : ℕ) → ((from m : ℕ) → reaches (search space Inserted from xs) (from + m) ≡ fresh_to rest m)
           → reaches (search space Inserted (start + 1) xs) start ≡ false
           → reaches (pick (b && c) (FoundAt x.row start) (search space Inserted (pick b (start + 1) start) xs)) (start + n)
-          ≡ fresh_to (map standing (if b then x ∷ located_of xs space else located_of xs space)) n
+          ≡ fresh_to (map standing (when b then x ∷ located_of xs space else located_of xs space)) n
       go true true e n below none_here = let low : leb start (start + n) ≡ true = omega tests in low ∙ sym (found n e)
       go true false e n below none_here = past n e below none_here
       go false c e n below none_here = below start n
@@ -136,11 +136,11 @@ rise_from field at f a h no_more = no_more
 rise_from field at f a h (then_on {f = g} {a = b} k r) = then_on (after_on field at f a g b h k) r
 
 pub rise_one : (space : ℕ) {field at : ℕ} {xs : List Standing} → Rise field at xs → Rise field at (of_one space xs)
-unfolding of_one if◌then◌else◌
+unfolding of_one when◌then◌else◌
 rise_one space no_more = no_more
 rise_one space {field} {at} (then_on {f = f} {a = a} {d = d} {xs = xs} h r) = go (eqb d.space space) (rise_one space r)
   where
-    go : (b : Bool) → Rise f (suc a) (of_one space xs) → Rise field at (if b then record { decl = d; spot = original f a } ∷ of_one space xs else of_one space xs)
+    go : (b : Bool) → Rise f (suc a) (of_one space xs) → Rise field at (when b then record { decl = d; spot = original f a } ∷ of_one space xs else of_one space xs)
     go true q = then_on h q
     go false q = rise_from field at f a h q
 
@@ -158,7 +158,7 @@ rise_own n at [] r = next_field n at r
 rise_own n at (d ∷ ds) r = then_on {field = n} {at = at} {f = n} {a = at} (inr (refl, omega arith)) (rise_own n (suc at) ds r)
 
 pub rise_standings : (n : ℕ) (fs : Fields) → NoneInFields fs → Rise n 0 (standings n fs)
-unfolding standings if◌then◌else◌
+unfolding standings when◌then◌else◌
 rise_standings n end h = no_more
 rise_standings n (i ▸ fs) h = rw h.0 (rise_own n 0 (head_of i).decls (rise_standings (suc n) fs h.2))
 

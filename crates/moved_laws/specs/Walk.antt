@@ -7,7 +7,7 @@ use mathlib.Core.List.{List, [], ◌∷◌, ◌++◌, append_assoc, append-nil}
 use native.Mathlib.Omega.{arith}
 use Prim.Native.Nat.{ℕ, zero, suc, ◌+◌, ◌≤◌, ◌<◌}
 use Rattle.std.proofs.Math.ListN.{length, get_elem?, length-append}
-use Rattle.rules.specs.Tools.{if◌then◌else◌, ◌then◌}
+use Rattle.rules.specs.Tools.{when◌then◌else◌, ◌then◌}
 use Rattle.rules.specs.Versions.{RuleSet}
 use Rattle.rules.specs.Rows.{Row, Field, Open, Close, encode}
 use Rattle.rules.specs.Tree.{Operand, Head, Scope, scope, Fields, end, ◌▸◌, Item, plain, holds, head_of, flatten, fields_rows, item_rows, head_rows, decl_rows, operand_row, operand_rows, export_rows}
@@ -213,7 +213,7 @@ module _ (form out : List ℕ) (before : Scope) (run : Scope × ℕ) (rules : Ru
     original_goes : (G : ItemGone)
         → Gone f' (row + length (item_rows i)) (length (fields_rows fs)) G.to (moving (places_in f.level.way (suc n) fs)) (missing (places_in f.level.way (suc n) fs)) (row' + length (item_rows j) + length (fields_rows gs))
         → Gone f' row (length (item_rows i ++ fields_rows fs)) at (moving (places_in f.level.way n (i ▸ fs))) (missing (places_in f.level.way n (i ▸ fs))) (row' + length (item_rows j ++ fields_rows gs))
-    unfolding places_in if◌then◌else◌
+    unfolding places_in when◌then◌else◌
     original_goes G Q =
         let here = places_at f.level.way n 0 (head_of i).operands in
         let inside = places_inside (f.level.way ++ (n ∷ [])) i in

@@ -12,7 +12,7 @@ use borrow.Author.Tests.{ltb-false}
 use mir.Syntax.{w8}
 use mir.Val.{Fits}
 use Rattle.kit.specs.Out.{◌&◌}
-use Rattle.rules.specs.Tools.{if◌then◌else◌}
+use Rattle.rules.specs.Tools.{when◌then◌else◌}
 use Rattle.rules.specs.Versions.{Setting, all}
 use Rattle.rules.specs.Rows.{Row}
 use Rattle.rules.specs.Answer.{AnswerOf, refused, accepted, setting_of, answer, output}
@@ -56,27 +56,27 @@ module _ (form o m a : List ℕ) (lent : Lent) (i rows : ℕ) (asks : setting i 
 
   -- what is answered where the areas are large enough, and where they are not
   answers_roomy : enough ≡ true → answers ≡ moved_answer all form (rooms_of (held o m a))
-  unfolding moved_with if◌then◌else◌ rooms_of
+  unfolding moved_with when◌then◌else◌ rooms_of
   answers_roomy e = rw e
 
   answers_small : enough ≡ false → answers ≡ moved_answer all form (rooms_of (held [] m a))
-  unfolding moved_with if◌then◌else◌ rooms_of
+  unfolding moved_with when◌then◌else◌ rooms_of
   answers_small e = rw e
 
   leaves_roomy : enough ≡ true → leaves ≡ buffers all form (held o m a)
-  unfolding buffers_with if◌then◌else◌
+  unfolding buffers_with when◌then◌else◌
   leaves_roomy e = rw e
 
   leaves_small : enough ≡ false → leaves ≡ held o m a
-  unfolding buffers_with if◌then◌else◌
+  unfolding buffers_with when◌then◌else◌
   leaves_small e = rw e
 
   resolved_roomy : enough ≡ true → answer_with form (length o) lent ≡ answer all form (length o)
-  unfolding answer_with if◌then◌else◌
+  unfolding answer_with when◌then◌else◌
   resolved_roomy e = rw e
 
   resolved_small : enough ≡ false → answer_with form (length o) lent ≡ answer all form (length {A = ℕ} [])
-  unfolding answer_with if◌then◌else◌
+  unfolding answer_with when◌then◌else◌
   resolved_small e = rw e
 
   -- the lists have no room
@@ -124,11 +124,11 @@ module _ (form o m a : List ℕ) (lent : Lent) (i rows : ℕ) (asks : setting i 
       told_small e = told ∙ ap (λ (s : Said). s.plain) (said ∙ ap resolved.ruled (resolved_small e))
 
       left_roomy : enough ≡ true → o' ≡ output all form o
-      unfolding output_with if◌then◌else◌
+      unfolding output_with when◌then◌else◌
       left_roomy e = rw e at left
 
       left_small : enough ≡ false → o' ≡ o
-      unfolding output_with if◌then◌else◌
+      unfolding output_with when◌then◌else◌
       left_small e = rw e at left
 
       -- the resolver refuses

@@ -3,7 +3,7 @@
 use Rattle.std.specs.Prelude.{Bool, false, ◌&&◌, not, List, [], ◌∷◌, ◌++◌, ℕ, suc, eqb, leb}
 use Rattle.std.proofs.Math.Option.{Option, none, some, map}
 use Rattle.std.proofs.Math.ListN.{get_elem?}
-use Rattle.rules.specs.Tools.{if◌then◌else◌, only, ◌then◌, is_just}
+use Rattle.rules.specs.Tools.{when◌then◌else◌, only, ◌then◌, is_just}
 use Rattle.rules.specs.Rows.{Num, Id}
 use Rattle.rules.specs.Tree.{Operand, ref, outer, case, Scope, scope, Fields, end, ◌▸◌, Item, plain, holds, head_of}
 use Rattle.rules.specs.Answer.{same_numbers}
@@ -23,7 +23,7 @@ unfoldable mutual
   pub places_in : (way : List ℕ) (n : ℕ) → Fields → List Place
   places_in way n end = []
   places_in way n (i ▸ fs) =
-      if is_inserted (head_of i) then places_in way n fs
+      when is_inserted (head_of i) then places_in way n fs
       else places_at way n 0 (head_of i).operands ++ (places_inside (way ++ (n ∷ [])) i ++ places_in way (suc n) fs)
 
   -- of the scope that a field holds, if it holds one
@@ -54,7 +54,7 @@ names_to (n ∷ way) (scope kind name fs) outside = get_elem? (originals fs) n t
 -- the innermost scope of that name: how far out
 unfoldable pub nearest_named : List ℕ → (name : ℕ) → Option ℕ
 nearest_named [] name = none
-nearest_named (m ∷ ms) name = if eqb m name then some 0 else map suc (nearest_named ms name)
+nearest_named (m ∷ ms) name = when eqb m name then some 0 else map suc (nearest_named ms name)
 
 -- A written number: how many scopes out it is counted, 0 for its own; the space; the number. `z` is the place of its row.
 pub record Written : Type 0 where
@@ -65,7 +65,7 @@ pub record Written : Type 0 where
 
 -- the space of the instance that a path to an item of `space` starts from
 unfoldable pub instance_space : ℕ → ℕ
-instance_space space = if leb space 6 then 6 else 10
+instance_space space = when leb space 6 then 6 else 10
 
 -- The number written in an operand. In a REF, also a here_only_lem one: with PATHs it is that of the first inserted alias's instance. In an OUTER: its index.
 -- `names` are those of the scopes around it.

@@ -1,7 +1,7 @@
 -- R-1 on bytes: the answer for an input with the two lists, and what the three buffers then hold.
 use Rattle.std.specs.Prelude.{Bool, ◌||◌, not, List, [], ◌∷◌, ◌++◌, ℕ, ◌+◌, ◌*◌, eqb, ltb, length}
 use Rattle.std.proofs.Math.Option.{Option, none, some}
-use Rattle.rules.specs.Tools.{if◌then◌else◌, between}
+use Rattle.rules.specs.Tools.{when◌then◌else◌, between}
 use Rattle.rules.specs.Versions.{RuleSet, Setting}
 use Rattle.rules.specs.Rows.{bytes, Row}
 use Rattle.rules.specs.Tree.{Scope, flatten, RowsRead, bad, deep, form}
@@ -46,8 +46,8 @@ too_short v rows rooms = ltb rooms.out (v.version.header + 64 * rows) || (ltb ro
 unfoldable pub moved_in : Setting → (input : List ℕ) → Rooms → MovedAnswer
 moved_in v input rooms =
     let rows = row_count v.version input in
-    if not (between 1 v.version.rows rows) || not (eqb (length input) (v.version.header + 16 * rows)) then refused 2 0 []
-    else if too_short v rows rooms then refused 3 0 []
+    when not (between 1 v.version.rows rows) || not (eqb (length input) (v.version.header + 16 * rows)) then refused 2 0 []
+    else when too_short v rows rooms then refused 3 0 []
     else of_reading v.rules (read v.rules v.version.scopes (rows_in v input))
 
 -- the answer under this setting; refusal 1, if the header is not that of any

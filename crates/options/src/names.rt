@@ -1,7 +1,7 @@
 // The file of names that an option gives, read and looked through.
 use crate::given::Options;
 use files::host::{Host, arg};
-use files::parts::front;
+use files::path_parts::front;
 use files::read::{Loaded, load};
 use name_file::wrong_line;
 use words::{say, say_number};

@@ -3,7 +3,7 @@ use Rattle.std.specs.Prelude.{◌≡◌, refl, Bool, true, false, List, [], ◌�
 use Rattle.std.proofs.Common.{ap, sym, ◌∙◌, subst, arith}
 use Rattle.std.proofs.Math.Option.{Option, some}
 use Rattle.std.proofs.Math.ListN.{get_elem?}
-use Rattle.rules.specs.Tools.{if◌then◌else◌, ◌then◌}
+use Rattle.rules.specs.Tools.{when◌then◌else◌, ◌then◌}
 use Rattle.rules.specs.Tree.{Declaration, Head, Scope, Fields, end, ◌▸◌, Item, head_of, item_rows}
 use Rattle.rules.specs.Readings
 use Rattle.rules.specs.Readings.{is_inserted, Place, level, Spot, original, inserted, in_original, in_inserted, place}
@@ -67,7 +67,7 @@ LocatedIn row n fs x = SpotAt row n fs x.standing.spot x.standing.decl x.row
 
 own_original : (row n m : ℕ) (i : Item) (fs : Fields) (ds : List Declaration) → is_inserted (head_of i) ≡ false → ((k : ℕ) → get_elem? (head_of i).decls (m + k) ≡ get_elem? ds k)
     → All (LocatedIn row n (i ▸ fs)) (in_rows (suc (row + m)) (in_original n m ds))
-unfolding in_rows in_original originals_from if◌then◌else◌
+unfolding in_rows in_original originals_from when◌then◌else◌
 own_original row n m i fs [] b h = done
 own_original row n m i fs (d ∷ ds) b h =
     let first : get_elem? (head_of i).decls m ≡ some d = ap (get_elem? (head_of i).decls) (omega arith) ∙ h 0 in
@@ -83,18 +83,18 @@ own_inserted row n r fs h [] = done
 own_inserted row n r fs h (d ∷ ds) = tt & own_inserted row n (suc r) fs h ds
 
 behind_original : (row n : ℕ) (i : Item) (fs : Fields) → is_inserted (head_of i) ≡ false → (s : Spot) (d : Declaration) (r : ℕ) → SpotAt (row + length (item_rows i)) (suc n) fs s d r → SpotAt row n (i ▸ fs) s d r
-unfolding originals_from if◌then◌else◌
+unfolding originals_from when◌then◌else◌
 behind_original row n i fs b (original field at) d r (m, x, e₁, e₂, e₃, e₄) = (suc m, x, omega (arith, e₁), rw b e₂, e₃, e₄)
 behind_original row n i fs b (inserted h) d r t = tt
 
 behind_inserted : (row n : ℕ) (i : Item) (fs : Fields) → is_inserted (head_of i) ≡ true → (s : Spot) (d : Declaration) (r : ℕ) → SpotAt (row + length (item_rows i)) n fs s d r → SpotAt row n (i ▸ fs) s d r
-unfolding originals_from if◌then◌else◌
+unfolding originals_from when◌then◌else◌
 behind_inserted row n i fs b (original field at) d r (m, x, e₁, e₂, e₃, e₄) = (m, x, e₁, rw b e₂, e₃, e₄)
 behind_inserted row n i fs b (inserted h) d r t = tt
 
 -- so it is for every declaration of these fields
 pub located_in : (row n : ℕ) (fs : Fields) → All (LocatedIn row n fs) (located row n fs)
-unfolding located if◌then◌else◌
+unfolding located when◌then◌else◌
 located_in row n end = done
 located_in row n (i ▸ fs) = go (is_inserted (head_of i)) refl (λ k. located_in (row + length (item_rows i)) k fs)
   where
@@ -103,7 +103,7 @@ located_in row n (i ▸ fs) = go (is_inserted (head_of i)) refl (λ k. located_i
 
     go : (b : Bool) → is_inserted (head_of i) ≡ b → ((k : ℕ) → All (LocatedIn (row + length (item_rows i)) k fs) (located (row + length (item_rows i)) k fs))
         → All (LocatedIn row n (i ▸ fs))
-        (in_rows (suc row) (if b then in_inserted (head_of i) (head_of i).decls else in_original n 0 (head_of i).decls) ++ located (row + length (item_rows i)) (if b then n else suc n) fs)
+        (in_rows (suc row) (when b then in_inserted (head_of i) (head_of i).decls else in_original n 0 (head_of i).decls) ++ located (row + length (item_rows i)) (when b then n else suc n) fs)
     go true b below =
         all_append _ _ (own_inserted row n (suc row) (i ▸ fs) (head_of i) (head_of i).decls)
         (all_map _ (λ x. behind_inserted row n i fs b x.standing.spot x.standing.decl x.row) (below n))

@@ -3,7 +3,7 @@ use Rattle.std.specs.Prelude.{◌≡◌, refl, Bool, true, false, List, [], ◌�
 use Rattle.std.proofs.Common.{ap, sym, ◌∙◌, subst, append_assoc, append-nil, arith, length-append}
 use Rattle.std.proofs.Math.Option.{Option, some}
 use Rattle.std.proofs.Math.ListN.{get_elem?}
-use Rattle.rules.specs.Tools.{if◌then◌else◌, ◌then◌}
+use Rattle.rules.specs.Tools.{when◌then◌else◌, ◌then◌}
 use Rattle.rules.specs.Rows.{Row, Field, Decl, Ref, Outer, Case, Open, Close}
 use Rattle.rules.specs.Tree.{Declaration, Operand, ref, outer, case, Head, Scope, scope, Fields, end, ◌▸◌, Item, plain, holds, head_of, flatten, fields_rows, item_rows, head_rows, decl_rows, operand_row, operand_rows, export_rows}
 use Rattle.rules.specs.Readings
@@ -68,14 +68,14 @@ from_behind xs ys {n} {part} F =
 
 -- the rows of an original field stand, among those of its scope's fields, where its row says
 pub original_from : (row : ℕ) (fs : Fields) (n : ℕ) (x : Placed) → get_elem? (originals_from row fs) n ≡ some x → (k : ℕ) × (x.row ≡ row + k) × From (fields_rows fs) k (item_rows x.item)
-unfolding originals_from if◌then◌else◌ flatten
+unfolding originals_from when◌then◌else◌ flatten
 original_from row end n x e = no_option x e
 original_from row (i ▸ fs) n x e = go (is_inserted (head_of i)) n e (λ m q. original_from (row + length (item_rows i)) fs m x q)
   where
     further : (k : ℕ) × (x.row ≡ (row + length (item_rows i)) + k) × From (fields_rows fs) k (item_rows x.item) → (k : ℕ) × (x.row ≡ row + k) × From (item_rows i ++ fields_rows fs) k (item_rows x.item)
     further (k, e, F) = (length (item_rows i) + k, omega (arith, e), from_behind (item_rows i) (fields_rows fs) F)
 
-    go : (b : Bool) (n : ℕ) → get_elem? (if b then originals_from (row + length (item_rows i)) fs else record { row = row; item = i } ∷ originals_from (row + length (item_rows i)) fs) n ≡ some x
+    go : (b : Bool) (n : ℕ) → get_elem? (when b then originals_from (row + length (item_rows i)) fs else record { row = row; item = i } ∷ originals_from (row + length (item_rows i)) fs) n ≡ some x
         → ((m : ℕ) → get_elem? (originals_from (row + length (item_rows i)) fs) m ≡ some x → (k : ℕ) × (x.row ≡ (row + length (item_rows i)) + k) × From (fields_rows fs) k (item_rows x.item))
         → (k : ℕ) × (x.row ≡ row + k) × From (item_rows i ++ fields_rows fs) k (item_rows x.item)
     go true n e below = further (below n e)
@@ -254,8 +254,8 @@ old_decls n m [] = refl
 old_decls n m (d ∷ ds) = ap {B = List Declaration} (λ l. d ∷ l) (old_decls n (suc m) ds)
 
 -- the declarations of a field, inserted or not, are its DECLs
-pub own_decls : (b : Bool) (n : ℕ) (h : Head) → decls_of (if b then in_inserted h h.decls else in_original n 0 h.decls) ≡ h.decls
-unfolding if◌then◌else◌
+pub own_decls : (b : Bool) (n : ℕ) (h : Head) → decls_of (when b then in_inserted h h.decls else in_original n 0 h.decls) ≡ h.decls
+unfolding when◌then◌else◌
 own_decls true n h = new_decls h h.decls
 own_decls false n h = old_decls n 0 h.decls
 
@@ -269,7 +269,7 @@ located_rows rows row n end F = done
 located_rows rows row n (i ▸ fs) F =
     let item : From rows (row + 0) (item_rows i) = from_part F (from_first (item_rows i) (fields_rows fs)) in
     let head = from_part item (from_part (item_first i) (head_decls (head_of i))) in
-    let own = if is_inserted (head_of i) then in_inserted (head_of i) (head_of i).decls else in_original n 0 (head_of i).decls in
+    let own = when is_inserted (head_of i) then in_inserted (head_of i) (head_of i).decls else in_original n 0 (head_of i).decls in
     let ds : From rows (suc row) (decl_rows (head_of i).decls) = subst (λ (m : ℕ). From rows m (decl_rows (head_of i).decls)) (omega arith) head in
     let rest : From rows (row + (length (item_rows i) + 0)) (fields_rows fs) =
     from_part F (from_behind (item_rows i) (fields_rows fs) (record { before = []; behind = []; are = sym (append-nil (fields_rows fs)); count = refl })) in

@@ -3,7 +3,7 @@ use Rattle.std.specs.Prelude.{◌≡◌, refl, Bool, true, false, List, [], ◌�
 use Rattle.std.proofs.Common.{ap, ap₂, sym, ◌∙◌, subst, arith, length-append}
 use Rattle.std.proofs.Math.Option.{some}
 use Rattle.std.proofs.Math.ListN.{get_elem?}
-use Rattle.rules.specs.Tools.{if◌then◌else◌, ◌then◌}
+use Rattle.rules.specs.Tools.{when◌then◌else◌, ◌then◌}
 use Rattle.rules.specs.Rows.{Row, Open, Close}
 use Rattle.rules.specs.Tree.{Declaration, Operand, ref, outer, case, Scope, scope, Fields, end, ◌▸◌, Item, plain, holds, head_of, flatten, fields_rows, item_rows, head_rows, operand_row, operand_rows}
 use Rattle.rules.specs.Readings
@@ -34,14 +34,14 @@ original_within row fs n x e =
 -- a later field begins where an earlier one has ended
 original_order : (row : ℕ) (fs : Fields) (n m : ℕ) (x y : Placed) → get_elem? (originals_from row fs) n ≡ some x → get_elem? (originals_from row fs) m ≡ some y → n < m
     → x.row + length (item_rows x.item) ≤ y.row
-unfolding originals_from if◌then◌else◌
+unfolding originals_from when◌then◌else◌
 original_order row end n m x y e₁ e₂ h = no_option x e₁
 original_order row (i ▸ fs) n m x y e₁ e₂ h = go (is_inserted (head_of i)) n m e₁ e₂ h (λ n m p q l. original_order (row + length (item_rows i)) fs n m x y p q l)
   where
     rest : List Placed
     rest = originals_from (row + length (item_rows i)) fs
 
-    go : (b : Bool) (n m : ℕ) → get_elem? (if b then rest else record { row = row; item = i } ∷ rest) n ≡ some x → get_elem? (if b then rest else record { row = row; item = i } ∷ rest) m ≡ some y → n < m
+    go : (b : Bool) (n m : ℕ) → get_elem? (when b then rest else record { row = row; item = i } ∷ rest) n ≡ some x → get_elem? (when b then rest else record { row = row; item = i } ∷ rest) m ≡ some y → n < m
         → ((n m : ℕ) → get_elem? rest n ≡ some x → get_elem? rest m ≡ some y → n < m → x.row + length (item_rows x.item) ≤ y.row)
         → x.row + length (item_rows x.item) ≤ y.row
     go true n m e₁ e₂ h below = below n m e₁ e₂ h

@@ -4,7 +4,7 @@ use Rattle.std.proofs.Common.{ap, sym, ◌∙◌}
 use Rattle.std.proofs.Math.Option
 use Rattle.std.proofs.Math.Option.{Option, none, some}
 use Rattle.std.proofs.Math.ListN.{get_elem?}
-use Rattle.rules.specs.Tools.{if◌then◌else◌, ◌then◌}
+use Rattle.rules.specs.Tools.{when◌then◌else◌, ◌then◌}
 use Rattle.rules.specs.Tree.{Scope, Fields, end, ◌▸◌, Item, head_of, item_rows}
 use Rattle.rules.specs.Readings
 use Rattle.rules.specs.Readings.{is_inserted, originals, Level, level, Standing, Spot, in_original, in_inserted, standings, of_space, counted}
@@ -37,13 +37,13 @@ items ps = map (λ (p : Placed). p.item) ps
 
 -- with their rows left out, the original fields are those of the readings
 pub originals_from_lem : (row : ℕ) (fs : Fields) → items (originals_from row fs) ≡ originals fs
-unfolding originals_from originals if◌then◌else◌
+unfolding originals_from originals when◌then◌else◌
 originals_from_lem row end = refl
 originals_from_lem row (i ▸ fs) = go (is_inserted (head_of i)) (originals_from_lem (row + length (item_rows i)) fs)
   where
     go : (b : Bool) → items (originals_from (row + length (item_rows i)) fs) ≡ originals fs
-        → items (if b then originals_from (row + length (item_rows i)) fs else record { row = row; item = i } ∷ originals_from (row + length (item_rows i)) fs)
-        ≡ (if b then originals fs else i ∷ originals fs)
+        → items (when b then originals_from (row + length (item_rows i)) fs else record { row = row; item = i } ∷ originals_from (row + length (item_rows i)) fs)
+        ≡ (when b then originals fs else i ∷ originals fs)
     go true e = e
     go false e = ap {B = List Item} (λ l. i ∷ l) e
 
@@ -93,18 +93,18 @@ located_standings row n (i ▸ fs) =
     ∙ ap {B = List Standing} (λ l. own ++ l) (located_standings (row + length (item_rows i)) next fs))
   where
     own : List Standing
-    own = if is_inserted (head_of i) then in_inserted (head_of i) (head_of i).decls else in_original n 0 (head_of i).decls
+    own = when is_inserted (head_of i) then in_inserted (head_of i) (head_of i).decls else in_original n 0 (head_of i).decls
 
     next : ℕ
-    next = if is_inserted (head_of i) then n else suc n
+    next = when is_inserted (head_of i) then n else suc n
 
 -- what holds of all holds of those of a space
 pub of_space_all : {P : Located → Type 0} (xs : List Located) (space : ℕ) → All P xs → All P (located_of xs space)
-unfolding located_of if◌then◌else◌
+unfolding located_of when◌then◌else◌
 of_space_all [] space a = done
 of_space_all {P} (x ∷ xs) space (h & a) = go (eqb x.standing.decl.space space) (of_space_all xs space a)
   where
-    go : (b : Bool) → All P (located_of xs space) → All P (if b then x ∷ located_of xs space else located_of xs space)
+    go : (b : Bool) → All P (located_of xs space) → All P (when b then x ∷ located_of xs space else located_of xs space)
     go true r = h & r
     go false r = r
 
@@ -113,12 +113,12 @@ abbrev pub spot_of : Located → Spot
 spot_of x = x.standing.spot
 
 of_space_lem : (xs : List Located) (space : ℕ) → map spot_of (located_of xs space) ≡ of_space (map standing xs) space
-unfolding located_of of_space if◌then◌else◌
+unfolding located_of of_space when◌then◌else◌
 of_space_lem [] space = refl
 of_space_lem (x ∷ xs) space = go (eqb x.standing.decl.space space) (of_space_lem xs space)
   where
     go : (b : Bool) → map spot_of (located_of xs space) ≡ of_space (map standing xs) space
-        → map spot_of (if b then x ∷ located_of xs space else located_of xs space) ≡ (if b then x.standing.spot ∷ of_space (map standing xs) space else of_space (map standing xs) space)
+        → map spot_of (when b then x ∷ located_of xs space else located_of xs space) ≡ (when b then x.standing.spot ∷ of_space (map standing xs) space else of_space (map standing xs) space)
     go true e = ap {B = List Spot} (λ l. x.standing.spot ∷ l) e
     go false e = e
 

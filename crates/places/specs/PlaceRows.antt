@@ -4,7 +4,7 @@
 use Rattle.std.proofs.Math.Option.{Option, none, some}
 use Rattle.std.specs.Prelude.{List, [], ◌∷◌, ◌++◌, ℕ, suc, ◌+◌, eqb, length, take}
 use Rattle.std.proofs.Math.ListN.{get_elem?}
-use Rattle.rules.specs.Tools.{if◌then◌else◌, ◌then◌}
+use Rattle.rules.specs.Tools.{when◌then◌else◌, ◌then◌}
 use Rattle.rules.specs.Tree.{Declaration, Operand, Scope, Fields, end, ◌▸◌, Item, head_of, operand_rows, head_rows, item_rows}
 use Rattle.rules.specs.Readings.{is_inserted, Place, Level, level, held, root, Standing, in_original, in_inserted}
 
@@ -20,7 +20,7 @@ unfoldable pub originals_from : (row : ℕ) → Fields → List Placed
 originals_from row end = []
 originals_from row (i ▸ fs) =
     let rest = originals_from (row + length (item_rows i)) fs in
-    if is_inserted (head_of i) then rest else record { row = row; item = i } ∷ rest
+    when is_inserted (head_of i) then rest else record { row = row; item = i } ∷ rest
 
 -- a scope, and the row of its first field: the one behind its OPEN
 pub record Floor : Type 0 where
@@ -100,13 +100,13 @@ unfoldable pub located : (row n : ℕ) → Fields → List Located
 located row n end = []
 located row n (i ▸ fs) =
     let h = head_of i in
-    in_rows (suc row) (if is_inserted h then in_inserted h h.decls else in_original n 0 h.decls)
-    ++ located (row + length (item_rows i)) (if is_inserted h then n else suc n) fs
+    in_rows (suc row) (when is_inserted h then in_inserted h h.decls else in_original n 0 h.decls)
+    ++ located (row + length (item_rows i)) (when is_inserted h then n else suc n) fs
 
 -- those of one space, in order
 unfoldable pub located_of : List Located → (space : ℕ) → List Located
 located_of [] space = []
-located_of (x ∷ xs) space = if eqb x.standing.decl.space space then x ∷ located_of xs space else located_of xs space
+located_of (x ∷ xs) space = when eqb x.standing.decl.space space then x ∷ located_of xs space else located_of xs space
 
 -- the n-th declaration of a space in a scope, as `counted` finds it, with its row
 unfoldable pub counted_row : Floor → (space n : ℕ) → Option Located

@@ -1,6 +1,6 @@
 -- A form by itself, with no step taken on it: its tree, or refusal 1, 2, 4 or 5. No output is written, so that 3 plays no part.
 use Rattle.std.specs.Prelude.{◌||◌, not, List, [], ℕ, ◌+◌, ◌*◌, eqb, length}
-use Rattle.rules.specs.Tools.{if◌then◌else◌, between}
+use Rattle.rules.specs.Tools.{when◌then◌else◌, between}
 use Rattle.rules.specs.Versions.{Setting}
 use Rattle.rules.specs.Tree.{Scope, RowsRead, bad, deep, form}
 use Rattle.rules.specs.Reader.{read}
@@ -23,8 +23,8 @@ unfoldable pub read_form : Setting → List ℕ → AnswerOf Scope
 read_form s input =
     let v = s.version in
     let rows = row_count v input in
-    if not (has_header s input) then refused 1 0 []
-    else if not (between 1 v.rows rows) || not (eqb (length input) (v.header + 16 * rows)) then refused 2 0 []
+    when not (has_header s input) then refused 1 0 []
+    else when not (between 1 v.rows rows) || not (eqb (length input) (v.header + 16 * rows)) then refused 2 0 []
     else as_answer (read s.rules v.scopes (rows_in s input))
 
 -- Unfolds all of this module: for a claim that antt computes.

@@ -9,7 +9,7 @@ use mathlib.Core.List.{List, [], ◌∷◌, ◌++◌}
 use Prim.Native.Nat.{ℕ, zero, suc, ◌+◌}
 use Rattle.std.proofs.Math.ListN.{length, get_elem?}
 use Rattle.kit.specs.Pick.{pick}
-use Rattle.rules.specs.Tools.{if◌then◌else◌, ◌then◌}
+use Rattle.rules.specs.Tools.{when◌then◌else◌, ◌then◌}
 use Rattle.rules.specs.Versions.{RuleSet}
 use Rattle.rules.specs.Rows.{Index, Num, Id}
 use Rattle.rules.specs.Tree.{Declaration, Operand, ref, outer, case, Head, Scope, scope, Fields, end, ◌▸◌, Item, plain, holds, head_of, item_rows}
@@ -102,7 +102,7 @@ new_count h row (d ∷ ds) c = c & new_count h (suc row) ds c
 
 module _ (rules : RuleSet) where
   numbered_count : (fs : Fields) (kind n row : ℕ) → GoodFields rules fs kind → NumberedFields fs → All (λ (x : Located). Counts (spot_of x)) (located row n fs)
-  unfolding located if◌then◌else◌
+  unfolding located when◌then◌else◌
   numbered_count end kind n row g m = done
   numbered_count (i ▸ fs) kind n row g m =
       go (is_inserted (head_of i)) (λ c. of_numbers (head_of i).operands (numbered_own i m.0) (alias_outer rules (head_of i) kind (good_head rules i kind g.0) c))
@@ -110,7 +110,7 @@ module _ (rules : RuleSet) where
     where
       go : (b : Bool) → ((head_of i).code ≡ 11 → OfNumbers (head_of i).operands) → ((k : ℕ) → All (λ (x : Located). Counts (spot_of x)) (located (row + length (item_rows i)) k fs))
           → All (λ (x : Located). Counts (spot_of x))
-          (in_rows (suc row) (if b then in_inserted (head_of i) (head_of i).decls else in_original n 0 (head_of i).decls) ++ located (row + length (item_rows i)) (if b then n else suc n) fs)
+          (in_rows (suc row) (when b then in_inserted (head_of i) (head_of i).decls else in_original n 0 (head_of i).decls) ++ located (row + length (item_rows i)) (when b then n else suc n) fs)
       go true c below = all_append _ _ (new_count (head_of i) (suc row) (head_of i).decls c) (below n)
       go false c below = all_append _ _ (old_count (suc row) n 0 (head_of i).decls) (below (suc n))
 
@@ -156,7 +156,7 @@ module _ (s : Scope) (fs : List Floor) (own : All (AtItsWay s) fs) where
 
   agree_behind : (f : Floor) (space n : ℕ) (x : Located) (m : Meaning) → get_elem? fs 0 ≡ some f → counted_row f space n ≡ some x → (spot : Spot) → spot_of x ≡ spot → Counts spot
       → Agree s fs (Readings.meant (levels fs) f.level spot) (said_behind fs spot (said (some x) n 0) m)
-  unfolding Readings.meant said_behind if◌then◌else◌
+  unfolding Readings.meant said_behind when◌then◌else◌
   agree_behind f space n x m e q (original field at) t c = agree_spot f 0 space n x e q (original field at) t
   agree_behind f space n x m e q (inserted h) t c = go (eqb h.code 11) refl
     where
@@ -164,7 +164,7 @@ module _ (s : Scope) (fs : List Floor) (own : All (AtItsWay s) fs) where
       itself = unfold place in agree_spot f 0 space n x e q (inserted h) t
 
       go : (b : Bool) → eqb h.code 11 ≡ b
-          → Agree s fs (if b then counted_out (levels fs) h.operands else none) (if b then said_out fs h.operands m else said (some x) n 0)
+          → Agree s fs (when b then counted_out (levels fs) h.operands else none) (when b then said_out fs h.operands m else said (some x) n 0)
       go true b = agree_out h.operands m (c (eqb-true h.code 11 b))
       go false b = itself
 

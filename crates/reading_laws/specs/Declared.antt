@@ -5,7 +5,7 @@ use Rattle.std.proofs.Math.Path.{subst}
 use Rattle.std.proofs.Math.Option.{Option, none, some}
 use Rattle.std.proofs.Math.ListN.{get_elem?}
 use Rattle.kit.specs.Pick.{pick}
-use Rattle.rules.specs.Tools.{if◌then◌else◌}
+use Rattle.rules.specs.Tools.{when◌then◌else◌}
 use Rattle.rules.specs.Rows.{encode}
 use Rattle.rules.specs.Tree.{Declaration, Head, Scope, Fields, end, ◌▸◌, head_of, item_rows, flatten}
 use Rattle.rules.specs.Readings.{is_inserted, Place, Level, Spot, original, inserted, in_original, in_inserted, place}
@@ -66,12 +66,12 @@ the_place s fs d m none e nothing = no_option d e
 -- ---- what is counted
 
 space_is : (xs : List Located) (space : ℕ) → All (λ (x : Located). x.standing.decl.space ≡ space) (located_of xs space)
-unfolding located_of if◌then◌else◌
+unfolding located_of when◌then◌else◌
 space_is [] space = done
 space_is (x ∷ xs) space = go (eqb x.standing.decl.space space) refl (space_is xs space)
   where
     go : (b : Bool) → eqb x.standing.decl.space space ≡ b → All (λ (x : Located). x.standing.decl.space ≡ space) (located_of xs space)
-        → All (λ (x : Located). x.standing.decl.space ≡ space) (if b then x ∷ located_of xs space else located_of xs space)
+        → All (λ (x : Located). x.standing.decl.space ≡ space) (when b then x ∷ located_of xs space else located_of xs space)
     go true e a = eqb-true _ space e & a
     go false e a = a
 
@@ -94,13 +94,13 @@ all_new h row [] e = done
 all_new h row (d ∷ ds) e = e & all_new h (suc row) ds e
 
 located_new : (row n : ℕ) (fs : Fields) → All (λ (x : Located). New (spot_of x)) (located row n fs)
-unfolding located if◌then◌else◌
+unfolding located when◌then◌else◌
 located_new row n end = done
 located_new row n (i ▸ fs) = go (is_inserted (head_of i)) refl (λ k. located_new (row + length (item_rows i)) k fs)
   where
     go : (b : Bool) → is_inserted (head_of i) ≡ b → ((k : ℕ) → All (λ (x : Located). New (spot_of x)) (located (row + length (item_rows i)) k fs))
         → All (λ (x : Located). New (spot_of x))
-        (in_rows (suc row) (if b then in_inserted (head_of i) (head_of i).decls else in_original n 0 (head_of i).decls) ++ located (row + length (item_rows i)) (if b then n else suc n) fs)
+        (in_rows (suc row) (when b then in_inserted (head_of i) (head_of i).decls else in_original n 0 (head_of i).decls) ++ located (row + length (item_rows i)) (when b then n else suc n) fs)
     go true e below = all_append _ _ (all_new (head_of i) (suc row) (head_of i).decls e) (below n)
     go false e below = all_append _ _ (old_new (suc row) n 0 (head_of i).decls) (below (suc n))
 

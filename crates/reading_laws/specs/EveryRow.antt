@@ -3,7 +3,7 @@ use Rattle.std.specs.Prelude.{◌≡◌, refl, false, ◌⊎◌, List, [], ◌�
 use Rattle.std.proofs.Common.{ap, sym, ◌∙◌, subst, inl, inr, arith, length-append}
 use Rattle.std.proofs.Math.Option.{Option, none, some}
 use Rattle.std.proofs.Math.ListN.{get_elem?}
-use Rattle.rules.specs.Tools.{if◌then◌else◌, ◌then◌}
+use Rattle.rules.specs.Tools.{when◌then◌else◌, ◌then◌}
 use Rattle.rules.specs.Rows.{Row, Field, Open, Close, encode}
 use Rattle.rules.specs.Tree.{Declaration, Operand, ref, outer, case, Head, Scope, scope, Fields, end, ◌▸◌, Item, plain, holds, head_of, flatten, fields_rows, item_rows, head_rows, decl_rows, path_rows, operand_row, operand_rows, export_rows}
 use Rattle.rules.specs.Readings.{is_inserted, Place, level, held, root}
@@ -115,11 +115,11 @@ pub data Somewhere : (row : ℕ) → Fields → (k : ℕ) → Type 0 where
   inside : {row : ℕ} {fs : Fields} {k : ℕ} (m : ℕ) (x : Placed) (gs : Fields) (j : ℕ) → get_elem? (originals_from row fs) m ≡ some x → held x.item ≡ some gs → inside_of x + j ≡ row + k → Somewhere (inside_of x) gs j → Somewhere row fs k
 
 first_there : (row : ℕ) (i : Item) (fs : Fields) → is_inserted (head_of i) ≡ false → get_elem? (originals_from row (i ▸ fs)) 0 ≡ some (record { row = row; item = i })
-unfolding originals_from if◌then◌else◌
+unfolding originals_from when◌then◌else◌
 first_there row i fs e = rw e
 
 next_there : (row : ℕ) (i : Item) (fs : Fields) (m : ℕ) → is_inserted (head_of i) ≡ false → get_elem? (originals_from row (i ▸ fs)) (suc m) ≡ get_elem? (originals_from (row + length (item_rows i)) fs) m
-unfolding originals_from if◌then◌else◌
+unfolding originals_from when◌then◌else◌
 next_there row i fs m e = rw e
 
 later : (row : ℕ) (i : Item) (fs : Fields) (k j : ℕ) → is_inserted (head_of i) ≡ false → k ≡ length (item_rows i) + j → Somewhere (row + length (item_rows i)) fs j → Somewhere row (i ▸ fs) k

@@ -4,7 +4,7 @@ use Rattle.std.proofs.Math.Path.{subst}
 use Rattle.std.proofs.Math.Option.{some}
 use mathlib.Core.List.{List, [], ◌∷◌}
 use Rattle.std.proofs.Math.ListN.{length, get_elem?}
-use Rattle.rules.specs.Tools.{if◌then◌else◌, ◌then◌}
+use Rattle.rules.specs.Tools.{when◌then◌else◌, ◌then◌}
 use Rattle.rules.specs.Tree.{Scope, Fields, end, ◌▸◌, Item, head_of, item_rows}
 use Rattle.rules.specs.Readings.{is_inserted, fields_of, held, root}
 use Rattle.rules.specs.Laws.ToolLaws.{then_some, All, done, ◌&◌}
@@ -15,14 +15,14 @@ use Rattle.places.specs.PlaceRows.{Placed, originals_from, Floor, floors, floors
 module _ (P : Fields → Type 0) (Q : Item → Type 0) (first : (i : Item) (fs : Fields) → P (i ▸ fs) → Q i) (rest : (i : Item) (fs : Fields) → P (i ▸ fs) → P fs)
     (inside : (i : Item) (gs : Fields) → Q i → held i ≡ some gs → P gs) where
   pub of_original : (row : ℕ) (fs : Fields) (n : ℕ) (x : Placed) → P fs → get_elem? (originals_from row fs) n ≡ some x → Q x.item
-  unfolding originals_from if◌then◌else◌
+  unfolding originals_from when◌then◌else◌
   of_original row end n x p e = no_option x e
   of_original row (i ▸ fs) n x p e = go (is_inserted (head_of i)) n e (λ m q. of_original (row + length (item_rows i)) fs m x (rest i fs p) q)
     where
       later : List Placed
       later = originals_from (row + length (item_rows i)) fs
 
-      go : (b : Bool) (n : ℕ) → get_elem? (if b then later else record { row = row; item = i } ∷ later) n ≡ some x → ((m : ℕ) → get_elem? later m ≡ some x → Q x.item) → Q x.item
+      go : (b : Bool) (n : ℕ) → get_elem? (when b then later else record { row = row; item = i } ∷ later) n ≡ some x → ((m : ℕ) → get_elem? later m ≡ some x → Q x.item) → Q x.item
       go true n e below = below n e
       go false zero e below = subst (λ (y : Placed). Q y.item) (some_same _ x e) (first i fs p)
       go false (suc n) e below = below n e

@@ -11,7 +11,7 @@ use Rattle.std.proofs.Math.Dec.{eqb}
 use Rattle.std.proofs.Math.ListN.{length, length-append}
 use Rattle.kit.specs.Pick.{pick}
 use Rattle.kit.proofs.Laws.{tests}
-use Rattle.rules.specs.Tools.{if◌then◌else◌}
+use Rattle.rules.specs.Tools.{when◌then◌else◌}
 use Rattle.rules.specs.Rows.{Row, Decl, Close, encode}
 use Rattle.rules.specs.Tree.{Declaration, Operand, ref, outer, case, Head, Scope, scope, Fields, end, ◌▸◌, Item, plain, holds, head_of, flatten, fields_rows, item_rows, head_rows, decl_rows, path_rows, operand_row, operand_rows, export_rows}
 use Rattle.rules.specs.Readings.{is_inserted, Standing, in_original, in_inserted}
@@ -213,8 +213,8 @@ module _ (form : List ℕ) (space : ℕ) (key : Key) where
   scan_fields end n row left number a = close_step row left number (ap code_part a.0)
   scan_fields (i ▸ fs) n row left number a =
       let rest = fields_rows fs ++ (Close ∷ []) in
-      let own = if is_inserted (head_of i) then in_inserted (head_of i) (head_of i).decls else in_original n 0 (head_of i).decls in
-      let next = if is_inserted (head_of i) then n else suc n in
+      let own = when is_inserted (head_of i) then in_inserted (head_of i) (head_of i).decls else in_original n 0 (head_of i).decls in
+      let next = when is_inserted (head_of i) then n else suc n in
       let split = append_assoc (item_rows i) (fields_rows fs) (Close ∷ []) in
       let all : At form row (item_rows i ++ rest) = subst (At form row) split a in
       let item = at_left form row (item_rows i) rest all in

@@ -6,7 +6,7 @@ use Rattle.std.proofs.Math.Option.{some}
 use mathlib.Core.List.{List, [], ◌∷◌, ◌++◌}
 use Prim.Native.Nat.{ℕ, zero, suc, ◌+◌, ◌≤◌}
 use Rattle.std.proofs.Math.ListN.{length, length-append, get_elem?}
-use Rattle.rules.specs.Tools.{if◌then◌else◌, ◌then◌}
+use Rattle.rules.specs.Tools.{when◌then◌else◌, ◌then◌}
 use Rattle.rules.specs.Rows.{Row, Open, Close, encode}
 use Rattle.rules.specs.Tree.{Scope, scope, Fields, end, ◌▸◌, Item, plain, holds, head_of, flatten, fields_rows, item_rows, head_rows}
 use Rattle.rules.specs.Readings.{is_inserted, level, held, root}
@@ -46,7 +46,7 @@ module _ (form : List ℕ) where
       }
 
   pub field_at : (row : ℕ) (fs : Fields) (n : ℕ) (x : Placed) → At form row (fields_rows fs) → get_elem? (originals_from row fs) n ≡ some x → FieldAt form row (length (fields_rows fs)) x
-  unfolding originals_from if◌then◌else◌ flatten
+  unfolding originals_from when◌then◌else◌ flatten
   field_at row end n x a e = no_option x e
   field_at row (i ▸ fs) n x a e =
       let rest : At form (row + length (item_rows i)) (fields_rows fs) = subst (λ (r : ℕ). At form r (fields_rows fs)) (behind_length row (item_rows i)) (at_right form row (item_rows i) (fields_rows fs) a) in
@@ -55,7 +55,7 @@ module _ (form : List ℕ) where
       later : List Placed
       later = originals_from (row + length (item_rows i)) fs
 
-      go : (b : Bool) (n : ℕ) → get_elem? (if b then later else record { row = row; item = i } ∷ later) n ≡ some x
+      go : (b : Bool) (n : ℕ) → get_elem? (when b then later else record { row = row; item = i } ∷ later) n ≡ some x
           → ((m : ℕ) → get_elem? later m ≡ some x → FieldAt form row (length (item_rows i ++ fields_rows fs)) x) → FieldAt form row (length (item_rows i ++ fields_rows fs)) x
       go true n e below = below n e
       go false zero e below =

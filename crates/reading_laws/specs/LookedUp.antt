@@ -13,7 +13,7 @@ use Rattle.std.proofs.Math.Dec.{eqb}
 use Rattle.std.proofs.Math.ListN.{get_elem?}
 use Rattle.kit.specs.Pick.{pick}
 use Rattle.kit.proofs.Laws.{yes!, no!, tests}
-use Rattle.rules.specs.Tools.{if◌then◌else◌, only, ◌then◌}
+use Rattle.rules.specs.Tools.{when◌then◌else◌, only, ◌then◌}
 use Rattle.rules.specs.Rows.{Ref, Outer, Num, Id, encode, flag, number}
 use Rattle.rules.specs.Tree.{Declaration, Operand, ref, outer, Scope, Fields, end, ◌▸◌, head_of}
 use Rattle.rules.specs.Shapes.{here_only}
@@ -60,7 +60,7 @@ decl_of x = x.standing.decl
 
 module _ (space name : ℕ) (is_name : eqb name 0 ≡ false) where
   find_none : (xs : List Located) (start : ℕ) → find (map decl_of xs) space name ≡ none → search space (Name name) start xs ≡ Nothing
-  unfolding search find if◌then◌else◌
+  unfolding search find when◌then◌else◌
   find_none [] start e = refl
   find_none (x ∷ xs) start e = go (eqb (decl_of x).space space) (eqb (decl_of x).name name) refl e (λ n q. find_none xs n q)
     where
@@ -69,7 +69,7 @@ module _ (space name : ℕ) (is_name : eqb name 0 ≡ false) where
       map_none (some n) e = no_option (suc n) (sym e)
 
       go : (b c : Bool) → eqb (decl_of x).name name ≡ c
-          → (if b then if c then some 0 else Option.map suc (find (map decl_of xs) space name) else find (map decl_of xs) space name) ≡ none
+          → (when b then when c then some 0 else Option.map suc (find (map decl_of xs) space name) else find (map decl_of xs) space name) ≡ none
           → ((n : ℕ) → find (map decl_of xs) space name ≡ none → search space (Name name) n xs ≡ Nothing)
           → pick (b && is_meant (Name name) (decl_of x).name start) (FoundAt x.row start) (search space (Name name) (pick b (start + 1) start) xs) ≡ Nothing
       go true true q e below = no_option 0 (sym e)
@@ -82,7 +82,7 @@ module _ (space name : ℕ) (is_name : eqb name 0 ≡ false) where
     finds : search space (Name name) start xs ≡ FoundAt x.row (start + n)
 
   find_some : (xs : List Located) (start n : ℕ) → find (map decl_of xs) space name ≡ some n → Finds start n xs (located_of xs space)
-  unfolding search find located_of if◌then◌else◌
+  unfolding search find located_of when◌then◌else◌
   find_some [] start n e = no_option n e
   find_some (x ∷ xs) start n e = go (eqb (decl_of x).space space) (eqb (decl_of x).name name) refl refl e (λ k m q. find_some xs k m q)
     where
@@ -91,9 +91,9 @@ module _ (space name : ℕ) (is_name : eqb name 0 ≡ false) where
       less (some m) n e = (m, refl, some_same (suc m) n e)
 
       go : (b c : Bool) → eqb (decl_of x).space space ≡ b → eqb (decl_of x).name name ≡ c
-          → (if b then if c then some 0 else Option.map suc (find (map decl_of xs) space name) else find (map decl_of xs) space name) ≡ some n
+          → (when b then when c then some 0 else Option.map suc (find (map decl_of xs) space name) else find (map decl_of xs) space name) ≡ some n
           → ((k m : ℕ) → find (map decl_of xs) space name ≡ some m → Finds k m xs (located_of xs space))
-          → Finds start n (x ∷ xs) (if b then x ∷ located_of xs space else located_of xs space)
+          → Finds start n (x ∷ xs) (when b then x ∷ located_of xs space else located_of xs space)
       go true true p q e below =
           let zeroth : 0 ≡ n = some_same 0 n e in
           let same : start ≡ start + n = omega (arith, zeroth) in
@@ -127,9 +127,9 @@ standing_decls : (n : ℕ) (fs : Fields) → decls_of (standings n fs) ≡ decla
 unfolding standings declarations
 standing_decls n end = refl
 standing_decls n (i ▸ fs) =
-    map-append (λ (s : Standing). s.decl) (if is_inserted (head_of i) then in_inserted (head_of i) (head_of i).decls else in_original n 0 (head_of i).decls) _
-    ∙ (ap (λ (l : List Declaration). l ++ decls_of (standings (if is_inserted (head_of i) then n else suc n) fs)) (own_decls (is_inserted (head_of i)) n (head_of i))
-    ∙ ap (λ (l : List Declaration). (head_of i).decls ++ l) (standing_decls (if is_inserted (head_of i) then n else suc n) fs))
+    map-append (λ (s : Standing). s.decl) (when is_inserted (head_of i) then in_inserted (head_of i) (head_of i).decls else in_original n 0 (head_of i).decls) _
+    ∙ (ap (λ (l : List Declaration). l ++ decls_of (standings (when is_inserted (head_of i) then n else suc n) fs)) (own_decls (is_inserted (head_of i)) n (head_of i))
+    ∙ ap (λ (l : List Declaration). (head_of i).decls ++ l) (standing_decls (when is_inserted (head_of i) then n else suc n) fs))
 
 decls_map : (xs : List Located) → map decl_of xs ≡ decls_of (map standing xs)
 decls_map [] = refl

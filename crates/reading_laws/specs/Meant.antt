@@ -6,7 +6,7 @@ use Rattle.std.proofs.Math.Option.{Option, none, some}
 use Rattle.std.proofs.Math.ListN.{get_elem?}
 use Rattle.kit.specs.Pick.{pick}
 use Rattle.kit.proofs.Laws.{tests}
-use Rattle.rules.specs.Tools.{if◌then◌else◌, ◌then◌}
+use Rattle.rules.specs.Tools.{when◌then◌else◌, ◌then◌}
 use Rattle.rules.specs.Rows.{Ref, Id, encode, flag, number}
 use Rattle.rules.specs.Tree.{Declaration, Operand, ref, Scope, scope, Fields, end, ◌▸◌, Item, plain, holds, head_of, item_rows, flatten}
 use Rattle.rules.specs.Shapes.{here_only}
@@ -53,7 +53,7 @@ old_rows row n at [] = done
 old_rows row n at (d ∷ ds) = tt & old_rows (suc row) n (suc at) ds
 
 none_inserted : (row n : ℕ) (fs : Fields) → LowFields fs → All (λ (x : Located). IsOriginal x.standing.spot) (located row n fs)
-unfolding located if◌then◌else◌
+unfolding located when◌then◌else◌
 none_inserted row n end l = done
 none_inserted row n (i ▸ fs) l =
     rw (low_original (head_of i) l.0.decls) (all_append _ _ (old_rows (suc row) n 0 (head_of i).decls) (none_inserted (row + length (item_rows i)) (suc n) fs l.2))

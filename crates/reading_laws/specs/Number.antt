@@ -11,7 +11,7 @@ use Rattle.std.proofs.Math.Dec.{eqb}
 use Rattle.std.proofs.Math.ListN.{get_elem?}
 use Rattle.kit.specs.Pick.{pick}
 use Rattle.kit.proofs.Laws.{yes!, no!, tests}
-use Rattle.rules.specs.Tools.{if◌then◌else◌, ◌then◌}
+use Rattle.rules.specs.Tools.{when◌then◌else◌, ◌then◌}
 use Rattle.rules.specs.Rows.{Outer, Num, encode, flag, number}
 use Rattle.rules.specs.Laws.Results.{some_same, no_option}
 use Rattle.places.specs.PlaceRows.{Floor, Located, located, located_of, counted_row}
@@ -32,12 +32,12 @@ use Rattle.reading_laws.specs.Outward.{first_wanted, scope_outward_lem, count_ou
 
 module _ (space : ℕ) where
   pub number_some : (xs : List Located) (n number : ℕ) (x : Located) → get_elem? (located_of xs space) n ≡ some x → search space (Number (number + n)) number xs ≡ FoundAt x.row (number + n)
-  unfolding search located_of if◌then◌else◌
+  unfolding search located_of when◌then◌else◌
   number_some [] n number x e = no_option x e
   number_some (y ∷ ys) n number x e =
       go (eqb y.standing.decl.space space) n e (λ m k q. number_some ys m k x q)
     where
-      go : (b : Bool) (n : ℕ) → get_elem? (if b then y ∷ located_of ys space else located_of ys space) n ≡ some x
+      go : (b : Bool) (n : ℕ) → get_elem? (when b then y ∷ located_of ys space else located_of ys space) n ≡ some x
           → ((m k : ℕ) → get_elem? (located_of ys space) m ≡ some x → search space (Number (k + m)) k ys ≡ FoundAt x.row (k + m))
           → pick (b && eqb (number + n) number) (FoundAt y.row number) (search space (Number (number + n)) (pick b (number + 1) number) ys) ≡ FoundAt x.row (number + n)
       go false n e below = sym (no! _ refl refl) ∙ (ap (λ (k : ℕ). search space (Number (number + n)) k ys) (sym (no! _ refl refl)) ∙ below n number e)
@@ -53,11 +53,11 @@ module _ (space : ℕ) where
           ∙ (ap (λ (k : ℕ). search space (Number k) (number + 1) ys) on ∙ (below n (number + 1) e ∙ ap (λ (k : ℕ). FoundAt x.row k) (sym on))))
 
   pub number_none : (xs : List Located) (n number : ℕ) → get_elem? (located_of xs space) n ≡ none → search space (Number (number + n)) number xs ≡ Nothing
-  unfolding search located_of if◌then◌else◌
+  unfolding search located_of when◌then◌else◌
   number_none [] n number e = refl
   number_none (y ∷ ys) n number e = go (eqb y.standing.decl.space space) n e (λ m k q. number_none ys m k q)
     where
-      go : (b : Bool) (n : ℕ) → get_elem? (if b then y ∷ located_of ys space else located_of ys space) n ≡ none
+      go : (b : Bool) (n : ℕ) → get_elem? (when b then y ∷ located_of ys space else located_of ys space) n ≡ none
           → ((m k : ℕ) → get_elem? (located_of ys space) m ≡ none → search space (Number (k + m)) k ys ≡ Nothing)
           → pick (b && eqb (number + n) number) (FoundAt y.row number) (search space (Number (number + n)) (pick b (number + 1) number) ys) ≡ Nothing
       go false n e below = sym (no! _ refl refl) ∙ (ap (λ (k : ℕ). search space (Number (number + n)) k ys) (sym (no! _ refl refl)) ∙ below n number e)

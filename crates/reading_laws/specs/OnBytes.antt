@@ -8,7 +8,7 @@ use mathlib.Core.List.{List, [], ◌∷◌, ◌++◌, map, append-nil}
 use Rattle.std.proofs.lemmas.List.{length-map}
 use Rattle.kit.specs.Pick.{pick}
 use Rattle.kit.proofs.Laws.{yes!, no!, tests, pick_has}
-use Rattle.rules.specs.Tools.{if◌then◌else◌, between, only, ◌or_else◌}
+use Rattle.rules.specs.Tools.{when◌then◌else◌, between, only, ◌or_else◌}
 use Rattle.rules.specs.Versions.{Setting, base, all, as_claimed}
 use Rattle.rules.specs.Rows.{Row, encode, Raw, raw, raw_bytes, bytes, encode_row}
 use Rattle.rules.specs.Tree.{Scope, flatten, form as tree}
@@ -91,10 +91,10 @@ form_long v rs h = omega (arith, length-append (Answer.header_bytes v (length rs
 
 -- an accepted input has the length that its header says
 long_enough : (v : Setting) (input : List ℕ) (room : ℕ) (t : Scope) → form_in [] v input room ≡ accepted t → length input ≡ v.version.header + 16 * row_count v.version input
-unfolding form_in if◌then◌else◌
+unfolding form_in when◌then◌else◌
 long_enough v input room t e = go (between 1 v.version.rows (row_count v.version input)) (eqb (length input) (v.version.header + 16 * row_count v.version input)) refl _ e
   where
-    go : (a b : Bool) → eqb (length input) (v.version.header + 16 * row_count v.version input) ≡ b → (rest : AnswerOf Scope) → (if not a || not b then refused 2 0 [] else rest) ≡ accepted t
+    go : (a b : Bool) → eqb (length input) (v.version.header + 16 * row_count v.version input) ≡ b → (rest : AnswerOf Scope) → (when not a || not b then refused 2 0 [] else rest) ≡ accepted t
         → length input ≡ v.version.header + 16 * row_count v.version input
     go true true q rest e = eqb-true _ _ q
     go true false q rest e = let no_way : ◌≡◌ {A = ℕ} 0 1 = cc in absurd (omega arith)

@@ -11,7 +11,7 @@ use Rattle.std.proofs.Math.Dec.{eqb}
 use Rattle.std.proofs.Math.ListN.{get_elem?}
 use Rattle.kit.specs.Pick.{pick}
 use Rattle.kit.proofs.Laws.{yes!, no!, tests, pick_has}
-use Rattle.rules.specs.Tools.{if◌then◌else◌, ◌then◌, ◌or_else◌}
+use Rattle.rules.specs.Tools.{when◌then◌else◌, ◌then◌, ◌or_else◌}
 use Rattle.rules.specs.Tree.{Scope}
 use Rattle.rules.specs.Readings
 use Rattle.rules.specs.Readings.{Place, Level, Standing, Spot, original, inserted, standings, first_named, place, declared}
@@ -138,7 +138,7 @@ module _ (space name : ℕ) (is_name : eqb name 0 ≡ false) where
   tested x number = ap (λ (b : Bool). eqb x.standing.decl.space space && b) (by_name_lem x.standing.decl.name number)
 
   pub named_none : (xs : List Located) (number : ℕ) → first_named (map standing xs) space name ≡ none → search space (Name name) number xs ≡ Nothing
-  unfolding search first_named if◌then◌else◌
+  unfolding search first_named when◌then◌else◌
   named_none [] number e = refl
   named_none (x ∷ xs) number e = go (eqb x.standing.decl.space space && eqb x.standing.decl.name name) refl e (λ n q. named_none xs n q)
     where
@@ -146,7 +146,7 @@ module _ (space name : ℕ) (is_name : eqb name 0 ≡ false) where
       rest = search space (Name name) (pick (eqb x.standing.decl.space space) (number + 1) number) xs
 
       go : (b : Bool) → (eqb x.standing.decl.space space && eqb x.standing.decl.name name) ≡ b
-          → (if b then some x.standing.spot else first_named (map standing xs) space name) ≡ none
+          → (when b then some x.standing.spot else first_named (map standing xs) space name) ≡ none
           → ((n : ℕ) → first_named (map standing xs) space name ≡ none → search space (Name name) n xs ≡ Nothing)
           → pick (eqb x.standing.decl.space space && is_meant (Name name) x.standing.decl.name number) (FoundAt x.row number) rest ≡ Nothing
       go true q e below = no_option x.standing.spot (sym e)
@@ -163,15 +163,15 @@ module _ (space name : ℕ) (is_name : eqb name 0 ≡ false) where
     pub finds : found ≡ FoundAt x.row (start + count)
 
   pub named_some : (xs : List Located) (start : ℕ) (spot : Spot) → first_named (map standing xs) space name ≡ some spot → Hit start (search space (Name name) start xs) xs (located_of xs space) spot
-  unfolding search first_named located_of if◌then◌else◌
+  unfolding search first_named located_of when◌then◌else◌
   named_some [] start spot e = no_option spot e
   named_some (x ∷ xs) start spot e = go (eqb x.standing.decl.space space) (eqb x.standing.decl.name name) refl e (λ n q. named_some xs n spot q)
     where
       go : (b c : Bool) → eqb x.standing.decl.name name ≡ c
-          → (if b && c then some x.standing.spot else first_named (map standing xs) space name) ≡ some spot
+          → (when b && c then some x.standing.spot else first_named (map standing xs) space name) ≡ some spot
           → ((n : ℕ) → first_named (map standing xs) space name ≡ some spot → Hit n (search space (Name name) n xs) xs (located_of xs space) spot)
           → Hit start (pick (b && is_meant (Name name) x.standing.decl.name start) (FoundAt x.row start) (search space (Name name) (pick b (start + 1) start) xs)) (x ∷ xs)
-          (if b then x ∷ located_of xs space else located_of xs space) spot
+          (when b then x ∷ located_of xs space else located_of xs space) spot
       go true true q e below =
           let same : start ≡ start + 0 = omega arith in
           record {

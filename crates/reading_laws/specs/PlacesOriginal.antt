@@ -8,7 +8,7 @@ use native.Mathlib.Omega.{arith}
 use Prim.Native.Nat.{ℕ, zero, suc, ◌+◌, ◌<◌}
 use Rattle.std.proofs.Math.Dec.{eqb}
 use Rattle.std.proofs.Math.ListN.{length, get_elem?}
-use Rattle.rules.specs.Tools.{if◌then◌else◌}
+use Rattle.rules.specs.Tools.{when◌then◌else◌}
 use Rattle.rules.specs.Versions.{RuleSet}
 use Rattle.rules.specs.Rows.{Row, Field, Close, encode}
 use Rattle.rules.specs.Tree.{Declaration, Operand, ref, outer, case, Head, Scope, Fields, end, ◌▸◌, Item, head_of, flatten, fields_rows, item_rows, head_rows, decl_rows, operand_row, operand_rows, export_rows}
@@ -101,7 +101,7 @@ module _ (form : List ℕ) where
     old : is_inserted (head_of x.item) ≡ false
 
   original_at : (fs : Fields) (row n : ℕ) (x : Placed) → At form row (fields_rows fs ++ (Close ∷ [])) → get_elem? (originals_from row fs) n ≡ some x → Original x
-  unfolding originals_from if◌then◌else◌ flatten
+  unfolding originals_from when◌then◌else◌ flatten
   original_at end row n x a e = no_option x e
   original_at (i ▸ fs) row n x a e =
       let all : At form row (item_rows i ++ (fields_rows fs ++ (Close ∷ []))) = subst (At form row) (append_assoc (item_rows i) (fields_rows fs) (Close ∷ [])) a in
@@ -112,7 +112,7 @@ module _ (form : List ℕ) where
       later_ones : List Placed
       later_ones = originals_from (row + length (item_rows i)) fs
 
-      go : (b : Bool) → is_inserted (head_of i) ≡ b → (n : ℕ) → get_elem? (if b then later_ones else record { row = row; item = i } ∷ later_ones) n ≡ some x
+      go : (b : Bool) → is_inserted (head_of i) ≡ b → (n : ℕ) → get_elem? (when b then later_ones else record { row = row; item = i } ∷ later_ones) n ≡ some x
           → At form row (item_rows i ++ (fields_rows fs ++ (Close ∷ []))) → ((m : ℕ) → get_elem? later_ones m ≡ some x → Original x) → Original x
       go true b n e all below = below n e
       go false b zero e all below = subst Original (some_same _ x e) (record { later = fs; rows = all; old = b })

@@ -3,7 +3,7 @@ use Rattle.std.proofs.Math.Option.{Option, none, some}
 use Rattle.std.specs.Prelude.{List, [], ◌∷◌, ℕ, zero, suc, eqb, ltb}
 use Rattle.std.proofs.Math.ListN.{get_elem?}
 use Rattle.kit.specs.Pick.{pick}
-use Rattle.rules.specs.Tools.{if◌then◌else◌}
+use Rattle.rules.specs.Tools.{when◌then◌else◌}
 use Rattle.rules.specs.Rows.{Num, Id}
 use Rattle.rules.specs.Tree.{Operand, ref, outer, case}
 use Rattle.rules.specs.Readings.{Spot, original, inserted}
@@ -35,7 +35,7 @@ said_out fs (case name z ∷ os) named = named
 -- Through an inserted outer alias; any other declaration is meant itself, an inserted one of another field too.
 unfoldable pub said_behind : List Floor → Spot → (itself named : Meaning) → Meaning
 said_behind fs (original field at) itself named = itself
-said_behind fs (inserted h) itself named = if eqb h.code 11 then said_out fs h.operands named else itself
+said_behind fs (inserted h) itself named = when eqb h.code 11 then said_out fs h.operands named else itself
 
 unfoldable pub said_end : List Floor → (named : Located → Meaning) → Option Located → (n out : ℕ) → Meaning
 said_end fs named none n out = Nowhere

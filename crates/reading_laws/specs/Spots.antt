@@ -9,7 +9,7 @@ use native.Mathlib.Omega.{arith}
 use Prim.Native.Nat.{ℕ, zero, suc, ◌+◌, ◌<◌}
 use Rattle.std.proofs.Math.Dec.{eqb}
 use Rattle.std.proofs.Math.ListN.{length, length-append, get_elem?}
-use Rattle.rules.specs.Tools.{if◌then◌else◌, ◌then◌}
+use Rattle.rules.specs.Tools.{when◌then◌else◌, ◌then◌}
 use Rattle.rules.specs.Versions.{RuleSet}
 use Rattle.rules.specs.Rows.{Row, Field, Open, Close, encode}
 use Rattle.rules.specs.Tree.{Declaration, Operand, ref, outer, case, Head, Scope, scope, Fields, end, ◌▸◌, Item, plain, holds, head_of, flatten, fields_rows, item_rows, head_rows, decl_rows, path_rows, operand_row, operand_rows, export_rows}
@@ -226,7 +226,7 @@ module _ (form : List ℕ) (base : ℕ) (rules : RuleSet) where
       }
 
   pub spots : (fs : Fields) (kind n row : ℕ) → GoodFields rules fs kind → At form row (fields_rows fs ++ (Close ∷ [])) → scope_of form row ≡ base → All IsSpot (located row n fs)
-  unfolding located flatten if◌then◌else◌ scope_of
+  unfolding located flatten when◌then◌else◌ scope_of
   spots end kind n row g a around = done
   spots (i ▸ fs) kind n row g a around =
       let behind-it = fields_rows fs ++ (Close ∷ []) in
@@ -238,7 +238,7 @@ module _ (form : List ℕ) (base : ℕ) (rules : RuleSet) where
       go (is_inserted (head_of i)) refl (λ new. field_rows_lem i fs kind row g.0 all around new) (λ k. spots fs kind k (row + length (item_rows i)) g.1 rest next)
     where
       go : (b : Bool) → is_inserted (head_of i) ≡ b → (is_inserted (head_of i) ≡ true → FieldRows (head_of i) row) → ((k : ℕ) → All IsSpot (located (row + length (item_rows i)) k fs))
-          → All IsSpot (in_rows (suc row) (if b then in_inserted (head_of i) (head_of i).decls else in_original n 0 (head_of i).decls) ++ located (row + length (item_rows i)) (if b then n else suc n) fs)
+          → All IsSpot (in_rows (suc row) (when b then in_inserted (head_of i) (head_of i).decls else in_original n 0 (head_of i).decls) ++ located (row + length (item_rows i)) (when b then n else suc n) fs)
       go true b F below =
           let zeroth : suc (row + 0) ≡ suc row = omega arith in
           let first : (k : ℕ) → get_elem? (head_of i).decls (0 + k) ≡ get_elem? (head_of i).decls k = λ k. (let same : 0 + k ≡ k = omega arith in ap (get_elem? (head_of i).decls) same) in

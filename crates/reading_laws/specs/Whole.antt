@@ -11,7 +11,7 @@ use Rattle.std.proofs.Math.Dec.{ltb}
 use Rattle.std.proofs.Math.ListN.{get_elem?}
 use Rattle.kit.specs.Pick.{pick}
 use Rattle.kit.proofs.Laws.{yes!, no!, tests}
-use Rattle.rules.specs.Tools.{if◌then◌else◌, ◌then◌}
+use Rattle.rules.specs.Tools.{when◌then◌else◌, ◌then◌}
 use Rattle.rules.specs.Versions.{RuleSet}
 use Rattle.rules.specs.Rows.{Field, Ref, Outer, Index, Num, Id, encode, flag, number}
 use Rattle.rules.specs.Tree.{Declaration, Operand, ref, outer, Head, Scope, head_rows, decl_rows, operand_row, operand_rows, export_rows}
@@ -195,7 +195,7 @@ module _ (form : List ℕ) where
 
     behind_said : (f : Floor) (rest : List Floor) → Chain form (f ∷ rest) → DeclsAre form (f ∷ rest) → GoodOf rules f.level.fields → (space n out : ℕ) (x : Located) → counted_row f space n ≡ some x
         → behind form (said (some x) n out) ≡ said_behind (f ∷ rest) (spot_of x) (said (some x) n out) (through_outer form (next_of x.row))
-    unfolding said said_behind if◌then◌else◌
+    unfolding said said_behind when◌then◌else◌
     behind_said f rest C D G space n out x q =
         let here = D 0 f space n x refl q in
         go (spot_of x) (spot_is f (first_row rest) C.0 G space n x q) here.0 here.1
@@ -208,7 +208,7 @@ module _ (form : List ℕ) where
         go (original field at) old is low = behind_itself x.row n out x.standing.decl.name m (not_alias x.row x.standing.decl is old) refl
         go (inserted h) I is low = choose (eqb h.code 11) refl
           where
-            choose : (b : Bool) → eqb h.code 11 ≡ b → behind form m ≡ (if b then said_out (f ∷ rest) h.operands (through_outer form (next_of x.row)) else m)
+            choose : (b : Bool) → eqb h.code 11 ≡ b → behind form m ≡ (when b then said_out (f ∷ rest) h.operands (through_outer form (next_of x.row)) else m)
             choose true e =
                 let A = alias_there f x h I is low (eqb-true h.code 11 e) in
                 behind_alias x.row n out x.standing.decl.name m A.is_one_lem refl ∙ alias_said f rest C D x h A

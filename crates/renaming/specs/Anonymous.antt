@@ -2,7 +2,7 @@
 -- then holds, and the key.
 use Rattle.std.specs.Prelude.{◌||◌, not, List, [], ◌++◌, ℕ, ◌+◌, ◌*◌, eqb, ltb, length, take, drop}
 use Rattle.std.proofs.Math.Option.{Option, none, some}
-use Rattle.rules.specs.Tools.{if◌then◌else◌, between}
+use Rattle.rules.specs.Tools.{when◌then◌else◌, between}
 use Rattle.rules.specs.Versions.{Setting}
 use Rattle.rules.specs.Tree.{RowsRead, bad, deep, form}
 use Rattle.rules.specs.Reader.{read}
@@ -24,8 +24,8 @@ unfoldable pub anonymous_in : Setting → (input : List ℕ) (room : ℕ) → An
 anonymous_in s input room =
     let v = s.version in
     let rows = row_count v input in
-    if not (between 1 v.rows rows) || not (eqb (length input) (v.header + 16 * rows)) then refused 2 0 []
-    else if ltb room (length input) then refused 3 0 []
+    when not (between 1 v.rows rows) || not (eqb (length input) (v.header + 16 * rows)) then refused 2 0 []
+    else when ltb room (length input) then refused 3 0 []
     else after_reading (read s.rules v.scopes (rows_in s input)) (key_in s input)
 
 -- the answer under this setting; refusal 1, if the header is not that of any

@@ -1,7 +1,7 @@
 -- A form whose names have gone through a mapping: row by row, header, numbers, export names and places stay.
 use Rattle.std.specs.Prelude.{◌≡◌, true, List, [], ◌∷◌, ◌++◌, ℕ, zero, suc, ◌+◌, ◌*◌, ◌≤◌, eqb, length, take, drop}
 use Rattle.std.proofs.Math.Option.{Option, none, some}
-use Rattle.rules.specs.Tools.{if◌then◌else◌, is_in, between}
+use Rattle.rules.specs.Tools.{when◌then◌else◌, is_in, between}
 use Rattle.rules.specs.Versions.{Setting, top_name}
 use Rattle.rules.specs.Rows.{Index, Num, Id, Row, Field, Decl, Ref, Path, Outer, Case, Open, Close, Export, decode_row, encode_row}
 use Rattle.rules.specs.Answer.{row_count, setting_of}
@@ -51,13 +51,13 @@ renamed_rows g (suc count) bs = renamed_part g (decode_row top_name bs) bs ++ re
 
 -- the names of an input are 1 to 2147483647: 0 stays, and so do the names of inserted fields
 unfoldable pub renamed : (f : ℕ → ℕ) → ℕ → ℕ
-renamed f n = if between 1 top_name n then f n else n
+renamed f n = when between 1 top_name n then f n else n
 
 -- the header stays, and so does an input that is not as long as its header says
 unfoldable pub renamed_in : (f : ℕ → ℕ) → Setting → List ℕ → List ℕ
 renamed_in f s input =
     let v = s.version in
-    if eqb (length input) (v.header + 16 * row_count v input)
+    when eqb (length input) (v.header + 16 * row_count v input)
     then take v.header input ++ renamed_rows (renamed f) (row_count v input) (drop v.header input)
     else input
 
@@ -74,7 +74,7 @@ renamed_bytes f settings input = renamed_for f (setting_of settings input) input
 
 -- the name that a part holds: 0 is no name
 unfoldable pub name_in : ℕ → List ℕ
-name_in n = if eqb n 0 then [] else n ∷ []
+name_in n = when eqb n 0 then [] else n ∷ []
 
 -- the name in an operand
 abbrev pub index_names : Index → List ℕ
@@ -102,12 +102,12 @@ names_of (some row ∷ rows) = row_names row ++ names_of rows
 -- each name once, where it first stands; `seen` are those before
 unfoldable pub firsts : (seen : List ℕ) → List ℕ → List ℕ
 firsts seen [] = seen
-firsts seen (n ∷ ns) = if is_in n seen then firsts seen ns else firsts (seen ++ (n ∷ [])) ns
+firsts seen (n ∷ ns) = when is_in n seen then firsts seen ns else firsts (seen ++ (n ∷ [])) ns
 
 -- the place of a name in a list, from 1; the next one, if it is not there
 unfoldable pub place_of : List ℕ → ℕ → ℕ
 place_of [] n = 1
-place_of (m ∷ ms) n = if eqb n m then 1 else suc (place_of ms n)
+place_of (m ∷ ms) n = when eqb n m then 1 else suc (place_of ms n)
 
 -- the mapping by first appearance in these rows
 unfoldable pub by_first : List (Option Row) → ℕ → ℕ

@@ -8,7 +8,7 @@ use Prim.Native.Nat.{ℕ, zero, suc, ◌+◌, ◌*◌, ◌≤◌, ◌<◌}
 use lib.Dec.{eqb}
 use lib.ListN.{length, drop}
 use borrow.Author.Rules.{rules}
-use Rattle.rules.specs.Tools.{if◌then◌else◌, between, only, ◌or_else◌}
+use Rattle.rules.specs.Tools.{when◌then◌else◌, between, only, ◌or_else◌}
 use Rattle.rules.specs.Versions.{Setting, all}
 use Rattle.rules.specs.Answer.{has_header, setting_of, row_count, answer_inside, answer, output_inside, output}
 use Rattle.limits.specs.declared.Limits.{Limits}
@@ -32,8 +32,8 @@ unfolding header_for only
 some_count s input true e = refl
 some_count s input false e = let z : ◌≡◌ {A = ℕ} 0 1 = cc in absurd (omega arith)
 
-not_wrong : {X : Type 0} (b : Bool) (n : ℕ) → Wrong ≡ (if b then Count else Rows n) → X
-unfolding if◌then◌else◌
+not_wrong : {X : Type 0} (b : Bool) (n : ℕ) → Wrong ≡ (when b then Count else Rows n) → X
+unfolding when◌then◌else◌
 not_wrong true n e = let z : ◌≡◌ {A = ℕ} 0 1 = cc in absurd (omega arith)
 not_wrong false n e = let z : ◌≡◌ {A = ℕ} 0 1 = cc in absurd (omega arith)
 
@@ -56,12 +56,12 @@ module _ (input : List ℕ) (i : ℕ) (T : Setting) (inv : asked_in (drop i all)
     unfolding header_to
     of_setting = rw (limits, stand_for i) at got
 
-    turn : (if has_header (setting i) input then setting i else asked_in (drop (i + 1) all) input) ≡ T
+    turn : (when has_header (setting i) input then setting i else asked_in (drop (i + 1) all) input) ≡ T
     unfolding asked_in
     turn = sym (ap (λ (ss : List Setting). asked_in ss input) (next_of i h)) ∙ inv
 
     hit : has_header (setting i) input ≡ true → setting i ≡ T
-    unfolding if◌then◌else◌
+    unfolding when◌then◌else◌
     hit e = rw e at turn
 
     pub asked_rows : (n : ℕ) → said ≡ Rows n → setting i ≡ T
@@ -71,7 +71,7 @@ module _ (input : List ℕ) (i : ℕ) (T : Setting) (inv : asked_in (drop i all)
     asked_count e = hit (some_count (setting i) input (has_header (setting i) input) (sym e ∙ of_setting))
 
     pub asked_on : said ≡ Wrong → asked_in (drop (i + 1) all) input ≡ T
-    unfolding if◌then◌else◌
+    unfolding when◌then◌else◌
     asked_on e = rw (no_header (setting i) input (has_header (setting i) input) (sym e ∙ of_setting)) at turn
 
   pub asked_end : 3 ≤ i → i ≤ 3 → setting 0 ≡ T
@@ -93,9 +93,9 @@ asked_same [] input f = rw (f refl) (unfold only ◌or_else◌ in refl)
 asked_same (s ∷ ss) input f = go (has_header s input) refl (λ g. asked_same ss input g)
   where
     go : (b : Bool) → has_header s input ≡ b → ((setting_of ss input ≡ none → has_header first input ≡ false) → setting_of ss input ≡ (only (has_header (asked_in ss input) input) (asked_in ss input) or_else none))
-        → (only b s or_else setting_of ss input) ≡ (only (has_header (if b then s else asked_in ss input) input) (if b then s else asked_in ss input) or_else none)
-    go true e later = unfold if◌then◌else◌ only ◌or_else◌ in rw e
-    go false e later = unfold if◌then◌else◌ only ◌or_else◌ in later (λ n. f (rw e (unfold only ◌or_else◌ in n)))
+        → (only b s or_else setting_of ss input) ≡ (only (has_header (when b then s else asked_in ss input) input) (when b then s else asked_in ss input) or_else none)
+    go true e later = unfold when◌then◌else◌ only ◌or_else◌ in rw e
+    go false e later = unfold when◌then◌else◌ only ◌or_else◌ in later (λ n. f (rw e (unfold only ◌or_else◌ in n)))
 
 first_unasked : (b : Bool) (others : Option Setting) → (only b first or_else others) ≡ none → b ≡ false
 unfolding only ◌or_else◌

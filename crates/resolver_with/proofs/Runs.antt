@@ -12,7 +12,7 @@ use borrow.Author.Tests.{eqb-true}
 use mir.Syntax.{w8}
 use mir.Val.{Fits}
 use Rattle.kit.specs.Out.{◌&◌}
-use Rattle.rules.specs.Tools.{if◌then◌else◌}
+use Rattle.rules.specs.Tools.{when◌then◌else◌}
 use Rattle.rules.specs.Versions.{Version, Setting, version2, newer}
 use Rattle.rules.specs.Answer.{answer, output}
 use Rattle.rules.specs.Laws.RowLaws.{Bytes}
@@ -119,12 +119,12 @@ pub exact_tests : (v : Version) (slots links a b c d e : ℕ) → slots ≡ slot
 unfolding exactly
 exact_tests v slots links a b c d e p q = rw (p, q)
 
-pub room_yes : (enough : Bool) (room : ℕ) → enough ≡ true → room ≡ (if enough then room else 0)
-unfolding if◌then◌else◌
+pub room_yes : (enough : Bool) (room : ℕ) → enough ≡ true → room ≡ (when enough then room else 0)
+unfolding when◌then◌else◌
 room_yes enough room e = rw e
 
-pub room_no : (enough : Bool) (room : ℕ) → enough ≡ false → 0 ≡ (if enough then room else 0)
-unfolding if◌then◌else◌
+pub room_no : (enough : Bool) (room : ℕ) → enough ≡ false → 0 ≡ (when enough then room else 0)
+unfolding when◌then◌else◌
 room_no enough room e = rw e
 
 -- ---- run_in
@@ -144,8 +144,8 @@ suits_exact i entered names known chains ends e =
     record { entered = eqb-true _ _ p.0; names = eqb-true _ _ p.1; known = eqb-true _ _ p.2; chains = eqb-true _ _ p.3; ends = eqb-true _ _ p.4 }
 
 -- what is admitted has room, so the areas were not too small
-enough_true : (enough : Bool) (room low : ℕ) → 0 < low → low ≤ (if enough then room else 0) → enough ≡ true
-unfolding if◌then◌else◌
+enough_true : (enough : Bool) (room low : ℕ) → 0 < low → low ≤ (when enough then room else 0) → enough ≡ true
+unfolding when◌then◌else◌
 enough_true true room low p h = refl
 enough_true false room low p h = absurd (omega arith)
 
@@ -161,16 +161,16 @@ rooms_in i entered names known chains ends suits =
     let c = suits.ends in
     record { ends = omega arith; entered = omega arith; names = omega arith; entered_narrow = omega arith; names_narrow = omega arith }
 
-module _ (i : ℕ) (input old : List ℕ) (entered names : List Slot) (known chains ends : List ℕ) (enough : Bool) (exact : enough ≡ exactly (setting i).version (lent_of entered names known chains ends)) (room : ℕ) (roomy : room ≡ (if enough then length old else 0)) (f : Form) (said : f ≡ form_of (admit (setting i) input room)) where
+module _ (i : ℕ) (input old : List ℕ) (entered names : List Slot) (known chains ends : List ℕ) (enough : Bool) (exact : enough ≡ exactly (setting i).version (lent_of entered names known chains ends)) (room : ℕ) (roomy : room ≡ (when enough then length old else 0)) (f : Form) (said : f ≡ form_of (admit (setting i) input room)) where
   pub refuses_in : (why : Refusal) → f ≡ NotWhole why → Ran (setting i) (exactly (setting i).version (lent_of entered names known chains ends)) input old old (Refused why untold)
   refuses_in why e =
       let q : NotWhole why ≡ form_of (admit (setting i) input room) = sym e ∙ said in
       subst (λ (b : Bool). Ran (setting i) b input old old (Refused why untold)) exact
       (record { answers = answers_early (setting i) input room why q ∙ ap (λ (n : ℕ). ruled (answer (setting i ∷ []) input n)) roomy; leaves = go enough roomy q })
     where
-      go : (b : Bool) → room ≡ (if b then length old else 0) → NotWhole why ≡ form_of (admit (setting i) input room) → old ≡ (if b then output (setting i ∷ []) input old else old)
-      go true r q = unfold if◌then◌else◌ in leaves_early (setting i) input room why q old (sym r)
-      go false r q = unfold if◌then◌else◌ in refl
+      go : (b : Bool) → room ≡ (when b then length old else 0) → NotWhole why ≡ form_of (admit (setting i) input room) → old ≡ (when b then output (setting i ∷ []) input old else old)
+      go true r q = unfold when◌then◌else◌ in leaves_early (setting i) input room why q old (sym r)
+      go false r q = unfold when◌then◌else◌ in refl
 
   module _ (fine : Enough f (setting i) input room) (rows : ℕ) (e : f ≡ Whole rows) where
     facts : ((setting i).version.header ≤ length input) × ((setting i).version.header + 64 * rows ≤ room) × (rows ≤ (setting i).version.rows)
@@ -180,7 +180,7 @@ module _ (i : ℕ) (input old : List ℕ) (entered names : List Slot) (known cha
     is_enough = enough_true enough (length old) ((setting i).version.header + 64 * rows) (omega (arith, header_in_lem i)) (omega (arith, facts.1, roomy))
 
     is_room : room ≡ length old
-    unfolding if◌then◌else◌
+    unfolding when◌then◌else◌
     is_room = rw is_enough at roomy
 
     pub has_suits : Suits i entered names known chains ends
@@ -198,7 +198,7 @@ module _ (i : ℕ) (input old : List ℕ) (entered names : List Slot) (known cha
     pub runs_in : (header : ℕ) → header ≡ (setting i).version.header → ((j : ℕ) → Fits w8 (get_or input j 0)) → (a : Answer) (k : List ℕ)
         → a & k ≡ fill_t (setting i) (walk_in (setting i) (take (length input - header) (drop header input)) ends entered names) (take (header + 64 * rows) old)
         → Ran (setting i) (exactly (setting i).version (lent_of entered names known chains ends)) input old (k ++ drop (header + 64 * rows) old) a
-    unfolding if◌then◌else◌
+    unfolding when◌then◌else◌
     runs_in header q all a k w =
         let w' : a & k ≡ fill_t (setting i) (walk_in (setting i) (drop (setting i).version.header input) ends entered names) (take ((setting i).version.header + 64 * rows) old) =
         subst (λ (n : ℕ). a & k ≡ fill_t (setting i) (walk_in (setting i) (drop n input) ends entered names) (take (n + 64 * rows) old)) q (rw (all_behind header input) at w) in
@@ -255,11 +255,11 @@ module _ (input old new : List ℕ) (lent : Lent) (r : Answer) (s : Setting) (as
 
   pub with_answers : meaning r ≡ ruled (answer_with input (length old) lent)
   unfolding answer_with
-  with_answers = ran_asked.answers ∙ ap ruled (sym (answer_asked input (if roomy (asked input).version lent then length old else 0)))
+  with_answers = ran_asked.answers ∙ ap ruled (sym (answer_asked input (when roomy (asked input).version lent then length old else 0)))
 
   pub with_leaves : new ≡ output_with input old lent
   unfolding output_with
-  with_leaves = ran_asked.leaves ∙ ap (λ (x : List ℕ). if roomy (asked input).version lent then x else old) (sym (output_asked input old))
+  with_leaves = ran_asked.leaves ∙ ap (λ (x : List ℕ). when roomy (asked input).version lent then x else old) (sym (output_asked input old))
 
 -- the areas go by what is asked for
 pub clears_as : (s t : Setting) → s ≡ t → (e e' n n' : List Slot) (k k' c c' m m' : List ℕ) → Cleared s.version e e' n n' k k' c c' m m' → Cleared t.version e e' n n' k k' c c' m m'

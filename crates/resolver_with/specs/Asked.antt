@@ -1,6 +1,6 @@
 -- Which setting a header asks for, of all that there are: both versions and both rule sets. By it go the sizes of the areas that are lent.
 use Rattle.std.specs.Prelude.{List, [], ◌∷◌, ℕ}
-use Rattle.rules.specs.Tools.{if◌then◌else◌}
+use Rattle.rules.specs.Tools.{when◌then◌else◌}
 use Rattle.rules.specs.Versions.{Setting, version1, today, all}
 use Rattle.rules.specs.Answer.{has_header}
 
@@ -11,7 +11,7 @@ first = record { version = version1; rules = today }
 -- the setting that a header asks for, of these; the first where it asks for none of them
 unfoldable pub asked_in : List Setting → (input : List ℕ) → Setting
 asked_in [] input = first
-asked_in (s ∷ ss) input = if has_header s input then s else asked_in ss input
+asked_in (s ∷ ss) input = when has_header s input then s else asked_in ss input
 
 -- the setting by which the areas have their sizes
 unfoldable pub asked : List ℕ → Setting

@@ -1,7 +1,7 @@
 // The run on a form, in working areas that are lent.
 ghost use Rattle.std.specs.Prelude.{◌≡◌, length};
 ghost use Rattle.kit.specs.Out.{◌&◌};
-ghost use Rattle.rules.specs.Tools.{if◌then◌else◌};
+ghost use Rattle.rules.specs.Tools.{when◌then◌else◌};
 ghost use Rattle.limits.specs.Held.{setting};
 ghost use Rattle.resolver.specs.Meaning.{meaning, ruled};
 ghost use Rattle.resolver.specs.Run.{walk_in, fill_t};
@@ -142,7 +142,7 @@ fn is_exact(
 
 // The output's room, or none where an area is too small.
 fn room_if(enough: bool, room: usize) -> usize
-    ensures { result ≡ (if enough then room else 0) }
+    ensures { result ≡ (when enough then room else 0) }
 {
     if enough { room } else { 0 }
 }

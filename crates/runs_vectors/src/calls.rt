@@ -1,5 +1,5 @@
 // Each function is called as its vector says, and held to what the vector states.
-use crate::areas::numbers_in;
+use crate::area_tests::numbers_in;
 use crate::buffers::{FILLING, is_left};
 use crate::head;
 use crate::head::{Head, is_answer, number_in, word};

@@ -1,5 +1,5 @@
 // The calls that are lent numbers, or a table and its index.
-use crate::areas::{
+use crate::area_tests::{
     FILLED_LINK, FILLED_NUMBER, Numbers, Slots, is_emptied, links_in, numbers_in, slots_in,
 };
 use crate::buffers::{FILLING, is_left};

@@ -1,5 +1,5 @@
 // The call that is lent the five areas of the steps, for forms of both versions.
-use crate::areas::{
+use crate::area_tests::{
     FILLED_LINK, FILLED_NUMBER, Slots, are_emptied, links_in, numbers_in, slots_in,
 };
 use crate::buffers::{FILLING, is_left};

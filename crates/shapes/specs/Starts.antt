@@ -2,7 +2,7 @@
 use Rattle.std.specs.Prelude.{Bool, false, List, [], ◌∷◌, ℕ, eqb, leb, get_or}
 use Rattle.std.proofs.Math.Option.{Option}
 use Rattle.kit.specs.Pick.{pick}
-use Rattle.rules.specs.Tools.{only, if◌then◌else◌}
+use Rattle.rules.specs.Tools.{only, when◌then◌else◌}
 use Rattle.rules.specs.Versions.{RuleSet, today}
 use Rattle.rules.specs.Shapes.{FIVE, SIX, Part, r, p, out, one, opt, any, variants, options, signature, ascribed, builtin_parts, declares, enough}
 
@@ -15,7 +15,7 @@ parts_by rules code builtin space has-decl =
     ∷ (one (r (7 ∷ [])) ∷ any (r (6 ∷ [])) ∷ [])
     ∷ (any (r FIVE) ∷ [])
     ∷ (any (p (4 ∷ [])) ∷ [])
-    ∷ (if has-decl then any (p (4 ∷ [])) ∷ [] else [])
+    ∷ (when has-decl then any (p (4 ∷ [])) ∷ [] else [])
     ∷ []
     ∷ (one (r (11 ∷ [])) ∷ any (r SIX) ∷ [])
     ∷ (any (r SIX) ∷ [])
@@ -32,7 +32,7 @@ parts_by rules code builtin space has-decl =
     ∷ builtin_parts rules builtin
     ∷ (one (p (8 ∷ [])) ∷ any (r (12 ∷ [])) ∷ [])
     ∷ signature space
-    ∷ (if eqb builtin 0 then one (r (space ∷ [])) ∷ [] else ascribed space)
+    ∷ (when eqb builtin 0 then one (r (space ∷ [])) ∷ [] else ascribed space)
     ∷ signature space
     ∷ (any (p (4 ∷ [])) ∷ [])
     ∷ []

@@ -11,7 +11,7 @@ use lib.ListN.{length, take, drop, replicate, length-append, length-drop, length
 use lib.Seq.{length-take-le, take_at, drop_at}
 use Rattle.kit.specs.Out.{◌&◌}
 use Rattle.kit.proofs.Laws.{tests}
-use Rattle.rules.specs.Tools.{if◌then◌else◌, only, ◌or_else◌}
+use Rattle.rules.specs.Tools.{when◌then◌else◌, only, ◌or_else◌}
 use Rattle.rules.specs.Versions.{Version, Setting, top_name}
 use Rattle.rules.specs.Rows.{Row}
 use Rattle.rules.specs.Tree.{Scope, flatten}
@@ -237,7 +237,7 @@ module _ (one : Setting) (able : Able one) where
 
     -- in areas that are large enough
     check_yes : (slots links : ℕ) → slots_of v ≤ slots → links_of v ≤ links → check_answer (one ∷ []) input (form_bytes one rs) slots links ≡ yes
-    unfolding check_answer check_for if◌then◌else◌
+    unfolding check_answer check_for when◌then◌else◌
     check_yes slots links a b =
         let R = (read_exactly one input tree.0).0 reads in
         let w : verdict (one ∷ []) input (form_bytes one rs) ≡ yes =

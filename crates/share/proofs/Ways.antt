@@ -12,7 +12,7 @@ use mir.Syntax.{w8}
 use mir.Val.{Fits}
 use Rattle.kit.specs.Out.{◌&◌}
 use Rattle.kit.proofs.Laws.{tests}
-use Rattle.rules.specs.Tools.{if◌then◌else◌}
+use Rattle.rules.specs.Tools.{when◌then◌else◌}
 use Rattle.rules.specs.Versions.{base}
 use Rattle.rules.specs.Tree.{flatten}
 use Rattle.rules.specs.Answer as rules
@@ -141,11 +141,11 @@ module _ (input old : List ℕ) (slots links : ℕ) (b : Bool) (is : b ≡ too_s
       go (accepted rs) q = none_accepted (setting 0) able_1 input rs q
 
   pub small_answers : (r : Answer) → meaning r ≡ ruled (answer base input (length (take 0 old))) → meaning r ≡ ruled (shared_with input (length old) slots links)
-  unfolding shared_with if◌then◌else◌
+  unfolding shared_with when◌then◌else◌
   small_answers r m = rw (← small) (m ∙ refuses)
 
   pub small_leaves : (new : List ℕ) → new ≡ output base input (take 0 old) → new ++ drop 0 old ≡ output_with input old slots links
-  unfolding output_with if◌then◌else◌
+  unfolding output_with when◌then◌else◌
   small_leaves new e =
       let n : new ≡ [] = none_left new (ap length e ∙ (unfold output in output_length [] base base_usual input [])) in
       rw (← small, n)
@@ -208,9 +208,9 @@ module _ (slots links : ℕ) (b : Bool) (is : b ≡ too_small slots links) (t : 
   large_areas = let z = large slots links (sym is ∙ t) in record { slots_large = z.0; links_large = z.1 }
 
   pub answers_with : (input : List ℕ) (room : ℕ) (r : Answer) → meaning r ≡ ruled (shared base input room) → meaning r ≡ ruled (shared_with input room slots links)
-  unfolding shared_with if◌then◌else◌
+  unfolding shared_with when◌then◌else◌
   answers_with input room r p = let f : too_small slots links ≡ false = sym is ∙ t in rw f p
 
   pub leaves_with : (input old l : List ℕ) → l ≡ shared_output base input old → l ≡ output_with input old slots links
-  unfolding output_with if◌then◌else◌
+  unfolding output_with when◌then◌else◌
   leaves_with input old l p = let f : too_small slots links ≡ false = sym is ∙ t in rw f p

@@ -10,7 +10,7 @@ use lib.ListN.{length, get_or, set, take, drop, replicate, length-set, length-dr
 use lib.Seq.{length-take-le}
 use Rattle.kit.specs.Out.{◌&◌}
 use Rattle.kit.specs.Pick.{pick}
-use Rattle.rules.specs.Tools.{if◌then◌else◌}
+use Rattle.rules.specs.Tools.{when◌then◌else◌}
 use Rattle.rules.specs.Versions.{Version, Setting, all}
 use Rattle.rules.specs.Rows.{Row}
 use Rattle.rules.specs.Tree.{flatten}
@@ -166,7 +166,7 @@ module _ (i : ℕ) (input : List ℕ) (asks : setting i ≡ asked input) where
         -- IT IS NEVER REFUSED
         pub refused_never : (slots links : ℕ) (lent : Lent) → slots_of (setting i).version ≤ slots → links_of (setting i).version ≤ links → roomy (asked input).version lent ≡ true
             → (rows : ℕ) (claim : List ℕ) (y : Bool) → rows ≡ (meaning a).plain.place → claim ≡ take ((setting i).version.header + 16 * rows) l → y ≡ is_yes (check_with input claim slots links lent) → y ≡ false → ⊥
-        unfolding resolved check_with if◌then◌else◌
+        unfolding resolved check_with when◌then◌else◌
         refused_never slots links lent hs hl fits rows claim y r c f e =
             let w : check_answer all input claim slots links ≡ check_answer (setting i ∷ []) input claim slots links = unfold check_answer in rw (setting_asked input, asks) in
             one.never_refused (setting i) (able_at i) input R.old bs R.own resolved.accepts a l shares.0 shares.1 slots links hs hl rows claim y r c (f ∙ (rw (fits, w))) e

@@ -13,7 +13,7 @@ use mir.Syntax.{w8}
 use mir.Val.{Fits}
 use Rattle.kit.specs.Out.{◌&◌}
 use Rattle.kit.proofs.Laws.{lt_or_le}
-use Rattle.rules.specs.Tools.{if◌then◌else◌}
+use Rattle.rules.specs.Tools.{when◌then◌else◌}
 use Rattle.rules.specs.Versions.{Version, Setting, all}
 use Rattle.rules.specs.Answer.{answer, output}
 use Rattle.rules.proofs.Laws.InputLaws.{all_usual}
@@ -226,7 +226,7 @@ settled_areas v marked marked₁ e e₁ e₂ n n₁ n₂ k k₁ k₂ c c₁ c₂
 
 pub own_ran : (form old now : List ℕ) (lent : Lent) (o : Own) → roomy (asked form).version lent ≡ true → meaning o.answer ≡ ruled (resolved.answer_with form (length old) lent) → now ≡ resolved.output_with form old lent → o.number ≡ (meaning o.answer).plain.number
     → share.Ran all form old now o
-unfolding resolved.answer_with resolved.output_with if◌then◌else◌
+unfolding resolved.answer_with resolved.output_with when◌then◌else◌
 own_ran form old now lent o fits a l n = record { answers = rw fits at a; leaves = rw fits at l; numbered = n }
 
 -- ---- share_in
@@ -299,13 +299,13 @@ module _ (form : List ℕ) (i : ℕ) (asks : setting i ≡ asked form) (bytes sl
     too_small_lem : too_small (asked form).version bytes slots links lent ≡ true
     too_small_lem = sym tested ∙ t
 
-    no_room : (b : Bool) → ◌≡◌ {A = ℕ} (if b then 0 else 0) 0
-    unfolding if◌then◌else◌
+    no_room : (b : Bool) → ◌≡◌ {A = ℕ} (when b then 0 else 0) 0
+    unfolding when◌then◌else◌
     no_room true = refl
     no_room false = refl
 
     pub small_answers : (old : List ℕ) (r : Answer) → meaning r ≡ ruled (resolved.answer_with form (length (take 0 old)) lent) → meaning r ≡ ruled (shared_with form (length old) bytes slots links lent)
-    unfolding shared_with resolved.answer_with if◌then◌else◌
+    unfolding shared_with resolved.answer_with when◌then◌else◌
     small_answers old r m =
         let q : meaning r ≡ ruled (answer all form 0) = m ∙ ap (λ (n : ℕ). ruled (answer all form n)) (no_room (roomy (asked form).version lent)) in
         rw too_small_lem (q ∙ agrees.none_shared i form asks)
@@ -314,13 +314,13 @@ module _ (form : List ℕ) (i : ℕ) (asks : setting i ≡ asked form) (bytes sl
     none_left [] e = refl
     none_left (x ∷ l) e = absurd (omega arith)
 
-    nothing_left : (b : Bool) → length (if b then output all form [] else []) ≡ 0
-    unfolding if◌then◌else◌
+    nothing_left : (b : Bool) → length (when b then output all form [] else []) ≡ 0
+    unfolding when◌then◌else◌
     nothing_left true = unfold output in output_length [] all all_usual form []
     nothing_left false = refl
 
     pub small_leaves : (old new : List ℕ) → new ≡ resolved.output_with form (take 0 old) lent → new ++ drop 0 old ≡ output_with form old bytes slots links lent
-    unfolding output_with resolved.output_with if◌then◌else◌
+    unfolding output_with resolved.output_with when◌then◌else◌
     small_leaves old new e =
         let n : new ≡ [] = none_left new (ap length e ∙ nothing_left (roomy (asked form).version lent)) in
         rw (too_small_lem, n)
@@ -348,9 +348,9 @@ module _ (form : List ℕ) (i : ℕ) (asks : setting i ≡ asked form) (bytes sl
         }
 
     pub answers_with : (room : ℕ) (r : Answer) → meaning r ≡ ruled (shared all form room) → meaning r ≡ ruled (shared_with form room bytes slots links lent)
-    unfolding shared_with if◌then◌else◌
+    unfolding shared_with when◌then◌else◌
     answers_with room r p = rw not_small p
 
     pub leaves_with : (old l : List ℕ) → l ≡ shared_output all form old → l ≡ output_with form old bytes slots links lent
-    unfolding output_with if◌then◌else◌
+    unfolding output_with when◌then◌else◌
     leaves_with old l p = rw not_small p

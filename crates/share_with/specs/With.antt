@@ -2,7 +2,7 @@
 -- marked rows, the table and the index of R-4's check, and those of the steps. One that is too small is answered as an output of no bytes is:
 -- refusal 3, behind 1 and 2.
 use Rattle.std.specs.Prelude.{Bool, ◌||◌, not, List, ℕ, ◌*◌, ltb}
-use Rattle.rules.specs.Tools.{if◌then◌else◌}
+use Rattle.rules.specs.Tools.{when◌then◌else◌}
 use Rattle.rules.specs.Versions.{Version, all}
 use Rattle.rules.specs.Answer.{Answer}
 use Rattle.checking.specs.CheckAnswer.{slots_of, links_of}
@@ -21,9 +21,9 @@ too_small v bytes slots links lent = not (roomy v lent) || (ltb bytes (bytes_for
 -- the rules' answer; areas that are too small count as an output without room
 unfoldable pub shared_with : (input : List ℕ) (room bytes slots links : ℕ) → Lent → Answer
 shared_with input room bytes slots links lent =
-    shared all input (if too_small (asked input).version bytes slots links lent then 0 else room)
+    shared all input (when too_small (asked input).version bytes slots links lent then 0 else room)
 
 -- what the output holds then
 unfoldable pub output_with : (input old : List ℕ) (bytes slots links : ℕ) → Lent → List ℕ
 output_with input old bytes slots links lent =
-    if too_small (asked input).version bytes slots links lent then old else shared_output all input old
+    when too_small (asked input).version bytes slots links lent then old else shared_output all input old

@@ -3,7 +3,7 @@
 -- first one in its scope will get; so step B leaves it, and step C numbers it like any other name.
 use Rattle.std.specs.Prelude.{◌&&◌, List, [], ◌∷◌, ℕ, suc, ◌+◌, ◌*◌, eqb, length}
 use Rattle.std.proofs.Math.Option.{Option, none, some}
-use Rattle.rules.specs.Tools.{if◌then◌else◌, is_just}
+use Rattle.rules.specs.Tools.{when◌then◌else◌, is_just}
 use Rattle.rules.specs.Versions.{RuleSet, Setting}
 use Rattle.rules.specs.Rows.{Num, Id}
 use Rattle.rules.specs.Tree.{Declaration, Operand, ref, outer, case, Head, Scope, scope, Fields, end, ◌▸◌, Item, plain, holds, head_of, with_operands, flatten}
@@ -24,7 +24,7 @@ pub record Served : Type 0 where
 -- the alias of a name, if it has one already
 unfoldable pub served_by : List Served → (space name : ℕ) → Option ℕ
 served_by [] space name = none
-served_by (s ∷ ss) space name = if eqb s.space space && eqb s.name name then some s.k else served_by ss space name
+served_by (s ∷ ss) space name = when eqb s.space space && eqb s.name name then some s.k else served_by ss space name
 
 -- an operand, several, or a field: as it is now, what is remembered after it, and the next insertion
 pub record Marked (A : Type 0) : Type 0 where
@@ -45,7 +45,7 @@ module _ (here : List Declaration) where
   unfoldable pub mark_operand : List Served → (k : ℕ) → Operand → Marked Operand
   mark_operand seen k (ref space (Num n) [] z) = record { now = ref space (Num n) [] z; seen = seen; k = k }
   mark_operand seen k (ref space (Id name) [] z) =
-      if is_just (find here space name) then record { now = ref space (Id name) [] z; seen = seen; k = k }
+      when is_just (find here space name) then record { now = ref space (Id name) [] z; seen = seen; k = k }
       else mark_outer seen k space name z (served_by seen space name)
   mark_operand seen k (ref space at (p ∷ ps) z) = record { now = ref space at (p ∷ ps) z; seen = seen; k = suc (k + length ps) }
   mark_operand seen k (outer space up at z) = record { now = outer space up at z; seen = seen; k = k }
@@ -62,7 +62,7 @@ module _ (here : List Declaration) where
   -- a field: here_only_lem operands are passed over
   unfoldable pub mark_head : List Served → (k : ℕ) → Head → Marked Head
   mark_head seen k h =
-      if here_only h.code then record { now = h; seen = seen; k = k }
+      when here_only h.code then record { now = h; seen = seen; k = k }
       else let m = mark_operands seen k h.operands in record { now = with_operands h m.now; seen = m.seen; k = m.k }
 
   -- the next insertion after those of all fields

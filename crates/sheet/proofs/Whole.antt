@@ -13,7 +13,7 @@ use mir.Syntax.{w8}
 use mir.Val.{Fits}
 use Rattle.kit.specs.Out.{◌&◌}
 use Rattle.kit.proofs.Laws.{tests}
-use Rattle.rules.specs.Tools.{if◌then◌else◌}
+use Rattle.rules.specs.Tools.{when◌then◌else◌}
 use Rattle.rules.specs.Versions.{Setting}
 use Rattle.rules.specs.Rows.{Row}
 use Rattle.rules.specs.Tree.{Scope, form as tree}
@@ -105,7 +105,7 @@ module _ (settings : List Setting) (form : List ℕ) (size : ℕ) (area : work_s
   -- no sheet
   module _ (b : Bool) (sound : b ≡ sound_sheet sheet) (no : not b ≡ true) where
     unsound : A ≡ refused 15 0 []
-    unfolding sheet_answer if◌then◌else◌
+    unfolding sheet_answer when◌then◌else◌
     unsound = rw (← sound, no)
 
     pub unsound_says : (r : Answer) → r ≡ refused_t 15 → meaning r ≡ ruled A
@@ -118,7 +118,7 @@ module _ (settings : List Setting) (form : List ℕ) (size : ℕ) (area : work_s
     -- the working area is too small
     module _ (h : work < size) where
       small : A ≡ refused 3 0 []
-      unfolding sheet_answer if◌then◌else◌
+      unfolding sheet_answer when◌then◌else◌
       small = let t : ltb work size ≡ true = omega tests in rw (← sound, so, area, t)
 
       pub small_says : (r : Answer) → r ≡ refused_t 3 → meaning r ≡ ruled A
@@ -129,13 +129,13 @@ module _ (settings : List Setting) (form : List ℕ) (size : ℕ) (area : work_s
 
     module _ (h : size ≤ work) where
       roomy : A ≡ answer_for (run_of settings form) resolved (slots sheet) (length answers)
-      unfolding sheet_answer if◌then◌else◌
+      unfolding sheet_answer when◌then◌else◌
       roomy = let t : ltb work size ≡ false = omega tests in rw (← sound, so, area, t)
 
       -- not the resolved form of an accepted input
       module _ (s : Bool) (same : s ≡ is_output (run_of settings form) resolved) (no : not s ≡ true) where
         other : A ≡ refused 15 0 []
-        unfolding answer_for is_output if◌then◌else◌
+        unfolding answer_for is_output when◌then◌else◌
         other = roomy ∙ go (run_of settings form) (ap not (sym same) ∙ no)
           where
             go : (r : Option Run) → not (is_output r resolved) ≡ true → answer_for r resolved (slots sheet) (length answers) ≡ refused 15 0 []
@@ -153,10 +153,10 @@ module _ (settings : List Setting) (form : List ℕ) (size : ℕ) (area : work_s
           run : Run
           runs : run_of settings form ≡ some run
           bytes : resolved ≡ run.bytes
-          asked : A ≡ (if ltb (length answers) (8 * (length sheet / 12)) then refused 3 0 [] else accepted (bindings run.before run.after (slots sheet)))
+          asked : A ≡ (when ltb (length answers) (8 * (length sheet / 12)) then refused 3 0 [] else accepted (bindings run.before run.after (slots sheet)))
 
         it : Its
-        unfolding answer_for is_output if◌then◌else◌
+        unfolding answer_for is_output when◌then◌else◌
         it = go (run_of settings form) refl (ap not (sym same) ∙ its)
           where
             go : (r : Option Run) → run_of settings form ≡ r → not (is_output r resolved) ≡ false → Its
@@ -172,7 +172,7 @@ module _ (settings : List Setting) (form : List ℕ) (size : ℕ) (area : work_s
         -- no room for the answers
         module _ (all : ℕ) (sized : all ≡ 8 * (length sheet / 12)) (short : length answers < all) where
           no_room : A ≡ refused 3 0 []
-          unfolding if◌then◌else◌
+          unfolding when◌then◌else◌
           no_room = let t : ltb (length answers) (8 * (length sheet / 12)) ≡ true = omega (tests, sized, short) in it.asked ∙ rw t
 
           pub no_room_says : (r : Answer) → r ≡ refused_t 3 → meaning r ≡ ruled A
@@ -188,7 +188,7 @@ module _ (settings : List Setting) (form : List ℕ) (size : ℕ) (area : work_s
           bs = bindings it.run.before it.run.after (slots sheet)
 
           found : A ≡ accepted bs
-          unfolding bs if◌then◌else◌
+          unfolding bs when◌then◌else◌
           found = let t : ltb (length answers) (8 * (length sheet / 12)) ≡ false = omega (tests, sized, room) in it.asked ∙ rw t
 
           noted_is : (n & new) ≡ noted 0 0 answers bs

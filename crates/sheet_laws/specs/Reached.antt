@@ -8,7 +8,7 @@ use mathlib.Core.List.{List, [], ◌∷◌}
 use Rattle.std.proofs.Math.Dec.{eqb}
 use Rattle.std.proofs.Math.ListN.{get_elem?}
 use Rattle.kit.specs.Pick.{pick}
-use Rattle.rules.specs.Tools.{if◌then◌else◌, ◌then◌}
+use Rattle.rules.specs.Tools.{when◌then◌else◌, ◌then◌}
 use Rattle.rules.specs.Versions.{RuleSet}
 use Rattle.rules.specs.Rows.{Num, Id}
 use Rattle.rules.specs.Tree.{Operand, ref, outer, case, Scope}
@@ -50,11 +50,11 @@ module _ (fs : List Floor) where
   tells_out os m O = subst (λ (os : List Operand). Tells (said_out fs os m) (outer_to fs os)) (sym O.are) (tells_in (get_elem? fs O.up) O.up O.space O.n)
 
   tells_behind : (x : Located) (n : ℕ) (m : Meaning) (spot : Spot) → Counts spot → Tells (said_behind fs spot (said (some x) n 0) m) (follow fs spot x)
-  unfolding said_behind follow if◌then◌else◌
+  unfolding said_behind follow when◌then◌else◌
   tells_behind x n m (original field at) c = record { n = n; away = 0; is = refl }
   tells_behind x n m (inserted h) c = go (eqb h.code 11) refl
     where
-      go : (b : Bool) → eqb h.code 11 ≡ b → Tells (if b then said_out fs h.operands m else said (some x) n 0) (if b then outer_to fs h.operands else some x)
+      go : (b : Bool) → eqb h.code 11 ≡ b → Tells (when b then said_out fs h.operands m else said (some x) n 0) (when b then outer_to fs h.operands else some x)
       go true e = tells_out h.operands m (c (eqb-true h.code 11 e))
       go false e = record { n = n; away = 0; is = refl }
 
@@ -92,11 +92,11 @@ module _ (form : List ℕ) (s : Scope) (rules : RuleSet) (good : GoodScope rules
       record { n = T.n; away = T.away; is = means ∙ (T.is ∙ ap (λ (o : Option Located). said o T.n T.away) (sym reaches)) }
 
 bound_is : (o : Option Located) (n away name : ℕ) → ruled (code.bound_to (said o n away) name) ≡ bound_to name o
-unfolding said code.bound_to bound_to pick if◌then◌else◌
+unfolding said code.bound_to bound_to pick when◌then◌else◌
 bound_is none n away name = refl
 bound_is (some x) n away name = go (eqb x.standing.decl.name name)
   where
-    go : (b : Bool) → ruled (pick b AsWritten (Elsewhere x.row)) ≡ (if b then as_written else elsewhere x.row)
+    go : (b : Bool) → ruled (pick b AsWritten (Elsewhere x.row)) ≡ (when b then as_written else elsewhere x.row)
     go true = refl
     go false = refl
 

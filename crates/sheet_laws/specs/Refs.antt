@@ -8,7 +8,7 @@ use Rattle.std.proofs.Math.Option.{Option, some}
 use mathlib.Core.List.{List, [], ◌∷◌, ◌++◌, map}
 use Prim.Native.Nat.{ℕ, suc, ◌+◌}
 use Rattle.std.proofs.Math.ListN.{get_elem?}
-use Rattle.rules.specs.Tools.{if◌then◌else◌, only, ◌then◌}
+use Rattle.rules.specs.Tools.{when◌then◌else◌, only, ◌then◌}
 use Rattle.rules.specs.Tree.{Operand, ref, outer, case, Head, Scope, scope, Fields, end, ◌▸◌, Item, plain, holds, head_of, with_operands, item_rows}
 use Rattle.rules.specs.Readings
 use Rattle.rules.specs.Readings.{is_inserted, Place, level, fields_of, Use, use_at}
@@ -34,7 +34,7 @@ unfoldable mutual
   pub refs_in : (z : ℕ) (w : List ℕ) (n : ℕ) → Fields → List Place
   refs_in z w n end = []
   refs_in z w n (i ▸ fs) =
-      if is_inserted (head_of i) then refs_in z w n fs
+      when is_inserted (head_of i) then refs_in z w n fs
       else refs_of z w n 0 (head_of i).operands ++ (refs_inside z (w ++ (n ∷ [])) i ++ refs_in z w (suc n) fs)
 
   pub refs_inside : (z : ℕ) (w : List ℕ) → Item → List Place
@@ -68,15 +68,15 @@ module _ (s : Scope) (z : ℕ) where
   next_field : (f : Floor) (n row : ℕ) (i : Item) (fs : Fields) → Rest s f n row (i ▸ fs) → ((m : ℕ) → Rest s f m (row + length (item_rows i)) fs → collect (ref_at s z) (places_in f.level.way m fs) ≡ refs_in z f.level.way m fs)
       → (is_inserted (head_of i) ≡ false → collect (ref_at s z) (places_inside (f.level.way ++ (n ∷ [])) i) ≡ refs_inside z (f.level.way ++ (n ∷ [])) i)
       → collect (ref_at s z) (places_in f.level.way n (i ▸ fs)) ≡ refs_in z f.level.way n (i ▸ fs)
-  unfolding places_in refs_in if◌then◌else◌
+  unfolding places_in refs_in when◌then◌else◌
   next_field f n row i fs R below inside = go (is_inserted (head_of i)) refl
     where
       w : List ℕ
       w = f.level.way
 
       go : (b : Bool) → is_inserted (head_of i) ≡ b
-          → collect (ref_at s z) (if b then places_in w n fs else places_at w n 0 (head_of i).operands ++ (places_inside (w ++ (n ∷ [])) i ++ places_in w (suc n) fs))
-          ≡ (if b then refs_in z w n fs else refs_of z w n 0 (head_of i).operands ++ (refs_inside z (w ++ (n ∷ [])) i ++ refs_in z w (suc n) fs))
+          → collect (ref_at s z) (when b then places_in w n fs else places_at w n 0 (head_of i).operands ++ (places_inside (w ++ (n ∷ [])) i ++ places_in w (suc n) fs))
+          ≡ (when b then refs_in z w n fs else refs_of z w n 0 (head_of i).operands ++ (refs_inside z (w ++ (n ∷ [])) i ++ refs_in z w (suc n) fs))
       go true e = below n (rest_inserted e R)
       go false e =
           let x : Placed = record { row = row; item = i } in
@@ -131,10 +131,10 @@ module _ (z : ℕ) where
       → refs_in z w n (blank_item i ▸ blank_fields fs) ≡ refs_in z w n (i ▸ fs)
   unfolding refs_in blank_head with_operands
   item_blank w n i fs inside more =
-      ap (λ (h : Head). if is_inserted h then refs_in z w n (blank_fields fs) else refs_of z w n 0 h.operands ++ (refs_inside z (w ++ (n ∷ [])) (blank_item i) ++ refs_in z w (suc n) (blank_fields fs))) (blank_head_lem i)
-      ∙ (ap₂ (λ (b : Bool) (l : List Place). if b then refs_in z w n (blank_fields fs) else l ++ (refs_inside z (w ++ (n ∷ [])) (blank_item i) ++ refs_in z w (suc n) (blank_fields fs))) (blank_inserted (head_of i)) (blank_of w n 0 (head_of i).operands)
-      ∙ (ap₂ (λ (a b : List Place). if is_inserted (head_of i) then a else refs_of z w n 0 (head_of i).operands ++ (b ++ refs_in z w (suc n) (blank_fields fs))) (more n) inside
-      ∙ ap (λ (a : List Place). if is_inserted (head_of i) then refs_in z w n fs else refs_of z w n 0 (head_of i).operands ++ (refs_inside z (w ++ (n ∷ [])) i ++ a)) (more (suc n))))
+      ap (λ (h : Head). when is_inserted h then refs_in z w n (blank_fields fs) else refs_of z w n 0 h.operands ++ (refs_inside z (w ++ (n ∷ [])) (blank_item i) ++ refs_in z w (suc n) (blank_fields fs))) (blank_head_lem i)
+      ∙ (ap₂ (λ (b : Bool) (l : List Place). when b then refs_in z w n (blank_fields fs) else l ++ (refs_inside z (w ++ (n ∷ [])) (blank_item i) ++ refs_in z w (suc n) (blank_fields fs))) (blank_inserted (head_of i)) (blank_of w n 0 (head_of i).operands)
+      ∙ (ap₂ (λ (a b : List Place). when is_inserted (head_of i) then a else refs_of z w n 0 (head_of i).operands ++ (b ++ refs_in z w (suc n) (blank_fields fs))) (more n) inside
+      ∙ ap (λ (a : List Place). when is_inserted (head_of i) then refs_in z w n fs else refs_of z w n 0 (head_of i).operands ++ (refs_inside z (w ++ (n ∷ [])) i ++ a)) (more (suc n))))
 
   mutual
     unfolding refs_in blank
@@ -157,17 +157,17 @@ module _ (z : ℕ) where
 
   item_without : (w : List ℕ) (n : ℕ) (i : Item) (fs : Fields) → refs_inside z (w ++ (n ∷ [])) (without_item i) ≡ refs_inside z (w ++ (n ∷ [])) i → ((m : ℕ) → refs_in z w m (without_fields fs) ≡ refs_in z w m fs)
       → refs_in z w n (without_fields (i ▸ fs)) ≡ refs_in z w n (i ▸ fs)
-  unfolding refs_in without if◌then◌else◌
+  unfolding refs_in without when◌then◌else◌
   item_without w n i fs inside more = go (is_inserted (head_of i)) refl
     where
       old : is_inserted (head_of i) ≡ false → refs_in z w n (without_item i ▸ without_fields fs) ≡ refs_of z w n 0 (head_of i).operands ++ (refs_inside z (w ++ (n ∷ [])) i ++ refs_in z w (suc n) fs)
       old e =
-          ap (λ (h : Head). if is_inserted h then refs_in z w n (without_fields fs) else refs_of z w n 0 h.operands ++ (refs_inside z (w ++ (n ∷ [])) (without_item i) ++ refs_in z w (suc n) (without_fields fs))) (without_head i)
-          ∙ (ap (λ (b : Bool). if b then refs_in z w n (without_fields fs) else refs_of z w n 0 (head_of i).operands ++ (refs_inside z (w ++ (n ∷ [])) (without_item i) ++ refs_in z w (suc n) (without_fields fs))) e
+          ap (λ (h : Head). when is_inserted h then refs_in z w n (without_fields fs) else refs_of z w n 0 h.operands ++ (refs_inside z (w ++ (n ∷ [])) (without_item i) ++ refs_in z w (suc n) (without_fields fs))) (without_head i)
+          ∙ (ap (λ (b : Bool). when b then refs_in z w n (without_fields fs) else refs_of z w n 0 (head_of i).operands ++ (refs_inside z (w ++ (n ∷ [])) (without_item i) ++ refs_in z w (suc n) (without_fields fs))) e
           ∙ ap₂ (λ (a b : List Place). refs_of z w n 0 (head_of i).operands ++ (a ++ b)) inside (more (suc n)))
 
-      go : (b : Bool) → is_inserted (head_of i) ≡ b → refs_in z w n (if b then without_fields fs else without_item i ▸ without_fields fs)
-          ≡ (if b then refs_in z w n fs else refs_of z w n 0 (head_of i).operands ++ (refs_inside z (w ++ (n ∷ [])) i ++ refs_in z w (suc n) fs))
+      go : (b : Bool) → is_inserted (head_of i) ≡ b → refs_in z w n (when b then without_fields fs else without_item i ▸ without_fields fs)
+          ≡ (when b then refs_in z w n fs else refs_of z w n 0 (head_of i).operands ++ (refs_inside z (w ++ (n ∷ [])) i ++ refs_in z w (suc n) fs))
       go true e = more n
       go false e = old e
 

@@ -9,7 +9,7 @@ use native.Mathlib.Omega.{arith}
 use Prim.Native.Nat.{ℕ, suc, ◌+◌, ◌-◌}
 use Rattle.std.proofs.Math.ListN.{length, get_elem?, length-append}
 use Rattle.kit.specs.Pick.{pick}
-use Rattle.rules.specs.Tools.{if◌then◌else◌, only, ◌then◌, is_in}
+use Rattle.rules.specs.Tools.{when◌then◌else◌, only, ◌then◌, is_in}
 use Rattle.rules.specs.Versions.{RuleSet}
 use Rattle.rules.specs.Rows.{Row, Field, Open, Close, encode}
 use Rattle.rules.specs.Tree.{Declaration, Operand, ref, outer, case, Head, Scope, scope, Fields, end, ◌▸◌, Item, plain, holds, head_of, flatten, fields_rows, item_rows, head_rows, decl_rows, path_rows, operand_row, operand_rows, export_rows}
@@ -295,7 +295,7 @@ module _ (form : List ℕ) (s : Scope) (z : ℕ) where
         → ((m : ℕ) → Rest s f m (row + length (item_rows i)) fs → At form (row + length (item_rows i)) (fields_rows fs) → Found (row + length (item_rows i)) (length (fields_rows fs)) (refs_in z f.level.way m fs))
         → (is_inserted (head_of i) ≡ false → At form row (item_rows i) → Found row (length (item_rows i)) (refs_of z f.level.way n 0 (head_of i).operands ++ refs_inside z (f.level.way ++ (n ∷ [])) i))
         → Found row (length (item_rows i ++ fields_rows fs)) (refs_in z f.level.way n (i ▸ fs))
-    unfolding refs_in if◌then◌else◌
+    unfolding refs_in when◌then◌else◌
     next_field f n row kind i fs R a alias good below item = go (is_inserted (head_of i)) refl
       where
         w : List ℕ
@@ -311,7 +311,7 @@ module _ (form : List ℕ) (s : Scope) (z : ℕ) where
         size = sym (length-append (item_rows i) (fields_rows fs))
 
         go : (b : Bool) → is_inserted (head_of i) ≡ b
-            → Found row (length (item_rows i ++ fields_rows fs)) (if b then refs_in z w n fs else refs_of z w n 0 (head_of i).operands ++ (refs_inside z (w ++ (n ∷ [])) i ++ refs_in z w (suc n) fs))
+            → Found row (length (item_rows i ++ fields_rows fs)) (when b then refs_in z w n fs else refs_of z w n 0 (head_of i).operands ++ (refs_inside z (w ++ (n ∷ [])) i ++ refs_in z w (suc n) fs))
         go true e = found_is (found_append (item_inserted i kind row (alias e) good own) (below n (rest_inserted e R) rest)) size refl
         go false e =
             found_is (found_append (item e own) (below (suc n) (rest_original e R) rest)) size

@@ -12,7 +12,7 @@ use borrow.Author.Rules.{rules}
 use Rattle.kit.specs.Out.{◌&◌}
 use Rattle.kit.specs.Pick.{pick}
 use Rattle.kit.proofs.Laws.{lt_or_le}
-use Rattle.rules.specs.Tools.{if◌then◌else◌}
+use Rattle.rules.specs.Tools.{when◌then◌else◌}
 use Rattle.rules.specs.Versions.{Setting, all}
 use Rattle.rules.specs.Answer.{setting_of, answer, output}
 use Rattle.limits.specs.declared.Limits.{Limits}
@@ -65,11 +65,11 @@ module _ (form : List ℕ) (i : ℕ) (asks : setting i ≡ asked form) where
     in_asked = ap (λ (s : Setting). roomy s.version lent) (sym asks) ∙ enough
 
     pub said_roomy : (x : Resolved) (room : ℕ) → meaning x ≡ ruled (answer_with form room lent) → meaning x ≡ ruled (answer all form room)
-    unfolding answer_with if◌then◌else◌
+    unfolding answer_with when◌then◌else◌
     said_roomy x room e = rw in_asked at e
 
     pub left_roomy : (o o' : List ℕ) → o' ≡ output_with form o lent → o' ≡ output all form o
-    unfolding output_with if◌then◌else◌
+    unfolding output_with when◌then◌else◌
     left_roomy o o' e = rw in_asked at e
 
 -- ---- refused_early

@@ -12,7 +12,7 @@ use mir.Syntax.{w8}
 use mir.Val.{Fits}
 use Rattle.kit.specs.Out.{◌&◌}
 use Rattle.kit.specs.Pick.{pick}
-use Rattle.rules.specs.Tools.{if◌then◌else◌}
+use Rattle.rules.specs.Tools.{when◌then◌else◌}
 use Rattle.rules.specs.Versions.{Setting, all}
 use Rattle.limits.specs.Held.{setting}
 use Rattle.rules.proofs.Laws.InputLaws.{all_usual}
@@ -41,28 +41,28 @@ module _ (form resolved sheet answers : List ℕ) (work : ℕ) (lent : Lent) (i 
 
   -- the working area that the rules are told of
   abbrev told : ℕ
-  told = if large then work else 0
+  told = when large then work else 0
 
   A-is : sheet_answer all form resolved sheet (length answers) told ≡ A
   unfolding sheet_with
-  A-is = ap (λ (b : Bool). sheet_answer all form resolved sheet (length answers) (if b then work else 0)) (fits ∙ ap (λ (s : Setting). roomy s.version lent) asks)
+  A-is = ap (λ (b : Bool). sheet_answer all form resolved sheet (length answers) (when b then work else 0)) (fits ∙ ap (λ (s : Setting). roomy s.version lent) asks)
 
   area : work_size all form ≡ size
   area = area_is form i asks ∙ sym sized
 
   told_small : enough ≡ false → told < size
-  unfolding if◌then◌else◌
+  unfolding when◌then◌else◌
   told_small e = go large e
     where
-      go : (b : Bool) → (b && leb size work) ≡ false → (if b then work else 0) < size
+      go : (b : Bool) → (b && leb size work) ≡ false → (when b then work else 0) < size
       go true e = leb-false size work e
       go false e = let h = header_long i in omega (arith, sized, h)
 
   told_large : enough ≡ true → size ≤ told
-  unfolding if◌then◌else◌
+  unfolding when◌then◌else◌
   told_large e = go large e
     where
-      go : (b : Bool) → (b && leb size work) ≡ true → size ≤ (if b then work else 0)
+      go : (b : Bool) → (b && leb size work) ≡ true → size ≤ (when b then work else 0)
       go true e = leb-true size work e
       go false e = let no_way : ◌≡◌ {A = ℕ} 0 1 = cc in absurd (omega arith)
 

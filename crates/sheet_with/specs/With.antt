@@ -2,7 +2,7 @@
 -- sheet's own 15 and before all that is said of the forms.
 use Rattle.std.specs.Prelude.{Bool, List, ℕ, ◌+◌, ◌*◌}
 use Rattle.kit.specs.Pick.{pick}
-use Rattle.rules.specs.Tools.{if◌then◌else◌}
+use Rattle.rules.specs.Tools.{when◌then◌else◌}
 use Rattle.rules.specs.Versions.{Setting, all}
 use Rattle.binding.specs.Sheet.{SheetAnswer, sound_sheet, sheet_answer}
 use Rattle.resolver_with.specs.Areas.{Lent, roomy}
@@ -10,7 +10,7 @@ use Rattle.resolver_with.specs.Asked.{asked}
 
 -- the rules' answer; tables that are too small count as a working area of no bytes
 unfoldable pub sheet_with : (input resolved sheet : List ℕ) (room work : ℕ) → Lent → SheetAnswer
-sheet_with input resolved sheet room work lent = sheet_answer all input resolved sheet room (if roomy (asked input).version lent then work else 0)
+sheet_with input resolved sheet room work lent = sheet_answer all input resolved sheet room (when roomy (asked input).version lent then work else 0)
 
 -- ---- what only the proofs need
 

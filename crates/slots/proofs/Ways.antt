@@ -11,7 +11,7 @@ use lib.ListN.{length, get_or, take, drop, length-append}
 use lib.Seq.{sets, drop-drop}
 use Rattle.kit.specs.Out.{Out, ◌&◌}
 use Rattle.kit.proofs.Laws.{tests, left_suc, sets_append}
-use Rattle.rules.specs.Tools.{if◌then◌else◌}
+use Rattle.rules.specs.Tools.{when◌then◌else◌}
 use Rattle.rules.specs.Rows.{value, bytes}
 use Rattle.rows.proofs.Laws.{value_four}
 use Rattle.stores.proofs.Laws.{length_word}
@@ -92,19 +92,19 @@ pair_put l l₁ l₂ at kind row e₁ e₂ =
 
 module _ (n so_far : ℕ) (old l : List ℕ) (b : Binding) where
   pub put_written : b ≡ AsWritten → l ≡ sets old (8 * n) (pair_bytes 0 0) → (so_far & l) ≡ noted n so_far old (ruled b ∷ [])
-  unfolding noted failing is_as_written answers_bytes binding_bytes pair_bytes if◌then◌else◌
+  unfolding noted failing is_as_written answers_bytes binding_bytes pair_bytes when◌then◌else◌
   put_written q h = rw (h, q, append-nil, add-zero)
 
   pub put_elsewhere : (row : ℕ) → b ≡ Elsewhere row → l ≡ sets old (8 * n) (pair_bytes 1 row) → (so_far + 1 & l) ≡ noted n so_far old (ruled b ∷ [])
-  unfolding noted failing is_as_written answers_bytes binding_bytes pair_bytes if◌then◌else◌
+  unfolding noted failing is_as_written answers_bytes binding_bytes pair_bytes when◌then◌else◌
   put_elsewhere row q h = rw (h, q, append-nil)
 
   pub put_none : b ≡ NoReference → l ≡ sets old (8 * n) (pair_bytes 2 0) → (so_far + 1 & l) ≡ noted n so_far old (ruled b ∷ [])
-  unfolding noted failing is_as_written answers_bytes binding_bytes pair_bytes if◌then◌else◌
+  unfolding noted failing is_as_written answers_bytes binding_bytes pair_bytes when◌then◌else◌
   put_none q h = rw (h, q, append-nil)
 
   pub put_several : b ≡ Several → l ≡ sets old (8 * n) (pair_bytes 3 0) → (so_far + 1 & l) ≡ noted n so_far old (ruled b ∷ [])
-  unfolding noted failing is_as_written answers_bytes binding_bytes pair_bytes if◌then◌else◌
+  unfolding noted failing is_as_written answers_bytes binding_bytes pair_bytes when◌then◌else◌
   put_several q h = rw (h, q, append-nil)
 
 pub ruleset put_ways = (pair_put, put_written, put_elsewhere, put_none, put_several, rules)
@@ -112,11 +112,11 @@ pub ruleset put_ways = (pair_put, put_written, put_elsewhere, put_none, put_seve
 -- ---- all of them
 
 failing_append : (bs₁ bs₂ : List rules.Binding) → failing (bs₁ ++ bs₂) ≡ failing bs₁ + failing bs₂
-unfolding failing if◌then◌else◌
+unfolding failing when◌then◌else◌
 failing_append [] bs₂ = omega arith
 failing_append (a ∷ bs₁) bs₂ = go (is_as_written a) (failing_append bs₁ bs₂)
   where
-    go : (t : Bool) → failing (bs₁ ++ bs₂) ≡ failing bs₁ + failing bs₂ → (if t then failing (bs₁ ++ bs₂) else suc (failing (bs₁ ++ bs₂))) ≡ (if t then failing bs₁ else suc (failing bs₁)) + failing bs₂
+    go : (t : Bool) → failing (bs₁ ++ bs₂) ≡ failing bs₁ + failing bs₂ → (when t then failing (bs₁ ++ bs₂) else suc (failing (bs₁ ++ bs₂))) ≡ (when t then failing bs₁ else suc (failing bs₁)) + failing bs₂
     go true e = e
     go false e = omega (arith, e)
 

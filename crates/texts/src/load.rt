@@ -3,7 +3,7 @@ ghost use Rattle.std.specs.Prelude.{◌≡◌, take};
 ghost use Rattle.files.specs.Loaded.{Fits};
 
 use files::host::Host;
-use files::parts::front;
+use files::path_parts::front;
 use files::read::{Loaded, load_within};
 
 // The most bytes of a text: 128 for each line of the longest form, and of what is printed no line has more. A form of

@@ -8,7 +8,7 @@ use row_parts::{FIRST_FRESH, rows_in};
 use rows::row::{DECL, FIELD};
 use words::kinds::{say_scope, say_space};
 use words::names::{say_export, say_name_if_any, say_operand};
-use words::rows::{say_field_row, say_outer};
+use words::row_words::{say_field_row, say_outer};
 use words::{Talk, say, say_number};
 
 fn say_next(fd: Talk<'_>, part: u32) {

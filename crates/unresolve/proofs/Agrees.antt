@@ -12,7 +12,7 @@ use borrow.Author.Rules.{rules}
 use borrow.Author.Tests.{lt-ltb, le-ltb, ltb-false}
 use Rattle.kit.specs.Pick.{pick}
 use Rattle.kit.specs.Out.{Out, ◌&◌}
-use Rattle.rules.specs.Tools.{if◌then◌else◌}
+use Rattle.rules.specs.Tools.{when◌then◌else◌}
 use Rattle.rules.specs.Versions.{Setting, version1, base, as_claimed}
 use Rattle.rules.specs.Tree.{Scope, flatten}
 use Rattle.rules.specs.Answer.{same_numbers, row_count, form_bytes, output, accepted}
@@ -157,7 +157,7 @@ module _ (i : ℕ) (F : Fit (setting i)) where
 
   module _ (form out : List ℕ) (x : List ℕ) (e : back (alone i) form ≡ some x) (few : length x ≤ header + 16 * most) (r : Answer) (o : List ℕ) (w : (r & o) ≡ give_t i x out) where
     by_room : (b : Bool) → ltb (length out) (length x) ≡ b → (meaning r ≡ returned_in (setting i).version (back_answer (alone i) form (length out))) × (o ≡ back_output (alone i) form out)
-    unfolding give_t back_output back_answer in_room over returned_in answer_of_lem out_of if◌then◌else◌ pick
+    unfolding give_t back_output back_answer in_room over returned_in answer_of_lem out_of when◌then◌else◌ pick
     by_room true t =
         let w' : (r & o) ≡ (refused_t 3 & out) = w ∙ rw t in
         let p : r ≡ refused_t 3 = ap answer_of_lem w' in
@@ -261,7 +261,7 @@ pub ruleset running = (first_nothing, first_kept, first_long, first_headed, firs
 
 module _ (form out : List ℕ) (restored again : ℕ) where
   small : (b : Bool) → (ltb restored 16376 || ltb again 65480) ≡ b → b ≡ true → (r : Answer) → r ≡ refused_t 3 → (meaning r ≡ returned (back_with form (length out) restored again)) × (out ≡ out_with form out restored again)
-  unfolding back_with out_with over returned returned_in if◌then◌else◌
+  unfolding back_with out_with over returned returned_in when◌then◌else◌
   small b e t r q = let s : (ltb restored 16376 || ltb again 65480) ≡ true = e ∙ t in (rw (s, q), rw s)
 
   module _ (r : Answer) (q : r ≡ refused_t 3) where
@@ -279,11 +279,11 @@ module _ (form out : List ℕ) (restored again : ℕ) where
 
   module _ (g : 16376 ≤ restored) (h : 65480 ≤ again) where
     pub enough_said : (r : Answer) → meaning r ≡ returned (back_answer base form (length out)) → meaning r ≡ returned (back_with form (length out) restored again)
-    unfolding back_with if◌then◌else◌
+    unfolding back_with when◌then◌else◌
     enough_said r p = rw (le-ltb restored 16376 g, le-ltb again 65480 h) p
 
     pub enough_left : (o : List ℕ) → o ≡ back_output base form out → o ≡ out_with form out restored again
-    unfolding back_with out_with back_output if◌then◌else◌
+    unfolding back_with out_with back_output when◌then◌else◌
     enough_left o q = rw (le-ltb restored 16376 g, le-ltb again 65480 h) q
 
 pub kept_same : (size : ℕ) (l : List ℕ) → Kept size l l

@@ -10,7 +10,7 @@ use lib.ListN.{length, get_or, take, drop, replicate, length-append, length-repl
 use lib.Seq.{take_at, take-take, drop_at}
 use borrow.Author.Tests.{eqb-true, leb-true, le-ltb}
 use Rattle.kit.proofs.Laws.{lt_or_le}
-use Rattle.rules.specs.Tools.{if◌then◌else◌, between, only, ◌or_else◌, ◌then◌}
+use Rattle.rules.specs.Tools.{when◌then◌else◌, between, only, ◌or_else◌, ◌then◌}
 use Rattle.rules.specs.Versions.{Setting, as_claimed}
 use Rattle.rules.specs.Rows.{value, Row}
 use Rattle.rules.specs.Tree.{Scope, flatten}
@@ -71,8 +71,8 @@ unfolding written
 blank_zero zero old h = absurd (omega arith)
 blank_zero (suc n) old h = let e : suc n - 0 ≡ suc n = omega arith in rw e
 
-left_zero : (b : Bool) (size : ℕ) (old : List ℕ) → 0 < size → get_or old 0 0 ≡ 0 → get_or (if b then old else written size [] old) 0 0 ≡ 0
-unfolding if◌then◌else◌
+left_zero : (b : Bool) (size : ℕ) (old : List ℕ) → 0 < size → get_or old 0 0 ≡ 0 → get_or (when b then old else written size [] old) 0 0 ≡ 0
+unfolding when◌then◌else◌
 left_zero true size old h z = z
 left_zero false size old h z = blank_zero size old h
 
@@ -112,9 +112,9 @@ module _ (one : Setting) where
     count_of rs z few = rw (append_assoc (header_bytes one (length rs)) (rows_bytes rs) z) (header_count one (length rs) (rows_bytes rs ++ z) (omega (arith, U.countable)))
 
     same_form : (input : List ℕ) (a : Bool) (x : AnswerOf Scope) → not (between 1 one.version.rows (row_count one.version input)) || not (eqb (length input) (one.version.header + 16 * row_count one.version input)) ≡ a
-        → (if a then refused 2 0 [] else if ltb (one.version.header + 64 * one.version.rows) (one.version.header + 64 * row_count one.version input) then refused 3 0 [] else x)
-        ≡ (if a then refused 2 0 [] else if ltb (one.version.header + 64 * row_count one.version input) (one.version.header + 64 * row_count one.version input) then refused 3 0 [] else x)
-    unfolding if◌then◌else◌
+        → (when a then refused 2 0 [] else when ltb (one.version.header + 64 * one.version.rows) (one.version.header + 64 * row_count one.version input) then refused 3 0 [] else x)
+        ≡ (when a then refused 2 0 [] else when ltb (one.version.header + 64 * row_count one.version input) (one.version.header + 64 * row_count one.version input) then refused 3 0 [] else x)
+    unfolding when◌then◌else◌
     same_form input true x e = refl
     same_form input false x e =
         let n = row_count one.version input in

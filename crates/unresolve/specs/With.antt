@@ -1,6 +1,6 @@
 -- The way back where the working areas are lent: how large they are, what is answered, and what is left in each buffer.
 use Rattle.std.specs.Prelude.{◌||◌, List, ℕ, ◌+◌, ◌*◌, ltb, length}
-use Rattle.rules.specs.Tools.{if◌then◌else◌}
+use Rattle.rules.specs.Tools.{when◌then◌else◌}
 use Rattle.rules.specs.Versions.{Version, version1, base}
 use Rattle.clearing.specs.Cleared.{cleared}
 use Rattle.unresolving.specs.BackAnswer.{Returned, refused, back_answer, over}
@@ -20,7 +20,7 @@ output_size v = v.header + 64 * v.rows
 -- refusal 3 where an area is too small, else the rules' answer
 unfoldable pub back_with : (claim : List ℕ) (room restored again : ℕ) → Returned
 back_with claim room restored again =
-    if ltb restored (input_size version1) || ltb again (output_size version1) then refused 3 0
+    when ltb restored (input_size version1) || ltb again (output_size version1) then refused 3 0
     else back_answer base claim room
 
 -- the output's bytes behind the result stay, and all of them after a refusal

@@ -10,7 +10,7 @@ use lib.Seq.{take_all, length-take-le}
 use borrow.Author.Rules.{rules}
 use borrow.Author.Tests.{eq-eqb}
 use Rattle.kit.specs.Out.{◌&◌}
-use Rattle.rules.specs.Tools.{if◌then◌else◌}
+use Rattle.rules.specs.Tools.{when◌then◌else◌}
 use Rattle.rules.specs.Versions.{Setting, as_claimed}
 use Rattle.rules.specs.Answer.{same_numbers, output}
 use Rattle.rules.specs.Laws.RowLaws.{Bytes}
@@ -81,7 +81,7 @@ module _ (i : ℕ) (e n : List Slot) (k c m : List ℕ) (suits : Suits i e n k c
 
   pub lent_resolves : (input claim again a₁ a₂ : List ℕ) (x : Answer) (r : Bool) → a₁ ≡ set again 0 0 → Ran (setting i) (exactly (setting i).version (lent_of e n k c m)) input a₁ a₂ x
       → r ≡ same_numbers (take (length claim) a₂) claim → r ≡ same_numbers (take (length claim) (output (alone i) input (set again 0 0))) claim
-  unfolding if◌then◌else◌
+  unfolding when◌then◌else◌
   lent_resolves input claim again a₁ a₂ x r p R q =
       let left : a₂ ≡ output (alone i) input a₁ = R.leaves ∙ rw suits_exactly in
       q ∙ rw (left, p)

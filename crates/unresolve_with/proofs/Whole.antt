@@ -8,7 +8,7 @@ use lib.Dec.{ltb}
 use lib.ListN.{length}
 use borrow.Author.Rules.{rules}
 use borrow.Author.Tests.{ltb-false}
-use Rattle.rules.specs.Tools.{if◌then◌else◌}
+use Rattle.rules.specs.Tools.{when◌then◌else◌}
 use Rattle.rules.specs.Versions.{Setting, all}
 use Rattle.unresolving.specs.BackAnswer.{Returned, refused, back_answer, over, back_output}
 use Rattle.limits.specs.Held.{setting}
@@ -54,13 +54,13 @@ module _ (form out : List ℕ) (i : ℕ) (asks : setting i ≡ asked form) (r a 
   unfolding too_small
   tested = ap (λ (x : Setting). too_small x.version lengths) (sym asks) ∙ sym (is ∙ rw f)
 
-  answered : (b : Bool) → small ≡ b → back_lent form (length out) lengths ≡ (if b then refused 3 0 else back_answer all form (length out))
+  answered : (b : Bool) → small ≡ b → back_lent form (length out) lengths ≡ (when b then refused 3 0 else back_answer all form (length out))
   unfolding back_lent
   answered b q = rw (tested, q)
 
   module _ (q : small ≡ true) where
     small_answer : back_lent form (length out) lengths ≡ refused 3 0
-    unfolding if◌then◌else◌
+    unfolding when◌then◌else◌
     small_answer = answered true q
 
     pub small_said : (x : Answer) → x ≡ refused_t 3 → meaning x ≡ returned_in (asked form).version (back_lent form (length out) lengths)
@@ -82,7 +82,7 @@ module _ (form out : List ℕ) (i : ℕ) (asks : setting i ≡ asked form) (r a 
     is_large = large_in i e s k c m (sym f ∙ parts.0)
 
     large_answer : back_lent form (length out) lengths ≡ back_answer (alone i) form (length out)
-    unfolding if◌then◌else◌
+    unfolding when◌then◌else◌
     large_answer = answered false q ∙ answer_asked form (length out) ∙ ap (λ (x : Setting). back_answer (x ∷ []) form (length out)) (sym asks)
 
     pub large_said : (x : Answer) → meaning x ≡ returned_in (setting i).version (back_answer (alone i) form (length out)) → meaning x ≡ returned_in (asked form).version (back_lent form (length out) lengths)

@@ -1,7 +1,7 @@
 -- The way back for every setting in force, where the resolver's working areas are lent too: how large the areas are, what is answered,
 -- and what is left in each buffer. The sizes go by the setting that the resolved form's header asks for.
 use Rattle.std.specs.Prelude.{◌≡◌, Bool, ◌||◌, not, List, ℕ, ◌*◌, ltb, length}
-use Rattle.rules.specs.Tools.{if◌then◌else◌}
+use Rattle.rules.specs.Tools.{when◌then◌else◌}
 use Rattle.rules.specs.Versions.{Version, all}
 use Rattle.clearing.specs.Cleared.{cleared}
 use Rattle.unresolving.specs.BackAnswer.{Returned, refused, back_answer, over}
@@ -34,7 +34,7 @@ too_small v l = not (roomy v l.tables) || (ltb l.restored (input_size v) || (ltb
 
 -- refusal 3 where an area is too small, else the rules' answer
 unfoldable pub back_lent : (claim : List ℕ) (room : ℕ) → Lengths → Returned
-back_lent claim room l = if too_small (asked claim).version l then refused 3 0 else back_answer all claim room
+back_lent claim room l = when too_small (asked claim).version l then refused 3 0 else back_answer all claim room
 
 -- the output's bytes behind the result stay, and all of them after a refusal
 unfoldable pub out_lent : (claim old : List ℕ) → Lengths → List ℕ

@@ -4,7 +4,7 @@
 use Rattle.std.specs.Prelude.{Bool, false, ◌&&◌, List, [], ◌∷◌, ◌++◌, reverse, ℕ, eqb}
 use Rattle.std.proofs.Math.Option.{Option, none, some}
 use Rattle.std.proofs.Math.ListN.{get_elem?}
-use Rattle.rules.specs.Tools.{if◌then◌else◌, ◌then◌}
+use Rattle.rules.specs.Tools.{when◌then◌else◌, ◌then◌}
 use Rattle.rules.specs.Rows.{Index, Num, Id}
 use Rattle.rules.specs.Tree.{Declaration, Operand, ref, outer, case, Head, Scope, scope, Fields, end, ◌▸◌, Item, plain, holds, head_of, with_operands}
 use Rattle.rules.specs.Rules.{find, declarations}
@@ -48,7 +48,7 @@ is_number (some m) n = eqb m n
 -- the names of a space, in order
 unfoldable pub names_in : List Declaration → (space : ℕ) → List ℕ
 names_in [] space = []
-names_in (d ∷ ds) space = if eqb d.space space then d.name ∷ names_in ds space else names_in ds space
+names_in (d ∷ ds) space = when eqb d.space space then d.name ∷ names_in ds space else names_in ds space
 
 -- the name of the item `n` of the scope `d` further out, where `tables` are the declarations of the scopes, the innermost first
 unfoldable pub name_out : (tables : List (List Declaration)) → (space d n : ℕ) → ℕ
@@ -100,7 +100,7 @@ module _ (here : List Declaration) (outside : List (List Declaration)) where
   unfoldable pub groups : List Head → List Group
   groups [] = []
   groups (a ∷ []) = alone a ∷ []
-  groups (a ∷ (b ∷ more)) = let gs = groups (b ∷ more) in if links a b then prepend a gs else alone a ∷ gs
+  groups (a ∷ (b ∷ more)) = let gs = groups (b ∷ more) in when links a b then prepend a gs else alone a ∷ gs
 
   -- does the operand count to that DECL, from the same place?
   unfoldable pub is_for : Declaration → Operand → Bool
@@ -114,8 +114,8 @@ module _ (here : List Declaration) (outside : List (List Declaration)) where
   first_fit (o ∷ os) [] = o ∷ os
   first_fit (o ∷ os) (g ∷ gs) =
       let t = is_for g.decl o in
-      let os' = first_fit os (if t then gs else g ∷ gs) in
-      (if t then g.was else o) ∷ os'
+      let os' = first_fit os (when t then gs else g ∷ gs) in
+      (when t then g.was else o) ∷ os'
 
   -- the same from the back: to the last operand, before those of the groups behind it
   unfoldable pub restored : List Operand → List Group → List Operand
@@ -138,8 +138,8 @@ unfoldable mutual
   unresolve_fields end here outside waiting = end
   unresolve_fields (i ▸ fs) here outside waiting =
       let t = is_inserted (head_of i) in
-      let rest = unresolve_fields fs here outside (if t then waiting ++ (head_of i ∷ []) else []) in
-      if t then rest else unresolve_item i here outside waiting ▸ rest
+      let rest = unresolve_fields fs here outside (when t then waiting ++ (head_of i ∷ []) else []) in
+      when t then rest else unresolve_item i here outside waiting ▸ rest
 
   -- a field and the scope that it holds
   pub unresolve_item : Item → (here : List Declaration) (outside : List (List Declaration)) (waiting : List Head) → Item

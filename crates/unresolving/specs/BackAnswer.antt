@@ -2,7 +2,7 @@
 -- Refusal 14: no input has these bytes as its output. Refusal 3: the result is longer than the output buffer.
 use Rattle.std.specs.Prelude.{Bool, false, List, [], ◌++◌, ℕ, ◌+◌, ◌*◌, ltb, length, drop}
 use Rattle.std.proofs.Math.Option.{Option, none, some}
-use Rattle.rules.specs.Tools.{if◌then◌else◌, only, ◌then◌}
+use Rattle.rules.specs.Tools.{when◌then◌else◌, only, ◌then◌}
 use Rattle.rules.specs.Versions.{Setting, claimed}
 use Rattle.rules.specs.Tree.{Scope, flatten, RowsRead, bad, deep, form}
 use Rattle.rules.specs.Reader.{read}
@@ -52,7 +52,7 @@ pub data Returned : Type 0 where
 -- refusal 14, if there is no such input; refusal 3, if it is longer than the output
 unfoldable pub in_room : (room : ℕ) → Option (List ℕ) → Returned
 in_room room none = refused 14 0
-in_room room (some bs) = if ltb room (length bs) then refused 3 0 else given bs
+in_room room (some bs) = when ltb room (length bs) then refused 3 0 else given bs
 
 -- the answer where the output has `room` bytes
 unfoldable pub back_answer : List Setting → (claim : List ℕ) (room : ℕ) → Returned

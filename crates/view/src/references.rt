@@ -6,7 +6,7 @@ use row_parts::{EXPORT, OUTER, PATH, b_at, code_at, e_at, is_ascribed, next, row
 use rows::row::REF;
 use words::kinds::say_space;
 use words::names::{say_export, say_operand};
-use words::rows::{say_alias_of, say_found, say_outer};
+use words::row_words::{say_alias_of, say_found, say_outer};
 use words::{Talk, say};
 
 // What an alias of an export stands for, where a DECL is that of one: its REF and its EXPORT follow.

@@ -7,7 +7,7 @@ use native.Mathlib.Omega.{arith}
 use Prim.Native.Nat.{ℕ, zero, suc, ◌+◌, ◌*◌, ◌<◌}
 use lib.Dec.{eqb}
 use lib.ListN.{length, get_or}
-use Rattle.rules.specs.Tools.{if◌then◌else◌, between, only, ◌or_else◌}
+use Rattle.rules.specs.Tools.{when◌then◌else◌, between, only, ◌or_else◌}
 use Rattle.kit.specs.Pick.{pick}
 use Rattle.rules.specs.Versions.{Setting, version1, today, all, as_claimed}
 use Rattle.rules.specs.Tree.{Scope, flatten, RowsRead, bad, deep, form}
@@ -71,7 +71,7 @@ module _ (claim : Bool) where
   asks_next s ss k input Count e (t, p, q) = (t, e ∙ p, q)
 
   asks : (ss : List Setting) (k : ℕ) (input : List ℕ) → Asks ss k input (asked_from claim k ss input)
-  unfolding asked_from setting_of header_in header_for if◌then◌else◌ or_next only ◌or_else◌
+  unfolding asked_from setting_of header_in header_for when◌then◌else◌ or_next only ◌or_else◌
   asks [] k input = refl
   asks (s ∷ ss) k input = go (has_header (held_as claim s) input) refl (asks ss (k + 1) input)
     where

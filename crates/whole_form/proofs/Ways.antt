@@ -12,7 +12,7 @@ use borrow.Author.Rules.{rules}
 use borrow.Author.Tests.{leb-true, eqb-true}
 use Rattle.kit.specs.Pick.{pick}
 use Rattle.kit.proofs.Laws.{drop_next}
-use Rattle.rules.specs.Tools.{if◌then◌else◌, between, only}
+use Rattle.rules.specs.Tools.{when◌then◌else◌, between, only}
 use Rattle.rules.specs.Versions.{Setting, version1, today, all, as_claimed}
 use Rattle.rules.specs.Rows.{Row}
 use Rattle.rules.specs.Tree.{flatten}
@@ -66,9 +66,9 @@ header_rows s input rows e =
     only_rows true s input n e = unfold only header_for in (refl, e)
     only_rows false s input n e = unfold only header_for in (let z : ◌≡◌ {A = ℕ} 0 1 = cc in absurd (omega arith))
 
-    counted_rows : (b : Bool) (n m : ℕ) → Rows n ≡ (if b then Count else Rows m) → (b ≡ false) × (n ≡ m)
-    counted_rows true n m e = unfold if◌then◌else◌ in (let z : ◌≡◌ {A = ℕ} 0 1 = cc in absurd (omega arith))
-    counted_rows false n m e = unfold if◌then◌else◌ in (refl, cc)
+    counted_rows : (b : Bool) (n m : ℕ) → Rows n ≡ (when b then Count else Rows m) → (b ≡ false) × (n ≡ m)
+    counted_rows true n m e = unfold when◌then◌else◌ in (let z : ◌≡◌ {A = ℕ} 0 1 = cc in absurd (omega arith))
+    counted_rows false n m e = unfold when◌then◌else◌ in (refl, cc)
 
     neither : (a b : Bool) → not a || not b ≡ false → (a ≡ true) × (b ≡ true)
     neither true true e = (refl, refl)
@@ -176,7 +176,7 @@ module _ (l : Limits) (input : List ℕ) where
       rw k (reading_is rows (rows_in s input) size (omega (arith, held_rows l)) (read s.rules s.version.scopes (rows_in s input)) ((read_right s.rules s.version.scopes (rows_in s input) (read s.rules s.version.scopes (rows_in s input))).0 refl))
 
   held_is : l.rows ≤ 4294967295 → held_t l input ≡ form_of (read_form (setting_in l) input)
-  unfolding held_t header_to read_form header_for header_in only head_t form_of if◌then◌else◌
+  unfolding held_t header_to read_form header_for header_in only head_t form_of when◌then◌else◌
   held_is low = go (has_header s input) refl
     where
       s : Setting
@@ -186,12 +186,12 @@ module _ (l : Limits) (input : List ℕ) where
       m = not (between 1 (setting_in l).version.rows (row_count (setting_in l).version input)) || not (eqb (length input) ((setting_in l).version.header + 16 * row_count (setting_in l).version input))
 
       inner : (b : Bool) → m ≡ b → has_header (setting_in l) input ≡ true
-          → head_t l (if b then Count else Rows (row_count (setting_in l).version input)) input ≡ form_of (if b then refused 2 0 [] else as_answer (read (setting_in l).rules (setting_in l).version.scopes (rows_in (setting_in l) input)))
+          → head_t l (when b then Count else Rows (row_count (setting_in l).version input)) input ≡ form_of (when b then refused 2 0 [] else as_answer (read (setting_in l).rules (setting_in l).version.scopes (rows_in (setting_in l) input)))
       inner true e h = refl
       inner false e h = body_is (row_count (setting_in l).version input) (header_rows (setting_in l) input (row_count (setting_in l).version input) (sym (rw (h, e)))) low
 
       go : (b : Bool) → has_header (setting_in l) input ≡ b
-          → head_t l (header_for (only b (setting_in l)) input) input ≡ form_of (if not b then refused 1 0 [] else if m then refused 2 0 [] else as_answer (read (setting_in l).rules (setting_in l).version.scopes (rows_in (setting_in l) input)))
+          → head_t l (header_for (only b (setting_in l)) input) input ≡ form_of (when not b then refused 1 0 [] else when m then refused 2 0 [] else as_answer (read (setting_in l).rules (setting_in l).version.scopes (rows_in (setting_in l) input)))
       go false e = refl
       go true e = inner m refl e
 

@@ -5,7 +5,7 @@ use Rattle.std.proofs.Math.Bool.{true}
 use Rattle.std.proofs.Math.Option.{some}
 use mathlib.Core.List.{List, [], ◌∷◌}
 use Rattle.std.proofs.Common.{arith, lt-ltb, ltb-true}
-use Rattle.rules.specs.Tools.{if◌then◌else◌, ◌then◌, is_in}
+use Rattle.rules.specs.Tools.{when◌then◌else◌, ◌then◌, is_in}
 use Rattle.rules.specs.Versions.{RuleSet}
 use Rattle.rules.specs.Tree.{Declaration, Operand, ref, outer, case, Head, Fields, end, ◌▸◌, Item, plain, holds, head_of}
 use Rattle.rules.specs.Shapes.{Want, r, p, out, cas, Part, one, opt, any, cases, variants, typed, Declares, nothing, single, several, declares, signature, ascribed, builtin_parts, declared, is_empty, parts, paths_ok, fits_ref, fits_outer, is_case, next, may_declare}
@@ -116,9 +116,9 @@ parts_low : (rules : RuleSet) (code builtin : ℕ) (ds : List Declaration) → r
 unfolding parts
 parts_low rules code builtin ds heap h =
     let g = signature_low (declared ds) in
-    let m : LowParts (if is_empty ds then [] else any (p (4 ∷ [])) ∷ []) = if_both LowParts (is_empty ds) [] (any (p (4 ∷ [])) ∷ []) refl refl in
+    let m : LowParts (when is_empty ds then [] else any (p (4 ∷ [])) ∷ []) = if_both LowParts (is_empty ds) [] (any (p (4 ∷ [])) ∷ []) refl refl in
     let o : LowParts (one (r (declared ds ∷ [])) ∷ []) = rw (lt-ltb (declared ds) 13 h) refl in
-    let w : LowParts (if eqb builtin 0 then one (r (declared ds ∷ [])) ∷ [] else ascribed (declared ds)) = if_both LowParts (eqb builtin 0) _ _ o (ascribed_low (declared ds) h) in
+    let w : LowParts (when eqb builtin 0 then one (r (declared ds ∷ [])) ∷ [] else ascribed (declared ds)) = if_both LowParts (eqb builtin 0) _ _ o (ascribed_low (declared ds) h) in
     let x : LowParts (opt (p (rules.heap ∷ [])) ∷ opt (r (0 ∷ [])) ∷ []) = rw (lt-ltb rules.heap 13 heap) refl in
     get_d_all LowParts _ code []
     (refl & refl & refl & refl & refl & m & refl & refl & refl & refl & refl & refl & refl & refl & refl & refl & x & refl & refl & builtin_low rules builtin heap & refl & g & w & g & refl & refl & done) refl

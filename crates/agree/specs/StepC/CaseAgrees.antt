@@ -6,7 +6,7 @@ use Rattle.std.proofs.Math.Bool.{false}
 use Rattle.std.proofs.lemmas.Bool.{eqb-false}
 use Rattle.kit.specs.Pick.{pick}
 use Rattle.kit.specs.Out.{◌&◌}
-use Rattle.rules.specs.Tools.{if◌then◌else◌, is_in}
+use Rattle.rules.specs.Tools.{when◌then◌else◌, is_in}
 use Rattle.rules.specs.Rows.{Case}
 use Rattle.rules.specs.Tree.{Operand, case, operand_row}
 use Rattle.rules.specs.Rules.{number_of, carried_by, case_twice, refused, ok}
@@ -66,14 +66,14 @@ unfolding pick
 choose true F = refl
 choose false F = refl
 
-case_turn : (t : Bool) (name z : ℕ) (P : Operand → Wrote₂ → Type 0) (entered : List Slot) (out : List ℕ) (w : Wrote₂) → P (case name z) w → Says (if t then refused case_twice z else ok (case name z)) P (pick t (Refused (refusal_at 12 z) untold & entered & out) w)
-unfolding if◌then◌else◌ pick number_of carried_by
+case_turn : (t : Bool) (name z : ℕ) (P : Operand → Wrote₂ → Type 0) (entered : List Slot) (out : List ℕ) (w : Wrote₂) → P (case name z) w → Says (when t then refused case_twice z else ok (case name z)) P (pick t (Refused (refusal_at 12 z) untold & entered & out) w)
+unfolding when◌then◌else◌ pick number_of carried_by
 case_turn true name z P entered out w h = (entered & out, refl)
 case_turn false name z P entered out w h = h
 
 -- the code passes a CASE as the rules do, or refuses with the same
 pub case_agrees : (field : List ℕ) (i : ℕ) (entered : List Slot) (out : List ℕ) (s : WriteState) (seen : List ℕ) (name z : ℕ) → Is field i (Case name z) → s.seen < length entered → Cases entered s.seen seen
-    → Says (if not (eqb name 0) && is_in name seen then refused case_twice z else ok (case name z)) (λ x w. w ≡ put_then (put_all out s.to (operand_row x)) λ to out'. Done (case_seen_t s to (s.seen + 1)) & set entered s.seen (decl_slot 13 name 0) & out') (write_case_t field i entered out s name z)
+    → Says (when not (eqb name 0) && is_in name seen then refused case_twice z else ok (case name z)) (λ x w. w ≡ put_then (put_all out s.to (operand_row x)) λ to out'. Done (case_seen_t s to (s.seen + 1)) & set entered s.seen (decl_slot 13 name 0) & out') (write_case_t field i entered out s name z)
     × Cases (set entered s.seen (decl_slot 13 name 0)) (s.seen + 1) (name ∷ seen)
 unfolding write_case_t twice_t first_t operand_row push_then
 case_agrees field i entered out s seen name z is h c = (

@@ -10,7 +10,7 @@ use Rattle.std.proofs.lemmas.Bool.{lt-leb}
 use Rattle.kit.specs.Pick.{pick}
 use Rattle.kit.specs.Out.{Out, ◌&◌}
 use Rattle.kit.proofs.Laws.{no!, tests}
-use Rattle.rules.specs.Tools.{if◌then◌else◌}
+use Rattle.rules.specs.Tools.{when◌then◌else◌}
 use Rattle.rules.specs.Versions.{top_name}
 use Rattle.rules.specs.Rows.{Index, Num, Id, Path}
 use Rattle.rules.specs.Tree.{Declaration, ref, Head, with_operands, path_rows, head_rows}
@@ -53,10 +53,10 @@ pub path_last : (space : ℕ) (at : Index) (p z k : ℕ) → path_aliases space 
 unfolding path_aliases
 path_last space at p z k = go (leb space 6)
   where
-    go : (t : Bool) → (if t then export_alias 10 space (fresh k) 6 at p z else export_alias 9 space (fresh k) 10 at p z) ∷ []
+    go : (t : Bool) → (when t then export_alias 10 space (fresh k) 6 at p z else export_alias 9 space (fresh k) 10 at p z) ∷ []
         ≡ export_alias (pick (eqb (pick t 6 10) 6) 10 9) space (fresh k) (pick t 6 10) at p z ∷ []
-    go true = unfold if◌then◌else◌ pick in refl
-    go false = unfold if◌then◌else◌ pick in refl
+    go true = unfold when◌then◌else◌ pick in refl
+    go false = unfold when◌then◌else◌ pick in refl
 
 pub path_more : (space : ℕ) (at : Index) (p q : ℕ) (ps : List ℕ) (z k : ℕ) → 7 ≤ space → path_aliases space at p (q ∷ ps) z k ≡ export_alias (code_for space) 10 (fresh k) (instances_of space) at p z ∷ path_aliases space (Id (fresh k)) q ps z (suc k)
 unfolding path_aliases pick
@@ -120,17 +120,17 @@ chain_heads space z (q ∷ ps) p n k before =
 
 -- an alias that is resolved, and those after it
 pub inserted_more : (env : Env) (outside : Outside) (h h' : Head) (hs hs' : List Head) → late_instance env outside h.operands ≡ false → resolve_head env outside h ≡ ok h' → resolve_inserted env outside hs ≡ ok hs' → resolve_inserted env outside (h ∷ hs) ≡ ok (h' ∷ hs')
-unfolding resolve_inserted ◌>>=◌ in_time if◌then◌else◌
+unfolding resolve_inserted ◌>>=◌ in_time when◌then◌else◌
 inserted_more env outside h h' hs hs' t e f = rw (t, e, f)
 
 -- an alias that is refused
 pub inserted_refused : (env : Env) (outside : Outside) (h : Head) (hs : List Head) (why : Refusal) (z : ℕ) → late_instance env outside h.operands ≡ false → resolve_head env outside h ≡ refused why z → resolve_inserted env outside (h ∷ hs) ≡ refused why z
-unfolding resolve_inserted ◌>>=◌ in_time if◌then◌else◌
+unfolding resolve_inserted ◌>>=◌ in_time when◌then◌else◌
 inserted_refused env outside h hs why z t e = rw (t, e)
 
 -- an alias of an instance that comes too late
 pub inserted_late : (env : Env) (outside : Outside) (h : Head) (hs : List Head) → late_instance env outside h.operands ≡ true → resolve_inserted env outside (h ∷ hs) ≡ refused not_earlier h.z
-unfolding resolve_inserted ◌>>=◌ in_time if◌then◌else◌
+unfolding resolve_inserted ◌>>=◌ in_time when◌then◌else◌
 inserted_late env outside h hs t = rw t
 
 -- an alias stands before what is made of it

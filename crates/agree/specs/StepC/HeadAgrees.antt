@@ -9,7 +9,7 @@ use Rattle.std.proofs.Math.Dec.{ltb}
 use Rattle.std.proofs.Math.ListN.{length}
 use Rattle.kit.specs.Pick.{pick}
 use Rattle.kit.specs.Out.{◌&◌}
-use Rattle.rules.specs.Tools.{if◌then◌else◌}
+use Rattle.rules.specs.Tools.{when◌then◌else◌}
 use Rattle.rules.specs.Rows.{Row, Field}
 use Rattle.rules.specs.Tree.{Declaration, Operand, Head, with_operands, decl_rows, operand_row, operand_rows, export_rows, head_rows}
 use Rattle.rules.specs.Shapes.{here_only}
@@ -115,13 +115,13 @@ innermost_come names scopes (suc depth) far early env outside en timed = rw (inn
 -- what step B makes of a field
 pub head_made : (here : List Declaration) (outside : Outside) (k : ℕ) (h : Head) (e : Expanded Head) → expand_head here outside k h ≡ ok e → here_only h.code ≡ false
     → (E : Expanded (List Operand)) × (expand_operands here outside k h.operands ≡ ok E) × (record { inserted = E.inserted; rows = E.rows; now = with_operands h E.now; k = E.k } ≡ e)
-unfolding expand_head if◌then◌else◌
+unfolding expand_head when◌then◌else◌
 head_made here outside k h e q f =
     let b = bind_inv (expand_operands here outside k h.operands) _ e (rw f at q) in
     (b.0, b.1, ok_same _ e b.2)
 
 pub here_made : (here : List Declaration) (outside : Outside) (k : ℕ) (h : Head) (e : Expanded Head) → expand_head here outside k h ≡ ok e → here_only h.code ≡ true → as_it_is h k ≡ e
-unfolding expand_head if◌then◌else◌
+unfolding expand_head when◌then◌else◌
 here_made here outside k h e q f = ok_same _ e (rw f at q)
 
 -- what step C makes of a field and of what was inserted before it
@@ -246,7 +246,7 @@ module _ (env : Env) (outside : Outside) (here₀ : List Declaration) (h : Head)
       go : (t : Bool) → here_only h.code ≡ t → Says (head_says env outside e) (Asked h s entered out (length e.inserted)) (write_head_t field entered names scopes out s)
       go true q =
           let m = here_made here₀ outside k h e x q in
-          unfold as_it_is heads_decls head_slots if◌then◌else◌ in rw (← m) (here_agrees s entered out k before (s.at + 1) rest q (rw (append-nil before) at (rw (← m, q) at l)) a timed low en d al sn few bound)
+          unfold as_it_is heads_decls head_slots when◌then◌else◌ in rw (← m) (here_agrees s entered out k before (s.at + 1) rest q (rw (append-nil before) at (rw (← m, q) at l)) a timed low en d al sn few bound)
       go false q =
           let m = head_made here₀ outside k h e x q in
-          unfold head_slots if◌then◌else◌ in rw (← m.2) (expand_agrees s entered out k before after rest m.0 q m.1 (rw (← m.2, q) at l) a (rw (← m.2) at ds) u timed low en d al sn few bound)
+          unfold head_slots when◌then◌else◌ in rw (← m.2) (expand_agrees s entered out k before after rest m.0 q m.1 (rw (← m.2, q) at l) a (rw (← m.2) at ds) u timed low en d al sn few bound)

@@ -9,7 +9,7 @@ use borrow.Author.Tests.{lt-leb, le-leb}
 use Rattle.kit.specs.Pick.{pick}
 use Rattle.kit.specs.Out.{◌&◌}
 use Rattle.kit.proofs.Laws.{lt_or_le}
-use Rattle.rules.specs.Tools.{if◌then◌else◌}
+use Rattle.rules.specs.Tools.{when◌then◌else◌}
 use Rattle.rules.specs.Versions.{top_name}
 use Rattle.rules.specs.Rows.{Index, Num, Id, Outer}
 use Rattle.rules.specs.Tree.{Operand, outer, operand_row}
@@ -39,8 +39,8 @@ abbrev OutSays : (space z : ℕ) → Result Operand → Outward → Type 0
 OutSays space z (refused n p) w = w ≡ OuterRefused (said_of n p) (told_of n)
 OutSays space z (ok o) w = (d : ℕ) × (n : ℕ) × (w ≡ OuterIs d n) × (o ≡ outer space (Num d) (Num n) z)
 
-below_turn : (t : Bool) (o : Option ℕ) (n d : ℕ) → ((m : ℕ) → o ≡ some m → m < n) → (if t then some 0 else map suc o) ≡ some d → d < suc n
-unfolding if◌then◌else◌
+below_turn : (t : Bool) (o : Option ℕ) (n d : ℕ) → ((m : ℕ) → o ≡ some m → m < n) → (when t then some 0 else map suc o) ≡ some d → d < suc n
+unfolding when◌then◌else◌
 below_turn true o n d f p = omega (arith, some_same 0 d p)
 below_turn false none n d f p = no_option d p
 below_turn false (some m) n d f p = omega (arith, some_same (suc m) d p, f m refl)
@@ -56,7 +56,7 @@ outer_row space up at z place = record { space = space; up = as_index up; at = a
 
 module _ (names : List Slot) (scopes : List (List ℕ)) (s : WriteState) (early : Bool) (es : List Env) (timed : Timed early s.early names scopes s.before s.depth es) (open-scopes : Envs names scopes s.depth es) (few : s.depth < 4294967296) (fz space z : ℕ) where
   index_turn : (up at : Index) (d : ℕ) (b : Bool) (o : Option ℕ) → OutSays space z (in_time b z >>= λ u. or_refused o (unknown space) z >>= λ n. ok (outer space (Num d) (Num n) z)) (write_index_t (sought_as space b o) d (outer_row space up at z fz))
-  unfolding in_time if◌then◌else◌ or_refused ◌>>=◌ write_index_t number_of carried_by
+  unfolding in_time when◌then◌else◌ or_refused ◌>>=◌ write_index_t number_of carried_by
   index_turn up at d true o = refl
   index_turn up at d false none = refl
   index_turn up at d false (some n) = (d, n, refl, refl)

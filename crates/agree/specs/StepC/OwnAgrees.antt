@@ -11,7 +11,7 @@ use Prim.Native.Nat.{ℕ, suc, ◌+◌, ◌%◌, ◌≤◌, ◌<◌}
 use Rattle.std.proofs.Math.ListN.{length, set, length-append}
 use Rattle.kit.specs.Pick.{pick}
 use Rattle.kit.specs.Out.{Out, ◌&◌}
-use Rattle.rules.specs.Tools.{if◌then◌else◌, is_in}
+use Rattle.rules.specs.Tools.{when◌then◌else◌, is_in}
 use Rattle.rules.specs.Rows.{Index, Num, Row, Field, Decl, Ref, Path, Outer, Case, Export}
 use Rattle.rules.specs.Tree.{Declaration, Operand, ref, outer, case, Head, with_operands, decl_rows, path_rows, operand_row, operand_rows, export_rows, head_rows}
 use Rattle.rules.specs.Rules.{number_of, carried_by, unknown, case_twice, table_of, Outside, opened, Result, refused, ok, ◌>>=◌, Env, or_refused, number_in, resolve_outer, resolve_operands, resolve_head}
@@ -45,7 +45,7 @@ module _ (env : Env) (outside : Outside) (fz : ℕ) where
   abbrev resolve_one : (seen : List ℕ) → Operand → Result Operand
   resolve_one seen (ref space at paths z) = number_in env.entries space at z >>= λ n. ok (ref space (Num n) paths z)
   resolve_one seen (outer space up at z) = resolve_outer outside.early (opened env outside) fz space up at z
-  resolve_one seen (case name z) = if not (eqb name 0) && is_in name seen then refused case_twice z else ok (case name z)
+  resolve_one seen (case name z) = when not (eqb name 0) && is_in name seen then refused case_twice z else ok (case name z)
 
   abbrev seen_after : (seen : List ℕ) → Operand → List ℕ
   seen_after seen (ref space at paths z) = seen
@@ -62,9 +62,9 @@ module _ (env : Env) (outside : Outside) (fz : ℕ) where
   one_more_lem seen (outer space up at z) os = refl
   one_more_lem seen (case name z) os = go (not (eqb name 0) && is_in name seen)
     where
-      go : (t : Bool) → (if t then refused case_twice z else (resolve_operands env outside fz (name ∷ seen) os >>= λ xs. ok (case name z ∷ xs))) ≡ ((if t then refused case_twice z else ok (case name z)) >>= λ x. resolve_operands env outside fz (name ∷ seen) os >>= λ xs. ok (x ∷ xs))
-      go true = unfold ◌>>=◌ if◌then◌else◌ in refl
-      go false = unfold ◌>>=◌ if◌then◌else◌ in refl
+      go : (t : Bool) → (when t then refused case_twice z else (resolve_operands env outside fz (name ∷ seen) os >>= λ xs. ok (case name z ∷ xs))) ≡ ((when t then refused case_twice z else ok (case name z)) >>= λ x. resolve_operands env outside fz (name ∷ seen) os >>= λ xs. ok (x ∷ xs))
+      go true = unfold ◌>>=◌ when◌then◌else◌ in refl
+      go false = unfold ◌>>=◌ when◌then◌else◌ in refl
 
 -- ---- what the code has done
 

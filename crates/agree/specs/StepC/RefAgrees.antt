@@ -10,7 +10,7 @@ use Prim.Native.Nat.{ℕ, suc, ◌+◌, ◌≤◌, ◌<◌}
 use Rattle.std.proofs.Math.ListN.{length}
 use Rattle.kit.specs.Pick.{pick}
 use Rattle.kit.specs.Out.{Out, ◌&◌}
-use Rattle.rules.specs.Tools.{if◌then◌else◌, is_in, is_just}
+use Rattle.rules.specs.Tools.{when◌then◌else◌, is_in, is_just}
 use Rattle.rules.specs.Versions.{top_name}
 use Rattle.rules.specs.Rows.{Index, Num, Id}
 use Rattle.rules.specs.Tree.{Declaration, Operand, ref, Head, path_rows, head_rows}
@@ -46,31 +46,31 @@ module _ (here : List Declaration) (outside : Outside) (space z k : ℕ) (e : Ex
   -- a name is left as it is, or it is an alias of a scope further out
   pub name_made : (name : ℕ) → expand_operand here outside k (ref space (Id name) [] z) ≡ ok e
       → (as_it_is (ref space (Id name) [] z) k ≡ e) ⊎ ((at : ℕ × ℕ) × (through space z k (outer_alias space (fresh k) at.0 at.1 z ∷ []) ≡ e))
-  unfolding expand_operand if◌then◌else◌
+  unfolding expand_operand when◌then◌else◌
   name_made name q = go (is_just (find here space name)) (bind_inv (in_time (late_name here outside space name) z) _ e q).2
     where
-      four : (at : ℕ × ℕ) (t : Bool) → (if t then ok (through space z k (outer_alias space (fresh k) at.0 at.1 z ∷ [])) else refused (not_outer space) z) ≡ ok e
+      four : (at : ℕ × ℕ) (t : Bool) → (when t then ok (through space z k (outer_alias space (fresh k) at.0 at.1 z ∷ [])) else refused (not_outer space) z) ≡ ok e
           → (as_it_is (ref space (Id name) [] z) k ≡ e) ⊎ ((at : ℕ × ℕ) × (through space z k (outer_alias space (fresh k) at.0 at.1 z ∷ []) ≡ e))
-      four at true p = unfold if◌then◌else◌ in inr (at, ok_same _ e p)
-      four at false p = unfold if◌then◌else◌ in no_result (not_outer space) z e p
+      four at true p = unfold when◌then◌else◌ in inr (at, ok_same _ e p)
+      four at false p = unfold when◌then◌else◌ in no_result (not_outer space) z e p
 
       met : (o : Option (ℕ × ℕ)) → found_at space name z k o ≡ ok e
           → (as_it_is (ref space (Id name) [] z) k ≡ e) ⊎ ((at : ℕ × ℕ) × (through space z k (outer_alias space (fresh k) at.0 at.1 z ∷ []) ≡ e))
       met none p = unfold found_at in inl (ok_same _ e p)
       met (some at) p = unfold found_at in four at (is_in space FOUR) p
 
-      go : (t : Bool) → (if t then ok (as_it_is (ref space (Id name) [] z) k) else found_at space name z k (walk outside.scopes 1 space name)) ≡ ok e
+      go : (t : Bool) → (when t then ok (as_it_is (ref space (Id name) [] z) k) else found_at space name z k (walk outside.scopes 1 space name)) ≡ ok e
           → (as_it_is (ref space (Id name) [] z) k ≡ e) ⊎ ((at : ℕ × ℕ) × (through space z k (outer_alias space (fresh k) at.0 at.1 z ∷ []) ≡ e))
-      go true p = unfold if◌then◌else◌ in inl (ok_same _ e p)
-      go false p = unfold if◌then◌else◌ in met (walk outside.scopes 1 space name) p
+      go true p = unfold when◌then◌else◌ in inl (ok_same _ e p)
+      go false p = unfold when◌then◌else◌ in met (walk outside.scopes 1 space name) p
 
   pub path_made : (at : Index) (p : ℕ) (ps : List ℕ) → expand_operand here outside k (ref space at (p ∷ ps) z) ≡ ok e → through space z (k + length ps) (path_aliases space at p ps z k) ≡ e
   unfolding expand_operand
   path_made at p ps q = go (is_in space (4 ∷ 6 ∷ [])) q
     where
-      go : (t : Bool) → (if t then refused not_exported z else ok (through space z (k + length ps) (path_aliases space at p ps z k))) ≡ ok e → through space z (k + length ps) (path_aliases space at p ps z k) ≡ e
-      go true r = unfold if◌then◌else◌ in no_result not_exported z e r
-      go false r = unfold if◌then◌else◌ in ok_same _ e r
+      go : (t : Bool) → (when t then refused not_exported z else ok (through space z (k + length ps) (path_aliases space at p ps z k))) ≡ ok e → through space z (k + length ps) (path_aliases space at p ps z k) ≡ e
+      go true r = unfold when◌then◌else◌ in no_result not_exported z e r
+      go false r = unfold when◌then◌else◌ in ok_same _ e r
 
 -- ---- what the code writes for it
 

@@ -11,7 +11,7 @@ use Rattle.std.proofs.Math.ListN.{length, length-append}
 use Rattle.kit.specs.Pick.{pick}
 use Rattle.kit.specs.Out.{Out, ◌&◌}
 use Rattle.kit.proofs.Laws.{yes!, no! }
-use Rattle.rules.specs.Tools.{if◌then◌else◌, is_just}
+use Rattle.rules.specs.Tools.{when◌then◌else◌, is_just}
 use Rattle.rules.specs.Rows.{Row, Close}
 use Rattle.rules.specs.Tree.{Declaration, Fields, end, ◌▸◌, Item, head_of, decl_rows, flatten, fields_rows, item_rows}
 use Rattle.rules.specs.Rules.{Refusal, number_of, carried_by, twice, first_place, Result, refused, ok, ◌>>=◌, find, declarations, distinct}
@@ -61,8 +61,8 @@ first_in none place = Nothing
 first_in (some n) place = FoundAt place
 
 -- one slot, t and u the tests on its space and its name
-first_turn : (t u : Bool) (z place : ℕ) (o : Option ℕ) → pick t (pick u (FoundAt z) (first_in o place)) (first_in o place) ≡ first_in (if t then if u then some 0 else map suc o else o) (if t && u then z else place)
-unfolding pick if◌then◌else◌
+first_turn : (t u : Bool) (z place : ℕ) (o : Option ℕ) → pick t (pick u (FoundAt z) (first_in o place)) (first_in o place) ≡ first_in (when t then when u then some 0 else map suc o else o) (when t && u then z else place)
+unfolding pick when◌then◌else◌
 first_turn true true z place o = refl
 first_turn true false z place none = refl
 first_turn true false z place (some n) = refl
@@ -85,8 +85,8 @@ first_known (some n) place = refl
 -- ---- the rules' step A, part by part
 
 -- a refusal ends both steps
-distinct_turn : {A : Type 0} (t : Bool) (x y : Result A) (f : A → Result A) (R : Result A) → R ≡ (y >>= f) → (x >>= f) ≡ x → (if t then x else R) ≡ ((if t then x else y) >>= f)
-unfolding if◌then◌else◌
+distinct_turn : {A : Type 0} (t : Bool) (x y : Result A) (f : A → Result A) (R : Result A) → R ≡ (y >>= f) → (x >>= f) ≡ x → (when t then x else R) ≡ ((when t then x else y) >>= f)
+unfolding when◌then◌else◌
 distinct_turn true x y f R e g = sym g
 distinct_turn false x y f R e g = e
 
@@ -98,8 +98,8 @@ distinct_append before (d ∷ ds) es =
     distinct_turn (not (eqb d.name 0) && is_just (find before d.space d.name)) (refused (twice d.space (first_place before d.space d.name)) d.z) (distinct (before ++ (d ∷ [])) ds) (λ b. distinct b es) _ (distinct_append (before ++ (d ∷ [])) ds es) refl
 
 -- what is accepted was not refused
-if_refused : {A : Type 0} (t : Bool) (n : Refusal) (z : ℕ) (m : Result A) (a : A) → (if t then refused n z else m) ≡ ok a → m ≡ ok a
-unfolding if◌then◌else◌
+if_refused : {A : Type 0} (t : Bool) (n : Refusal) (z : ℕ) (m : Result A) (a : A) → (when t then refused n z else m) ≡ ok a → m ≡ ok a
+unfolding when◌then◌else◌
 if_refused true n z m a e = no_result n z a e
 if_refused false n z m a e = e
 
@@ -129,8 +129,8 @@ EnterIs room (ok ds) o = AllEntered room ds o
 
 module _ (room : ℕ) where
   -- one DECL, t whether it has no name, f what the rules find by its name
-  enter_turn : (t : Bool) (f : Option ℕ) (space first z : ℕ) (m : Result (List Declaration)) (o : Out Entered (List Slot)) (entered : List Slot) → length entered ≡ room → EnterIs room m o → EnterIs room (if not t && is_just f then refused (twice space first) z else m) (found_then (pick t Nothing (first_in f first)) (λ place. Twice (refusal_at 6 z) (tells space place) & entered) o)
-  unfolding if◌then◌else◌ pick number_of carried_by
+  enter_turn : (t : Bool) (f : Option ℕ) (space first z : ℕ) (m : Result (List Declaration)) (o : Out Entered (List Slot)) (entered : List Slot) → length entered ≡ room → EnterIs room m o → EnterIs room (when not t && is_just f then refused (twice space first) z else m) (found_then (pick t Nothing (first_in f first)) (λ place. Twice (refusal_at 6 z) (tells space place) & entered) o)
+  unfolding when◌then◌else◌ pick number_of carried_by
   enter_turn true f space first z m o entered s e = e
   enter_turn false none space first z m o entered s e = e
   enter_turn false (some n) space first z m o entered s e = record { table = entered; answer = refl; size = s }

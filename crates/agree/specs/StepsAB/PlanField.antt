@@ -11,7 +11,7 @@ use Prim.Native.Nat.{ℕ, zero, suc, ◌+◌, ◌-◌, ◌/◌, ◌≤◌, ◌<�
 use Rattle.std.proofs.Math.ListN.{length, length-append}
 use Rattle.kit.specs.Pick.{pick}
 use Rattle.kit.specs.Out.{Out, ◌&◌}
-use Rattle.rules.specs.Tools.{if◌then◌else◌, is_just}
+use Rattle.rules.specs.Tools.{when◌then◌else◌, is_just}
 use Rattle.rules.specs.Rows.{Row, Field, Decl, Ref, Path, Outer, Case, Open, Close, Export}
 use Rattle.rules.specs.Tree.{Declaration, Operand, ref, outer, case, Head, scope, Item, plain, holds, head_of, with_operands, decl_rows, path_rows, operand_row, operand_rows, export_rows, flatten, head_rows}
 use Rattle.rules.specs.Shapes.{here_only}
@@ -260,11 +260,11 @@ module _ (room first : ℕ) (names₀ : List Slot) (n depth far : ℕ) (early : 
     unfolding plan_insertions_t expand_head head_slots
     insertions_are = rw field_code_lem (go (here_only (head_of it).code))
       where
-        go : (t : Bool) → StepIs room first names₀ n depth far early (λ e. before ++ heads_decls e.inserted) (λ e. slots ++ (if t then [] else operands_slots here outside before k (at + 1 + length (head_of it).decls) (head_of it).operands)) (λ e. e.k) at (if t then ok (as_it_is (head_of it) k) else (expand_operands here outside k (head_of it).operands >>= λ e. ok (record { inserted = e.inserted; rows = e.rows; now = with_operands (head_of it) e.now; k = e.k }))) (pick t (Done (P used k) & names & counts) (plan_operands_t field entered names scopes counts (P used k) at 1 (length field / 16 - 1)))
+        go : (t : Bool) → StepIs room first names₀ n depth far early (λ e. before ++ heads_decls e.inserted) (λ e. slots ++ (when t then [] else operands_slots here outside before k (at + 1 + length (head_of it).decls) (head_of it).operands)) (λ e. e.k) at (when t then ok (as_it_is (head_of it) k) else (expand_operands here outside k (head_of it).operands >>= λ e. ok (record { inserted = e.inserted; rows = e.rows; now = with_operands (head_of it) e.now; k = e.k }))) (pick t (Done (P used k) & names & counts) (plan_operands_t field entered names scopes counts (P used k) at 1 (length field / 16 - 1)))
         go true =
-            unfold if◌then◌else◌ pick as_it_is heads_decls in
+            unfold when◌then◌else◌ pick as_it_is heads_decls in
             record { used = used; names = names; counts = counts; answer = refl; tab = rw (append-nil before, append-nil slots) tab }
-        go false = unfold if◌then◌else◌ pick in step_map room first names₀ n depth far early _ _ _ _ _ _ at (expand_operands here outside k (head_of it).operands) _ _ (λ e. refl) (λ e. refl) (λ e. refl) insert_operands
+        go false = unfold when◌then◌else◌ pick in step_map room first names₀ n depth far early _ _ _ _ _ _ at (expand_operands here outside k (head_of it).operands) _ _ (λ e. refl) (λ e. refl) (λ e. refl) insert_operands
 
 -- ---- the DECLs of a field
 

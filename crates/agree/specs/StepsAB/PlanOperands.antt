@@ -10,7 +10,7 @@ use Prim.Native.Nat.{ℕ, suc, ◌+◌, ◌-◌, ◌%◌, ◌≤◌, ◌<◌}
 use Rattle.std.proofs.Math.ListN.{length}
 use Rattle.kit.specs.Pick.{pick}
 use Rattle.kit.specs.Out.{◌&◌}
-use Rattle.rules.specs.Tools.{if◌then◌else◌, is_just, is_in, ◌or_else◌}
+use Rattle.rules.specs.Tools.{when◌then◌else◌, is_just, is_in, ◌or_else◌}
 use Rattle.rules.specs.Versions.{top_name}
 use Rattle.rules.specs.Rows.{Index, Num, Id}
 use Rattle.rules.specs.Tree.{Declaration, Operand, ref, Head}
@@ -122,7 +122,7 @@ module _ (room first : ℕ) (names₀ : List Slot) (n depth far : ℕ) (early : 
 
     -- a name that comes too late is refused, whatever else would be done
     in_time_lem : (b : Bool) (z : ℕ) (m : Result (Expanded Operand)) (o : Step) → OperandIs m o → OperandIs (in_time b z >>= λ u. m) (pick b (Refused (refusal_at 13 z) untold & names & counts) o)
-    unfolding in_time if◌then◌else◌ pick ◌>>=◌ number_of carried_by
+    unfolding in_time when◌then◌else◌ pick ◌>>=◌ number_of carried_by
     in_time_lem true z m o r = stopped (refusal_at 13 z) untold
     in_time_lem false z m o r = r
 
@@ -135,15 +135,15 @@ module _ (room first : ℕ) (names₀ : List Slot) (n depth far : ℕ) (early : 
         let o : a.0 % 4294967296 ≡ a.0 = omega arith in
         rw (s, o) (go (is_in space FOUR))
       where
-        go : (t : Bool) → OperandIs (if t then ok (through space z k (outer_alias space (fresh k) a.0 a.1 z ∷ [])) else refused (not_outer space) z) (pick t (plan_done_t (insert_alias_t names counts (P k) space row a.0 a.1)) (Refused (refusal_at 8 z) (of_space space) & names & counts))
+        go : (t : Bool) → OperandIs (when t then ok (through space z k (outer_alias space (fresh k) a.0 a.1 z ∷ [])) else refused (not_outer space) z) (pick t (plan_done_t (insert_alias_t names counts (P k) space row a.0 a.1)) (Refused (refusal_at 8 z) (of_space space) & names & counts))
         go true =
-            unfold if◌then◌else◌ pick through outer_alias heads_decls inserted_slots inserted_slot declared first_name reach_out reach_at fresh in
+            unfold when◌then◌else◌ pick through outer_alias heads_decls inserted_slots inserted_slot declared first_name reach_out reach_at fresh in
             done_went room first names₀ n depth far early _ _ _ at _ (insert_is row at before slots used names counts tab (record { space = space; name = 2147483648 + k; z = z }) k a.0 a.1 refl l u h)
-        go false = unfold if◌then◌else◌ pick number_of carried_by in stopped (refusal_at 8 z) (of_space space)
+        go false = unfold when◌then◌else◌ pick number_of carried_by in stopped (refusal_at 8 z) (of_space space)
 
     -- whether a name that is declared here comes later
     late_here : (space name k : ℕ) → is_just (find here space name) ≡ true → (early ≡ true → name ≤ top_name) → late_name here outside space name ≡ late_here_t names (P k) space name
-    unfolding late_name comes_later late_here_t if◌then◌else◌ pick
+    unfolding late_name comes_later late_here_t when◌then◌else◌ pick
     late_here space name k t low = rw (timed.same, t) (go early knows low)
       where
         go : (b : Bool) → (b ≡ true → Knows slots outside.before.decls) → (b ≡ true → name ≤ top_name) → (b && not (is_just (find outside.before.decls space name))) ≡ pick b (late_in names first used used space name) false
@@ -154,7 +154,7 @@ module _ (room first : ℕ) (names₀ : List Slot) (n depth far : ℕ) (early : 
     -- whether one that a scope further out declares comes later there
     late_further : (space name k : ℕ) (a : ℕ × ℕ) → is_just (find here space name) ≡ false → (early ≡ true → name ≤ top_name) → walk outside.scopes 1 space name ≡ some a → a.0 < suc depth
         → late_name here outside space name ≡ late_out_t names scopes (P k) a.0 space name
-    unfolding late_name late_out_t if◌then◌else◌ pick
+    unfolding late_name late_out_t when◌then◌else◌ pick
     late_further space name k a t low w out = rw (timed.same, t) (go early timed.around low)
       where
         go : (b : Bool) → (b ≡ true → Earlier names₀ scopes far depth outside.scopes) → (b ≡ true → name ≤ top_name)
@@ -178,8 +178,8 @@ module _ (room first : ℕ) (names₀ : List Slot) (n depth far : ℕ) (early : 
         → OperandIs (in_time (late_name here outside space name) z >>= λ u. found_at space name z k w) (met_t (met_of w) names scopes counts (P k) (record { space = space; at = as_index (Id name); paths = 0; z = z; row = row }) name)
     unfolding met_t
     met_is space name z k none q t low len l u h =
-        let never : late_name here outside space name ≡ false = unfold late_name if◌then◌else◌ in (rw (t, never_out outside.scopes 1 space name q) (go outside.early)) in
-        rw never (unfold in_time if◌then◌else◌ ◌>>=◌ found_at in nothing _ k)
+        let never : late_name here outside space name ≡ false = unfold late_name when◌then◌else◌ in (rw (t, never_out outside.scopes 1 space name q) (go outside.early)) in
+        rw never (unfold in_time when◌then◌else◌ ◌>>=◌ found_at in nothing _ k)
       where
         go : (b : Bool) → (b && false) ≡ false
         go true = refl
@@ -190,7 +190,7 @@ module _ (room first : ℕ) (names₀ : List Slot) (n depth far : ℕ) (early : 
 
     -- a name, which may be declared here
     name_is : (space name z k : ℕ) → (early ≡ true → name ≤ top_name) → space < 13 → used < room → k < most
-        → OperandIs (in_time (late_name here outside space name) z >>= λ u. if is_just (find here space name) then ok (as_it_is (ref space (Id name) [] z) k) else found_at space name z k (walk outside.scopes 1 space name)) (plan_name_t entered names scopes counts (P k) (record { space = space; at = as_index (Id name); paths = 0; z = z; row = row }) name)
+        → OperandIs (in_time (late_name here outside space name) z >>= λ u. when is_just (find here space name) then ok (as_it_is (ref space (Id name) [] z) k) else found_at space name z k (walk outside.scopes 1 space name)) (plan_name_t entered names scopes counts (P k) (record { space = space; at = as_index (Id name); paths = 0; z = z; row = row }) name)
     unfolding plan_name_t
     name_is space name z k low l u h =
         let en : Envs names scopes depth outside.scopes = envs_kept first names₀ names (sym tab.kept) scopes depth outside.scopes (omega (arith, tab.size, tab.next)) below envs in
@@ -198,9 +198,9 @@ module _ (room first : ℕ) (names₀ : List Slot) (n depth far : ℕ) (early : 
         rw (known space name, outward_walk names scopes space name depth outside.scopes en) (go (is_just (find here space name)) refl len)
       where
         go : (t : Bool) → is_just (find here space name) ≡ t → length outside.scopes ≡ depth
-            → OperandIs (in_time (late_name here outside space name) z >>= λ u. if t then ok (as_it_is (ref space (Id name) [] z) k) else found_at space name z k (walk outside.scopes 1 space name)) (pick t (pick (late_here_t names (P k) space name) (Refused (refusal_at 13 z) untold & names & counts) (Done (P k) & names & counts)) (met_t (met_of (walk outside.scopes 1 space name)) names scopes counts (P k) (record { space = space; at = as_index (Id name); paths = 0; z = z; row = row }) name))
-        go true t len = unfold if◌then◌else◌ pick in rw (late_here space name k t low) (in_time_lem (late_here_t names (P k) space name) z _ _ (nothing _ k))
-        go false t len = unfold if◌then◌else◌ pick in met_is space name z k (walk outside.scopes 1 space name) refl t low len l u h
+            → OperandIs (in_time (late_name here outside space name) z >>= λ u. when t then ok (as_it_is (ref space (Id name) [] z) k) else found_at space name z k (walk outside.scopes 1 space name)) (pick t (pick (late_here_t names (P k) space name) (Refused (refusal_at 13 z) untold & names & counts) (Done (P k) & names & counts)) (met_t (met_of (walk outside.scopes 1 space name)) names scopes counts (P k) (record { space = space; at = as_index (Id name); paths = 0; z = z; row = row }) name))
+        go true t len = unfold when◌then◌else◌ pick in rw (late_here space name k t low) (in_time_lem (late_here_t names (P k) space name) z _ _ (nothing _ k))
+        go false t len = unfold when◌then◌else◌ pick in met_is space name z k (walk outside.scopes 1 space name) refl t low len l u h
 
     -- a reference
     pub ref_is : (k space : ℕ) (ix : Index) (ps : List ℕ) (z : ℕ) → (early ≡ true → LowOperand (ref space ix ps z)) → space < 13 → used + suc (length ps) ≤ room → k + suc (length ps) ≤ most → OperandIs (expand_operand here outside k (ref space ix ps z)) (plan_ref_t entered names scopes counts (P k) (record { space = space; at = as_index ix; paths = length ps; z = z; row = row }))
@@ -211,9 +211,9 @@ module _ (room first : ℕ) (names₀ : List Slot) (n depth far : ℕ) (early : 
         let e : suc (length ps) - 1 ≡ length ps = omega arith in
         rw (lt-ltb 0 (suc (length ps)) (omega arith), e) (go (eqb space 4) (eqb space 6))
       where
-        go : (t v : Bool) → OperandIs (if t || (v || false) then refused not_exported z else ok (through space z (k + length ps) (path_aliases space ix p ps z k))) (pick t (Refused (refusal_at 7 z) untold & names & counts) (pick v (Refused (refusal_at 7 z) untold & names & counts) (plan_done_t (plan_paths_t names counts (P k) space row (length ps)))))
-        go true v = unfold if◌then◌else◌ pick number_of carried_by in stopped (refusal_at 7 z) untold
-        go false true = unfold if◌then◌else◌ pick number_of carried_by in stopped (refusal_at 7 z) untold
+        go : (t v : Bool) → OperandIs (when t || (v || false) then refused not_exported z else ok (through space z (k + length ps) (path_aliases space ix p ps z k))) (pick t (Refused (refusal_at 7 z) untold & names & counts) (pick v (Refused (refusal_at 7 z) untold & names & counts) (plan_done_t (plan_paths_t names counts (P k) space row (length ps)))))
+        go true v = unfold when◌then◌else◌ pick number_of carried_by in stopped (refusal_at 7 z) untold
+        go false true = unfold when◌then◌else◌ pick number_of carried_by in stopped (refusal_at 7 z) untold
         go false false =
-            unfold if◌then◌else◌ pick through in
+            unfold when◌then◌else◌ pick through in
             done_went room first names₀ n depth far early _ _ _ at _ (paths_are row at space z l ps p ix k (suc (k + length ps)) before slots used names counts tab refl (omega arith) (omega arith))

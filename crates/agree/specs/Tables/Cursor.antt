@@ -8,7 +8,7 @@ use native.Mathlib.Omega.{arith}
 use Rattle.std.proofs.Math.ListN.{length}
 use Rattle.kit.specs.Pick.{pick}
 use Rattle.kit.proofs.Laws.{lt_or_le, yes!, no!, tests}
-use Rattle.rules.specs.Tools.{if◌then◌else◌}
+use Rattle.rules.specs.Tools.{when◌then◌else◌}
 use Rattle.rules.specs.Tree.{Declaration, Operand, Head, Fields, end, ◌▸◌, head_of, operand_row, item_rows}
 use Rattle.rules.specs.Shapes.{here_only}
 use Rattle.rules.specs.Rules.{Outside, onward, Result, refused, ok, find, heads_decls, expand_operand, expand_head}
@@ -87,13 +87,13 @@ pub under_append : (n : ℕ) (ds es : List Declaration) → Under n ds → Under
 under_append n [] es u v = v
 under_append n (d ∷ ds) es u v = (u.0, under_append n ds es u.1 v)
 
-past_one : (t u : Bool) (o : Option ℕ) (n : ℕ) → u ≡ false → o ≡ some n → (if t then if u then some 0 else map suc o else o) ≡ some (pick t (suc n) n)
-unfolding if◌then◌else◌ pick
+past_one : (t u : Bool) (o : Option ℕ) (n : ℕ) → u ≡ false → o ≡ some n → (when t then when u then some 0 else map suc o else o) ≡ some (pick t (suc n) n)
+unfolding when◌then◌else◌ pick
 past_one true u o n h e = rw (h, e)
 past_one false u o n h e = e
 
-first_one : (t u : Bool) (o : Option ℕ) → t ≡ true → u ≡ true → (if t then if u then some 0 else map suc o else o) ≡ some 0
-unfolding if◌then◌else◌
+first_one : (t u : Bool) (o : Option ℕ) → t ≡ true → u ≡ true → (when t then when u then some 0 else map suc o else o) ≡ some 0
+unfolding when◌then◌else◌
 first_one t u o h g = rw (h, g)
 
 -- a declaration behind others with lower names is found by its own
@@ -134,8 +134,8 @@ unfolding if_ok
 if_apart row (refused n z) f h = tt
 if_apart row (ok a) f h = h a
 
-choice_apart : (row : ℕ) (t : Bool) (xs : List Slot) → Apart row xs → Apart row (if t then [] else xs)
-unfolding if◌then◌else◌
+choice_apart : (row : ℕ) (t : Bool) (xs : List Slot) → Apart row xs → Apart row (when t then [] else xs)
+unfolding when◌then◌else◌
 choice_apart row true xs a = tt
 choice_apart row false xs a = a
 

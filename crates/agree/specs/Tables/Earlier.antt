@@ -7,7 +7,7 @@ use Rattle.std.proofs.lemmas.List.{set-get_or}
 use Rattle.std.proofs.lemmas.Bool.{lt-leb}
 use Rattle.kit.specs.Pick.{pick}
 use Rattle.kit.proofs.Laws.{lt_or_le}
-use Rattle.rules.specs.Tools.{if◌then◌else◌, is_just, ◌or_else◌}
+use Rattle.rules.specs.Tools.{when◌then◌else◌, is_just, ◌or_else◌}
 use Rattle.rules.specs.Versions.{top_name}
 use Rattle.rules.specs.Tree.{Declaration}
 use Rattle.rules.specs.Rules.{Entry, Env, Outside, table_of, find, walk, nth, comes_later, comes_later_out}
@@ -47,8 +47,8 @@ just_map : (o : Option ℕ) → is_just (map suc o) ≡ is_just o
 just_map none = refl
 just_map (some n) = refl
 
-just_turn : (t u : Bool) (o p : Option ℕ) (b : Bool) → is_just o ≡ is_just p || b → is_just (if t then if u then some 0 else map suc o else o) ≡ is_just (if t then if u then some 0 else map suc p else p) || b
-unfolding if◌then◌else◌
+just_turn : (t u : Bool) (o p : Option ℕ) (b : Bool) → is_just o ≡ is_just p || b → is_just (when t then when u then some 0 else map suc o else o) ≡ is_just (when t then when u then some 0 else map suc p else p) || b
+unfolding when◌then◌else◌
 just_turn true true o p b h = refl
 just_turn true false o p b h = rw (just_map o, just_map p) h
 just_turn false u o p b h = h
@@ -80,8 +80,8 @@ knows_fresh (s ∷ slots) (p & a) space name l =
     ap is_found (past_fresh (eqb (space_of s) space) (eqb (name_of s) name) (number_of s) (find_in slots space name) (ne_eqb (name_of s) name (omega arith))) ∙ knows_fresh slots a space name l
 
 -- the slots of DECLs hold the DECLs
-decl_turn : (t u : Bool) (n : ℕ) (F : Found) (o : Option ℕ) → is_found F ≡ is_just o → is_found (pick t (pick u (At n) F) F) ≡ is_just (if t then if u then some 0 else map suc o else o)
-unfolding pick if◌then◌else◌
+decl_turn : (t u : Bool) (n : ℕ) (F : Found) (o : Option ℕ) → is_found F ≡ is_just o → is_found (pick t (pick u (At n) F) F) ≡ is_just (when t then when u then some 0 else map suc o else o)
+unfolding pick when◌then◌else◌
 decl_turn true true n F o h = refl
 decl_turn true false n F o h = h ∙ sym (just_map o)
 decl_turn false u n F o h = h
@@ -180,7 +180,7 @@ pub record LateOut (es : List Env) (d space name : ℕ) (at : ℕ × ℕ) : Type
   pub late : comes_later_out es space name ≡ not (is_just (find env.before space name))
 
 late_turn : (e : Env) (es : List Env) (d space name : ℕ) (at : ℕ × ℕ) (o : Option ℕ) → find (table_of e) space name ≡ o → (walk es (suc d) space name ≡ some at → LateOut es (suc d) space name at) → (map (λ n. (d, n)) o or_else walk es (suc d) space name) ≡ some at → LateOut (e ∷ es) d space name at
-unfolding comes_later_out comes_later ◌or_else◌ if◌then◌else◌ nth
+unfolding comes_later_out comes_later ◌or_else◌ when◌then◌else◌ nth
 late_turn e es d space name at none f more q =
     let r = more q in
     let w = r.far_out in
@@ -196,7 +196,7 @@ late_out (e ∷ es) d space name at q = late_turn e es d space name at (find (ta
 
 -- nowhere, and so not later
 never_turn : (e : Env) (es : List Env) (d space name : ℕ) (o : Option ℕ) → find (table_of e) space name ≡ o → (walk es (suc d) space name ≡ none → comes_later_out es space name ≡ false) → (map (λ n. (d, n)) o or_else walk es (suc d) space name) ≡ none → comes_later_out (e ∷ es) space name ≡ false
-unfolding comes_later_out ◌or_else◌ if◌then◌else◌
+unfolding comes_later_out ◌or_else◌ when◌then◌else◌
 never_turn e es d space name none f more q = rw f (more q)
 never_turn e es d space name (some n) f more q = no_option (d, n) (sym q)
 

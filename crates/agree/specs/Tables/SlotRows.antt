@@ -5,7 +5,7 @@ use Rattle.std.proofs.Common.{ap, ◌∙◌, arith, add-zero}
 use Rattle.std.proofs.Math.Bool.{false}
 use Rattle.std.proofs.Math.Option.{Option, none, some}
 use mathlib.Core.List.{List, [], ◌∷◌, ◌++◌, map, map-append}
-use Rattle.rules.specs.Tools.{if◌then◌else◌}
+use Rattle.rules.specs.Tools.{when◌then◌else◌}
 use Rattle.rules.specs.Rows.{Row, Num, Id}
 use Rattle.rules.specs.Tree.{Declaration, Operand, ref, outer, case, Head, Fields, end, ◌▸◌, Item, head_of, operand_row, item_rows}
 use Rattle.rules.specs.Shapes.{here_only}
@@ -71,12 +71,12 @@ head_words : (here : List Declaration) (outside : Outside) (before : List Declar
 head_words here outside before k row base h e q b = go (here_only h.code) refl
   where
     go : (t : Bool) → here_only h.code ≡ t → map row_of (head_slots here outside before k row h) ≡ entry_rows (inserted_entries base e.inserted e.rows)
-    go true c = unfold head_slots if◌then◌else◌ as_it_is inserted_entries in rw (c, ← here_made here outside k h e q c)
+    go true c = unfold head_slots when◌then◌else◌ as_it_is inserted_entries in rw (c, ← here_made here outside k h e q c)
     go false c =
         let m = head_made here outside k h e q c in
         let s = holds_of _ _ e (head_served here outside k h) q in
         let g = holds_of _ _ e (head_grown here outside k h) q in
-        unfold head_slots if◌then◌else◌ in rw (c, b)
+        unfold head_slots when◌then◌else◌ in rw (c, b)
         (operands_words here outside h.operands before k base m.0 m.1
         ∙ (ap (λ (x : Expanded Head). map (λ (n : ℕ). base + n) x.rows) m.2 ∙ sym (entries_words k e.k base e.inserted e.rows s g.1)))
 

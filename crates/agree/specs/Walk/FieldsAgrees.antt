@@ -9,7 +9,7 @@ use Prim.Native.Nat.{ℕ, zero, suc, ◌+◌, ◌/◌, ◌≤◌, ◌<◌}
 use Rattle.std.proofs.Math.ListN.{length}
 use Rattle.kit.specs.Pick.{pick}
 use Rattle.kit.specs.Out.{Out, ◌&◌}
-use Rattle.rules.specs.Tools.{if◌then◌else◌}
+use Rattle.rules.specs.Tools.{when◌then◌else◌}
 use Rattle.rules.specs.Versions.{RuleSet}
 use Rattle.rules.specs.Rows.{Close}
 use Rattle.rules.specs.Tree.{Declaration, Head, Fields, end, ◌▸◌, Item, head_of, flatten, fields_rows, item_rows}
@@ -95,14 +95,14 @@ low_under k [] l = tt
 low_under k (d ∷ ds) l = (omega arith, low_under k ds l.1)
 
 heads_slots : (here : List Declaration) (outside : Outside) (before : List Declaration) (k row : ℕ) (h : Head) (e : Expanded Head) → expand_head here outside k h ≡ ok e → length (head_slots here outside before k row h) ≡ length e.inserted
-unfolding head_slots if◌then◌else◌ as_it_is
+unfolding head_slots when◌then◌else◌ as_it_is
 heads_slots here outside before k row h e q = go (here_only h.code) refl
   where
-    go : (t : Bool) → here_only h.code ≡ t → length (if t then [] else operands_slots here outside before k (row + 1 + length h.decls) h.operands) ≡ length e.inserted
-    go true c = unfold if◌then◌else◌ as_it_is in rw (← here_made here outside k h e q c)
+    go : (t : Bool) → here_only h.code ≡ t → length (when t then [] else operands_slots here outside before k (row + 1 + length h.decls) h.operands) ≡ length e.inserted
+    go true c = unfold when◌then◌else◌ as_it_is in rw (← here_made here outside k h e q c)
     go false c =
         let m = head_made here outside k h e q c in
-        unfold if◌then◌else◌ in rw (← m.2) (slots_inserted here outside h.operands before k (row + 1 + length h.decls) m.0 m.1)
+        unfold when◌then◌else◌ in rw (← m.2) (slots_inserted here outside h.operands before k (row + 1 + length h.decls) m.0 m.1)
 
 -- an open scope stays open from field to field
 envs_onward : (names : List Slot) (scopes : List (List ℕ)) (depth : ℕ) (env : Env) (outside : Outside) (i : Item) → Envs names scopes depth (opened env outside) → Envs names scopes depth (opened env (onward i outside))

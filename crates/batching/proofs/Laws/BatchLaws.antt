@@ -8,7 +8,7 @@ use Prim.Native.Nat.{ℕ, zero, suc, ◌+◌, ◌*◌, ◌/◌, ◌≤◌}
 use native.Mathlib.Omega.{arith}
 use Rattle.std.proofs.Math.ListN.{get_elem?, length-append, length-drop}
 use Rattle.std.proofs.Math.Seq.{drop-nil}
-use Rattle.rules.specs.Tools.{if◌then◌else◌, between}
+use Rattle.rules.specs.Tools.{when◌then◌else◌, between}
 use Rattle.rules.specs.Versions.{Setting}
 use Rattle.rules.specs.Rows.{Row}
 use Rattle.rules.specs.Tree.{Scope, flatten}
@@ -48,7 +48,7 @@ share_at i share buffer = take share (drop (i * share) buffer)
 pub bad_count : (settings : List Setting) (prelude : List ℕ) (members : List (List ℕ)) → between 1 8 (length members) ≡ false
     → ((prelude_room room : ℕ) → batch_answer settings prelude members prelude_room room ≡ refused 2 0 [])
     × ((old_prelude old : List ℕ) → batch_outputs settings prelude members old_prelude old ≡ (old_prelude, old))
-unfolding batch_answer batch_outputs if◌then◌else◌
+unfolding batch_answer batch_outputs when◌then◌else◌
 bad_count settings prelude members e = (λ prelude_room room. rw e, λ old_prelude old. rw e)
 
 -- ---- the prelude
@@ -73,17 +73,17 @@ prelude_refused (accepted x) members room n p c e old = let z : ◌≡◌ {A = �
 module _ (settings : List Setting) (prelude : List ℕ) (members : List (List ℕ)) (count : between 1 8 (length members) ≡ true) where
   -- The prelude is answered as if it were alone: the batch is refused exactly if it is, with its number and place.
   pub prelude_alone : (prelude_room room : ℕ) → prelude_answer (batch_answer settings prelude members prelude_room room) ≡ answer settings prelude prelude_room
-  unfolding batch_answer answer answer_inside if◌then◌else◌
+  unfolding batch_answer answer answer_inside when◌then◌else◌
   prelude_alone prelude_room room = rw count (prelude_answers (setting_of settings prelude) prelude members prelude_room room)
 
   -- its buffer holds what it would hold then,
   pub prelude_output : (old_prelude old : List ℕ) → (batch_outputs settings prelude members old_prelude old).0 ≡ output settings prelude old_prelude
-  unfolding batch_outputs if◌then◌else◌
+  unfolding batch_outputs when◌then◌else◌
   prelude_output old_prelude old = rw count
 
   -- and if it is refused, the members' buffer stays.
   pub refused_prelude : (old_prelude old : List ℕ) (n p : ℕ) (c : List ℕ) → answer settings prelude (length old_prelude) ≡ AnswerOf.refused n p c → (batch_outputs settings prelude members old_prelude old).1 ≡ old
-  unfolding batch_outputs answer answer_inside if◌then◌else◌
+  unfolding batch_outputs answer answer_inside when◌then◌else◌
   refused_prelude old_prelude old n p c e =
       rw count (prelude_refused (prelude_in (setting_of settings prelude) prelude (length old_prelude)) members 0 n p c
       (prelude_answers (setting_of settings prelude) prelude members (length old_prelude) 0 ∙ e) old)
@@ -107,7 +107,7 @@ module _ (settings : List Setting) (prelude : List ℕ) (members : List (List �
   -- A member's answer is a function of the prelude, the member's form and the length of its share.
   pub member_answer_lem : (prelude_room room : ℕ)
       → get_elem? (members_answers (batch_answer settings prelude members prelude_room room)) i ≡ in_batch (prelude_in (setting_of settings prelude) prelude prelude_room) m (share_of members room)
-  unfolding batch_answer if◌then◌else◌
+  unfolding batch_answer when◌then◌else◌
   member_answer_lem prelude_room room = rw count (after_at (prelude_in (setting_of settings prelude) prelude prelude_room) members room i m there)
 
 -- ---- the members' shares
@@ -217,7 +217,7 @@ shares_of (accepted p) u members old =
 
 pub shares : (settings : List Setting) → AllUsual settings → (prelude : List ℕ) (members : List (List ℕ)) → between 1 8 (length members) ≡ true → (old_prelude old : List ℕ)
     → Shares (prelude_in (setting_of settings prelude) prelude (length old_prelude)) members old (batch_outputs settings prelude members old_prelude old).1
-unfolding batch_outputs if◌then◌else◌
+unfolding batch_outputs when◌then◌else◌
 shares settings l prelude members count old_prelude old =
     rw count (shares_of (prelude_in (setting_of settings prelude) prelude (length old_prelude)) (prelude_usual (setting_of settings prelude) prelude (length old_prelude) (setting_usual settings prelude l)) members old)
 

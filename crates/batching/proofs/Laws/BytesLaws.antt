@@ -5,7 +5,7 @@ use Rattle.std.proofs.Common.{ap, ap₂, sym, ◌∙◌, arith, ltb-false, lengt
 use Rattle.std.proofs.Math.Option.{Option, none, some}
 use mathlib.Core.List.{List, [], ◌∷◌, ◌++◌, append_assoc}
 use Rattle.std.proofs.Math.ListN.{get_elem?}
-use Rattle.rules.specs.Tools.{if◌then◌else◌, between}
+use Rattle.rules.specs.Tools.{when◌then◌else◌, between}
 use Rattle.rules.specs.Versions.{Setting}
 use Rattle.rules.specs.Rows.{bytes, Row}
 use Rattle.rules.specs.Rules.{Env}
@@ -52,12 +52,12 @@ cut_length (k ∷ ns) members (suc i) n m e f g = let l = length-drop k members 
 module _ (settings : List Setting) (prelude members lengths : List ℕ) where
   pub bad_members_lem : bad_members lengths members ≡ true → (prelude_room room answers_room : ℕ) (old : Buffers)
       → (bytes_answer settings prelude members lengths prelude_room room answers_room ≡ refused 2 0 []) × (bytes_buffers settings prelude members lengths old ≡ old)
-  unfolding bytes_answer bytes_buffers if◌then◌else◌
+  unfolding bytes_answer bytes_buffers when◌then◌else◌
   bad_members_lem e prelude_room room answers_room old = (rw e, rw e)
 
   pub few_bytes_lem : bad_members lengths members ≡ false → (prelude_room room : ℕ) (old : Buffers) → few_bytes lengths (length old.answers) ≡ true
       → (bytes_answer settings prelude members lengths prelude_room room (length old.answers) ≡ refused 3 0 []) × (bytes_buffers settings prelude members lengths old ≡ old)
-  unfolding bytes_answer bytes_buffers if◌then◌else◌
+  unfolding bytes_answer bytes_buffers when◌then◌else◌
   few_bytes_lem e prelude_room room old f = (rw (e, f), rw (e, f))
 
 -- ---- the answers
@@ -117,11 +117,11 @@ module _ (settings : List Setting) (usual : AllUsual settings) (prelude members 
 
   -- A member's share holds what it would hold by itself,
   pub own_share : share_at i share (bytes_buffers settings prelude members lengths old).outs ≡ member_output settings prelude (length old.prelude) m (share_at i share old.outs)
-  unfolding bytes_buffers if◌then◌else◌
+  unfolding bytes_buffers when◌then◌else◌
   own_share = rw (good, room) (writes_as_alone settings prelude (cut lengths members) count i m there usual old.prelude old.outs)
 
   batch_refused : (n p : ℕ) (c : List ℕ) → prelude_of settings prelude (length old.prelude) ≡ AnswerOf.refused n p c → batch_answer settings prelude (cut lengths members) (length old.prelude) (length old.outs) ≡ refused n p c
-  unfolding batch_answer after_prelude if◌then◌else◌
+  unfolding batch_answer after_prelude when◌then◌else◌
   batch_refused n p c e = rw (count, e)
 
   batch_done : (q : Prelude) → prelude_of settings prelude (length old.prelude) ≡ accepted q
@@ -141,7 +141,7 @@ module _ (settings : List Setting) (usual : AllUsual settings) (prelude members 
   -- and its eight bytes the answer that it would get.
   pub own_answer : eight i (bytes_buffers settings prelude members lengths old).answers
       ≡ eight_after (prelude_of settings prelude (length old.prelude)) (member_answer settings prelude (length old.prelude) m share) (eight i old.answers)
-  unfolding bytes_buffers if◌then◌else◌
+  unfolding bytes_buffers when◌then◌else◌
   own_answer =
       rw (good, room)
       (answers_after_lem (prelude_of settings prelude (length old.prelude)) _ i (member_answer settings prelude (length old.prelude) m share) old.answers batch_refused batch_done)
@@ -171,7 +171,7 @@ enough lengths room e = ltb-false room (8 * length lengths) e
 
 answers_kept : (settings : List Setting) (prelude : List ℕ) (members : List (List ℕ)) → between 1 8 (length members) ≡ true → (old_prelude outs old : List ℕ) → 8 * length members ≤ length old
     → length (answers_after (batch_answer settings prelude members (length old_prelude) (length outs)) old) ≡ length old
-unfolding batch_answer if◌then◌else◌
+unfolding batch_answer when◌then◌else◌
 answers_kept settings prelude members count old_prelude outs old h = rw count (after_length (prelude_of settings prelude (length old_prelude)) members (length outs) old h)
 
 pub record Kept (old new : Buffers) : Type 0 where
@@ -180,7 +180,7 @@ pub record Kept (old new : Buffers) : Type 0 where
   pub answers : length new.answers ≡ length old.answers
 
 pub buffers_kept : (settings : List Setting) → AllUsual settings → (prelude members lengths : List ℕ) (old : Buffers) → Kept old (bytes_buffers settings prelude members lengths old)
-unfolding bytes_buffers if◌then◌else◌
+unfolding bytes_buffers when◌then◌else◌
 buffers_kept settings u prelude members lengths old = go (bad_members lengths members) (few_bytes lengths (length old.answers)) refl refl
   where
     ms : List (List ℕ)
@@ -195,7 +195,7 @@ buffers_kept settings u prelude members lengths old = go (bad_members lengths me
         let n : 8 * length ms ≤ length old.answers = rw cut_count (enough lengths (length old.answers) r) in
         answers_kept settings prelude ms (good_count lengths members g) old.prelude old.outs old.answers n
 
-    go : (b c : Bool) → bad_members lengths members ≡ b → few_bytes lengths (length old.answers) ≡ c → Kept old (if b || c then old else new)
+    go : (b c : Bool) → bad_members lengths members ≡ b → few_bytes lengths (length old.answers) ≡ c → Kept old (when b || c then old else new)
     go true c e f = record { prelude = refl; outs = refl; answers = refl }
     go false true e f = record { prelude = refl; outs = refl; answers = refl }
     go false false e f =

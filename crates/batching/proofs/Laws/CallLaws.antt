@@ -6,7 +6,7 @@ use Rattle.std.proofs.Common.{◌∙◌, arith, length-append, take-append-drop,
 use Rattle.std.proofs.Math.Option.{Option, none, some}
 use Rattle.std.proofs.Math.ListN.{get_elem?}
 use Rattle.std.proofs.lemmas.List.{length-replicate}
-use Rattle.rules.specs.Tools.{if◌then◌else◌, between}
+use Rattle.rules.specs.Tools.{when◌then◌else◌, between}
 use Rattle.rules.specs.Versions.{Setting}
 use Rattle.rules.specs.Rows.{bytes}
 use Rattle.rules.specs.Reader.{read}
@@ -34,14 +34,14 @@ cleared_length zero size old =
 
 -- without room a prelude is refused with 1, 2 or 3, at place 0
 short_form : (s : Setting) (prelude : List ℕ) → (n : ℕ) × (n ≤ 3) × (form_in [] s prelude 0 ≡ AnswerOf.refused n 0 [])
-unfolding form_in if◌then◌else◌
+unfolding form_in when◌then◌else◌
 short_form s prelude = go (between 1 s.version.rows rows) (not (eqb (length prelude) (s.version.header + 16 * rows))) refl
   where
     rows : ℕ
     rows = row_count s.version prelude
 
     go : (b c : Bool) → between 1 s.version.rows rows ≡ b
-        → (n : ℕ) × (n ≤ 3) × ((if not b || c then AnswerOf.refused 2 0 [] else if ltb 0 (s.version.header + 64 * rows) then AnswerOf.refused 3 0 [] else after_reading [] s.rules (read s.rules (scopes_left s.version.scopes []) (rows_in s prelude))) ≡ AnswerOf.refused n 0 [])
+        → (n : ℕ) × (n ≤ 3) × ((when not b || c then AnswerOf.refused 2 0 [] else when ltb 0 (s.version.header + 64 * rows) then AnswerOf.refused 3 0 [] else after_reading [] s.rules (read s.rules (scopes_left s.version.scopes []) (rows_in s prelude))) ≡ AnswerOf.refused n 0 [])
     go false c e = (2, omega arith, refl)
     go true true e = (2, omega arith, refl)
     go true false e =
@@ -59,7 +59,7 @@ short_prelude settings prelude = go (setting_of settings prelude)
 -- An area that is too small: the member is answered 201, 202 or 203, at place 0, and its output stays.
 pub short_member : (settings : List Setting) (prelude member : List ℕ) (area room : ℕ) (old : List ℕ)
     → (n : ℕ) × (n ≤ 3) × (member_call settings true prelude area member room ≡ (200 + n) * 4294967296) × (member_leaves settings true prelude area member old ≡ old)
-unfolding member_call member_leaves room_with member_answer member_output packed if◌then◌else◌
+unfolding member_call member_leaves room_with member_answer member_output packed when◌then◌else◌
 short_member settings prelude member area room old = let S = short_prelude settings prelude in (S.0, S.1, rw S.2 (omega arith), rw S.2)
 
 -- ---- a member in a batch, and by itself
@@ -74,7 +74,7 @@ module _ (settings : List Setting) (usual : AllUsual settings) (prelude members 
   -- resolved there.
   pub as_called : (share_at i share (batch_leaves settings false prelude members lengths old).outs ≡ member_leaves settings false prelude area m (share_at i share old.outs))
       × (eight i (batch_leaves settings false prelude members lengths old).answers ≡ bytes 8 (member_call settings false prelude area m share))
-  unfolding batch_leaves member_leaves member_call room_with if◌then◌else◌
+  unfolding batch_leaves member_leaves member_call room_with when◌then◌else◌
   as_called =
       let E = enough_work settings prelude (length old.prelude) area q accepts enough m in (
         own_share settings usual prelude members lengths old good few i m there ∙ sym (E.1 (share_at i share old.outs)),
@@ -95,7 +95,7 @@ pub isolated_calls : (settings : List Setting) → AllUsual settings → (short 
     → share_at i share old.outs ≡ share_at j share old'.outs → eight i old.answers ≡ eight j old'.answers
     → (share_at i share (batch_leaves settings short prelude members lengths old).outs ≡ share_at j share (batch_leaves settings short prelude members' lengths' old').outs)
     × (eight i (batch_leaves settings short prelude members lengths old).answers ≡ eight j (batch_leaves settings short prelude members' lengths' old').answers)
-unfolding batch_leaves if◌then◌else◌
+unfolding batch_leaves when◌then◌else◌
 isolated_calls settings u true prelude members lengths members' lengths' old old' g g' r r' same i j m t t' share e e' held answers = (held, answers)
 isolated_calls settings u false prelude members lengths members' lengths' old old' g g' r r' same i j m t t' share e e' held answers =
     isolated settings u prelude members lengths members' lengths' old old' g g' r r' same i j m t t' share e e' held answers

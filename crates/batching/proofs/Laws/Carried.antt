@@ -9,7 +9,7 @@ use Rattle.std.proofs.Math.Option.{Option, none, some}
 use mathlib.Core.List.{List, [], ◌∷◌, ◌++◌, map}
 use Prim.Native.Nat.{ℕ, zero, suc, ◌≤◌}
 use Rattle.std.proofs.Math.ListN.{get_elem?}
-use Rattle.rules.specs.Tools.{if◌then◌else◌, ◌then◌}
+use Rattle.rules.specs.Tools.{when◌then◌else◌, ◌then◌}
 use Rattle.rules.specs.Versions.{RuleSet, top_name}
 use Rattle.rules.specs.Rows.{Index, Num, Id}
 use Rattle.rules.specs.Tree.{Declaration, Operand, ref, outer, case, Head, Scope, scope, Fields, Item, plain, holds, head_of, with_operands}
@@ -55,7 +55,7 @@ head_kept ds outside k h o space up at z e = if_both (OkR _) _ _ _ e (bind_ok _ 
 
 -- a here_only_lem field is left by step B
 here_kept : (ds : List Declaration) (outside : Outside) (k : ℕ) (h : Head) → here_only h.code ≡ true → OkR (λ e. e.now ≡ h) (expand_head ds outside k h)
-unfolding expand_head Rules.as_it_is if◌then◌else◌
+unfolding expand_head Rules.as_it_is when◌then◌else◌
 here_kept ds outside k h c = rw c refl
 
 module _ (here : Env) (outside : Outside) (space : ℕ) (up at : Index) (z : ℕ) where
@@ -137,7 +137,7 @@ names_of es = map (λ (e : Env). e.name) es
 named_is : (es : List Env) (x : ℕ) → named es x ≡ nearest_named (names_of es) x
 unfolding named nearest_named
 named_is [] x = refl
-named_is (e ∷ es) x = ap (λ (o : Option ℕ). if eqb e.name x then some 0 else Option.map suc o) (named_is es x)
+named_is (e ∷ es) x = ap (λ (o : Option ℕ). when eqb e.name x then some 0 else Option.map suc o) (named_is es x)
 
 goes_to : (es : List Env) (up : Index) (fz d : ℕ) → up_number es up fz ≡ ok d → out_to (names_of es) up ≡ some d
 unfolding up_number out_to or_refused
@@ -292,7 +292,7 @@ root_name rules (scope kind name fs) q e = let R = root_prepared rules kind name
 -- a here_only_lem name, and an index, found on both sides
 module _ (ls ls' : List Level) (space name n z : ℕ) (p : Place) where
   named_here : (code : ℕ) (names : List ℕ) (l : Level) (rest : List Level) → here_only code ≡ true → l ∷ rest ≡ ls → declared l space name ≡ some p → name_in code names ls (ref space (Id name) [] z) ≡ some p
-  unfolding name_in declared_out if◌then◌else◌ ◌then◌
+  unfolding name_in declared_out when◌then◌else◌ ◌then◌
   named_here code names l rest c e q = rw (c, ← e) q
 
   counts_here : (l : Level) (rest : List Level) → l ∷ rest ≡ ls' → (counted l space n then place l) ≡ some p → counts ls' (ref space (Num n) [] z) ≡ some p
@@ -400,7 +400,7 @@ module _ (s s' m m' : Scope) (p : Place) (u : Use) (used : use_inside (seat s) (
 
   -- a walked name
   walked_carried : (w : ℕ × ℕ) → walked u.head u.operand ≡ some w → (d : Place) → outward S.ls w.0 w.1 ≡ some d → (v : Use) → use_inside (seat s) (root s' ∷ []) m' p ≡ some v → counting v.levels v.operand ≡ some d → Carried s s' m m' p
-  unfolding name_in if◌then◌else◌
+  unfolding name_in when◌then◌else◌
   walked_carried w e d reads v after c =
       let W = walked_ref u.head u.operand w e in
       record {

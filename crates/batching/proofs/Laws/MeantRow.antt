@@ -5,7 +5,7 @@ use Rattle.std.proofs.Math.Path.{subst}
 use Rattle.std.proofs.Math.Option.{Option, none, some, map}
 use mathlib.Core.List.{List, [], ◌∷◌, ◌++◌}
 use Rattle.std.proofs.Math.ListN.{get_elem?}
-use Rattle.rules.specs.Tools.{if◌then◌else◌, ◌then◌, ◌or_else◌}
+use Rattle.rules.specs.Tools.{when◌then◌else◌, ◌then◌, ◌or_else◌}
 use Rattle.rules.specs.Tree.{Declaration, Scope, scope, Fields, end, ◌▸◌, Item, plain, holds, head_of}
 use Rattle.rules.specs.Readings
 use Rattle.rules.specs.Readings.{originals, Place, Level, level, Use, Spot, original, inserted, in_original, standings, first_named, place, declared, outward, root, fields_of, held, around, walked_at}
@@ -26,11 +26,11 @@ Named space name (some d) = (d.space ≡ space) × (d.name ≡ name)
 
 decls_named : (n m : ℕ) (ds : List Declaration) (space name field at : ℕ) → first_named (in_original n m ds) space name ≡ some (original field at)
     → (k : ℕ) × (field ≡ n) × (at ≡ m + k) × Named space name (get_elem? ds k)
-unfolding first_named in_original if◌then◌else◌
+unfolding first_named in_original when◌then◌else◌
 decls_named n m [] space name field at e = no_option _ e
 decls_named n m (d ∷ ds) space name field at e = go (eqb d.space space && eqb d.name name) refl e (decls_named n (suc m) ds space name field at)
   where
-    go : (b : Bool) → eqb d.space space && eqb d.name name ≡ b → (if b then some (original n m) else first_named (in_original n (suc m) ds) space name) ≡ some (original field at)
+    go : (b : Bool) → eqb d.space space && eqb d.name name ≡ b → (when b then some (original n m) else first_named (in_original n (suc m) ds) space name) ≡ some (original field at)
         → (first_named (in_original n (suc m) ds) space name ≡ some (original field at) → (k : ℕ) × (field ≡ n) × (at ≡ suc m + k) × Named space name (get_elem? ds k))
         → (k : ℕ) × (field ≡ n) × (at ≡ m + k) × Named space name (get_elem? (d ∷ ds) k)
     go true q e below =

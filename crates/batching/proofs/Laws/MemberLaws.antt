@@ -3,7 +3,7 @@ use Rattle.std.specs.Prelude.{◌≡◌, refl, Bool, true, false, not, ◌||◌,
 use Rattle.std.proofs.Common.{ap, sym, ◌∙◌, subst, arith, le-ltb}
 use Rattle.std.proofs.Math.Option.{Option, none, some}
 use Rattle.std.proofs.Math.ListN.{get_elem?}
-use Rattle.rules.specs.Tools.{if◌then◌else◌, between}
+use Rattle.rules.specs.Tools.{when◌then◌else◌, between}
 use Rattle.rules.specs.Versions.{RuleSet, Setting}
 use Rattle.rules.specs.Tree.{Scope, flatten, RowsRead, bad, deep, form}
 use Rattle.rules.specs.Reader.{read}
@@ -99,7 +99,7 @@ module _ (settings : List Setting) (prelude : List ℕ) (work : ℕ) (member : L
 -- ---- where the prelude is resolved does not matter, if there is room
 
 enough_form : (s : Setting) (input : List ℕ) (r r' : ℕ) (t : Scope) → form_in [] s input r ≡ accepted t → s.version.header + 64 * row_count s.version input ≤ r' → form_in [] s input r' ≡ accepted t
-unfolding form_in if◌then◌else◌
+unfolding form_in when◌then◌else◌
 enough_form s input r r' t e h = go (not (between 1 s.version.rows (row_count s.version input)) || not (eqb (length input) (s.version.header + 16 * row_count s.version input))) e
   where
     size : ℕ
@@ -108,12 +108,12 @@ enough_form s input r r' t e h = go (not (between 1 s.version.rows (row_count s.
     A : AnswerOf Scope
     A = after_reading [] s.rules (read s.rules (scopes_left s.version.scopes []) (rows_in s input))
 
-    roomy : (b b' : Bool) → b' ≡ false → (if b then refused 3 0 [] else A) ≡ accepted t → (if b' then refused 3 0 [] else A) ≡ accepted t
+    roomy : (b b' : Bool) → b' ≡ false → (when b then refused 3 0 [] else A) ≡ accepted t → (when b' then refused 3 0 [] else A) ≡ accepted t
     roomy true b' q e = no_answer 3 0 [] t e
     roomy false true q e = false_not (sym q)
     roomy false false q e = e
 
-    go : (b : Bool) → (if b then refused 2 0 [] else if ltb r size then refused 3 0 [] else A) ≡ accepted t → (if b then refused 2 0 [] else if ltb r' size then refused 3 0 [] else A) ≡ accepted t
+    go : (b : Bool) → (when b then refused 2 0 [] else when ltb r size then refused 3 0 [] else A) ≡ accepted t → (when b then refused 2 0 [] else when ltb r' size then refused 3 0 [] else A) ≡ accepted t
     go true e = no_answer 2 0 [] t e
     go false e = roomy (ltb r size) (ltb r' size) (le-ltb r' size h) e
 

@@ -7,7 +7,7 @@ use Rattle.std.proofs.Math.Option
 use Rattle.std.proofs.Math.Option.{Option, none, some}
 use mathlib.Core.List.{List, [], ◌∷◌, ◌++◌, map, append_assoc, append-nil}
 use Rattle.std.proofs.Math.ListN.{length, get_elem?, length-append, length-map}
-use Rattle.rules.specs.Tools.{if◌then◌else◌, ◌then◌, ◌or_else◌}
+use Rattle.rules.specs.Tools.{when◌then◌else◌, ◌then◌, ◌or_else◌}
 use Rattle.rules.specs.Tree.{Scope, scope, Fields, Item, head_of}
 use Rattle.rules.specs.Good.{name_of}
 use Rattle.rules.specs.Readings
@@ -189,7 +189,7 @@ module _ (s m : Scope) (p : Place) (u : Use) (there : use_at m p ≡ some u) (na
 
   -- of a walked name it is the outward reading
   pub means_walked : (w : ℕ × ℕ) → walked_at m p ≡ some w → member_means s m p ≡ member_outward s m p
-  unfolding member_outward Readings.outward_inside Readings.walked_inside name_in ◌then◌ if◌then◌else◌
+  unfolding member_outward Readings.outward_inside Readings.walked_inside name_in ◌then◌ when◌then◌else◌
   means_walked w e =
       let walks : walked u.head u.operand ≡ some w = rw there at e in
       let W = walked_ref u.head u.operand w walks in

@@ -9,7 +9,7 @@ use mathlib.Core.List.{List, [], ◌∷◌, ◌++◌, map}
 use Prim.Native.Nat.{ℕ, suc, ◌+◌}
 use native.Mathlib.Omega.{arith}
 use Rattle.std.proofs.Math.ListN.{length, get_elem?, length-append}
-use Rattle.rules.specs.Tools.{if◌then◌else◌, only, ◌then◌}
+use Rattle.rules.specs.Tools.{when◌then◌else◌, only, ◌then◌}
 use Rattle.rules.specs.Rows.{Row, Num, Id}
 use Rattle.rules.specs.Tree.{Declaration, Operand, ref, outer, case, Head, Scope, scope, Fields, end, ◌▸◌, Item, plain, holds, head_of, decl_rows, operand_row, operand_rows, head_rows, export_rows, flatten, fields_rows, item_rows}
 use Rattle.rules.specs.Readings
@@ -152,25 +152,25 @@ module _ (to : ℕ → ℕ) where
   -- ---- places
 
   items_same : (fs : Fields) → originals (placed_fields fs) ≡ map placed_item (originals fs)
-  unfolding originals placed if◌then◌else◌
+  unfolding originals placed when◌then◌else◌
   items_same end = refl
-  items_same (i ▸ fs) = ap (λ (b : Bool). if b then originals (placed_fields fs) else placed_item i ∷ originals (placed_fields fs)) (item_inserted i) ∙ go (is_inserted (head_of i)) (items_same fs)
+  items_same (i ▸ fs) = ap (λ (b : Bool). when b then originals (placed_fields fs) else placed_item i ∷ originals (placed_fields fs)) (item_inserted i) ∙ go (is_inserted (head_of i)) (items_same fs)
     where
       go : (b : Bool) → originals (placed_fields fs) ≡ map placed_item (originals fs)
-          → (if b then originals (placed_fields fs) else placed_item i ∷ originals (placed_fields fs)) ≡ map placed_item (if b then originals fs else i ∷ originals fs)
+          → (when b then originals (placed_fields fs) else placed_item i ∷ originals (placed_fields fs)) ≡ map placed_item (when b then originals fs else i ∷ originals fs)
       go true e = e
       go false e = ap (λ (l : List Item). placed_item i ∷ l) e
 
   fields_same : (row : ℕ) (fs : Fields) → originals_from row (placed_fields fs) ≡ map field_to (originals_from row fs)
-  unfolding originals_from placed if◌then◌else◌
+  unfolding originals_from placed when◌then◌else◌
   fields_same row end = refl
   fields_same row (i ▸ fs) =
-      ap₂ (λ (b : Bool) (n : ℕ). if b then originals_from (row + n) (placed_fields fs) else record { row = row; item = placed_item i } ∷ originals_from (row + n) (placed_fields fs)) (item_inserted i) (item_long_lem i)
+      ap₂ (λ (b : Bool) (n : ℕ). when b then originals_from (row + n) (placed_fields fs) else record { row = row; item = placed_item i } ∷ originals_from (row + n) (placed_fields fs)) (item_inserted i) (item_long_lem i)
       ∙ go (is_inserted (head_of i)) (fields_same (row + length (item_rows i)) fs)
     where
       go : (b : Bool) → originals_from (row + length (item_rows i)) (placed_fields fs) ≡ map field_to (originals_from (row + length (item_rows i)) fs)
-          → (if b then originals_from (row + length (item_rows i)) (placed_fields fs) else record { row = row; item = placed_item i } ∷ originals_from (row + length (item_rows i)) (placed_fields fs))
-          ≡ map field_to (if b then originals_from (row + length (item_rows i)) fs else record { row = row; item = i } ∷ originals_from (row + length (item_rows i)) fs)
+          → (when b then originals_from (row + length (item_rows i)) (placed_fields fs) else record { row = row; item = placed_item i } ∷ originals_from (row + length (item_rows i)) (placed_fields fs))
+          ≡ map field_to (when b then originals_from (row + length (item_rows i)) fs else record { row = row; item = i } ∷ originals_from (row + length (item_rows i)) fs)
       go true e = e
       go false e = ap (λ (l : List Placed). record { row = row; item = placed_item i } ∷ l) e
 
@@ -275,10 +275,10 @@ module _ (to : ℕ → ℕ) where
 
   -- the declarations of a field
   abbrev own : (b : Bool) (n : ℕ) → Head → List Standing
-  own b n h = if b then in_inserted h h.decls else in_original n 0 h.decls
+  own b n h = when b then in_inserted h h.decls else in_original n 0 h.decls
 
   own_same : (b : Bool) (n : ℕ) (h : Head) → own b n (placed_head h) ≡ map standing_to (own b n h)
-  unfolding if◌then◌else◌ placed_head
+  unfolding when◌then◌else◌ placed_head
   own_same true n h = new_same h h.decls
   own_same false n h = old_same n 0 h.decls
 
@@ -288,20 +288,20 @@ module _ (to : ℕ → ℕ) where
   located_same row n (i ▸ fs) =
       let b = is_inserted (head_of i) in
       let h = head_of i in
-      let next = if b then n else suc n in
+      let next = when b then n else suc n in
       let further = located (row + length (item_rows i)) next fs in
-      ap₂ (λ (k : Head) (m : ℕ). in_rows (suc row) (own (is_inserted k) n k) ++ located (row + m) (if is_inserted k then n else suc n) (placed_fields fs)) (head_of_lem i) (item_long_lem i)
-      ∙ (ap (λ (c : Bool). in_rows (suc row) (own c n (placed_head h)) ++ located (row + length (item_rows i)) (if c then n else suc n) (placed_fields fs)) (head_inserted h)
+      ap₂ (λ (k : Head) (m : ℕ). in_rows (suc row) (own (is_inserted k) n k) ++ located (row + m) (when is_inserted k then n else suc n) (placed_fields fs)) (head_of_lem i) (item_long_lem i)
+      ∙ (ap (λ (c : Bool). in_rows (suc row) (own c n (placed_head h)) ++ located (row + length (item_rows i)) (when c then n else suc n) (placed_fields fs)) (head_inserted h)
       ∙ (ap₂ (λ (x y : List Located). x ++ y) (ap (in_rows (suc row)) (own_same b n h) ∙ in_rows_same (suc row) (own b n h)) (located_same (row + length (item_rows i)) next fs)
       ∙ sym (map-append located_to (in_rows (suc row) (own b n h)) further)))
 
   of_space_same : (xs : List Located) (space : ℕ) → located_of (map located_to xs) space ≡ map located_to (located_of xs space)
-  unfolding located_of if◌then◌else◌ placed_decl
+  unfolding located_of when◌then◌else◌ placed_decl
   of_space_same [] space = refl
   of_space_same (x ∷ xs) space = go (eqb x.standing.decl.space space) (of_space_same xs space)
     where
       go : (b : Bool) → located_of (map located_to xs) space ≡ map located_to (located_of xs space)
-          → (if b then located_to x ∷ located_of (map located_to xs) space else located_of (map located_to xs) space) ≡ map located_to (if b then x ∷ located_of xs space else located_of xs space)
+          → (when b then located_to x ∷ located_of (map located_to xs) space else located_of (map located_to xs) space) ≡ map located_to (when b then x ∷ located_of xs space else located_of xs space)
       go true e = ap (λ (l : List Located). located_to x ∷ l) e
       go false e = e
 
@@ -325,11 +325,11 @@ module _ (to : ℕ → ℕ) where
   outer_same fs (case name z ∷ os) = refl
 
   follow_same : (fs : List Floor) (spot : Spot) (x : Located) → follow (map floor_to fs) (spot_to spot) (located_to x) ≡ Option.map located_to (follow fs spot x)
-  unfolding follow if◌then◌else◌ placed_head
+  unfolding follow when◌then◌else◌ placed_head
   follow_same fs (original field at) x = refl
   follow_same fs (inserted h) x = go (eqb h.code 11)
     where
-      go : (b : Bool) → (if b then outer_to (map floor_to fs) (map placed_operand h.operands) else some (located_to x)) ≡ Option.map located_to (if b then outer_to fs h.operands else some x)
+      go : (b : Bool) → (when b then outer_to (map floor_to fs) (map placed_operand h.operands) else some (located_to x)) ≡ Option.map located_to (when b then outer_to fs h.operands else some x)
       go true = outer_same fs h.operands
       go false = refl
 
@@ -368,7 +368,7 @@ module _ (to : ℕ → ℕ) where
   unfolding placed_head
   operands_of way n i = ap (λ (h : Head). places_at way n 0 h.operands) (head_of_lem i) ∙ at_same way n 0 (head_of i).operands
 
-  places_step : (way : List ℕ) (n : ℕ) (b c : Bool) (os xs xs' ys ys' zs zs' : List Place) → b ≡ c → xs ≡ xs' → ys ≡ ys' → zs ≡ zs' → (if b then xs else os ++ (ys ++ zs)) ≡ (if c then xs' else os ++ (ys' ++ zs'))
+  places_step : (way : List ℕ) (n : ℕ) (b c : Bool) (os xs xs' ys ys' zs zs' : List Place) → b ≡ c → xs ≡ xs' → ys ≡ ys' → zs ≡ zs' → (when b then xs else os ++ (ys ++ zs)) ≡ (when c then xs' else os ++ (ys' ++ zs'))
   places_step way n b c os xs xs' ys ys' zs zs' e₁ e₂ e₃ e₄ = rw (e₁, e₂, e₃, e₄)
 
   mutual
@@ -377,7 +377,7 @@ module _ (to : ℕ → ℕ) where
     places_in_lem : (fs : Fields) (way : List ℕ) (n : ℕ) → places_in way n (placed_fields fs) ≡ places_in way n fs
     places_in_lem end way n = refl
     places_in_lem (i ▸ fs) way n =
-        ap (λ (os : List Place). if is_inserted (head_of (placed_item i)) then places_in way n (placed_fields fs) else os ++ (Moved.places_inside (way ++ (n ∷ [])) (placed_item i) ++ places_in way (suc n) (placed_fields fs))) (operands_of way n i)
+        ap (λ (os : List Place). when is_inserted (head_of (placed_item i)) then places_in way n (placed_fields fs) else os ++ (Moved.places_inside (way ++ (n ∷ [])) (placed_item i) ++ places_in way (suc n) (placed_fields fs))) (operands_of way n i)
         ∙ places_step way n _ _ (places_at way n 0 (head_of i).operands) _ _ _ _ _ _ (item_inserted i) (places_in_lem fs way n) (places_inside_lem i (way ++ (n ∷ []))) (places_in_lem fs way (suc n))
 
     places_inside_lem : (i : Item) (way : List ℕ) → Moved.places_inside way (placed_item i) ≡ Moved.places_inside way i

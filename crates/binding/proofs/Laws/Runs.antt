@@ -8,7 +8,7 @@ use Rattle.std.proofs.Math.Option.{Option, none, some}
 use mathlib.Core.List.{List, []}
 use Prim.Native.Nat.{ℕ, ◌+◌, ◌*◌, ◌≤◌}
 use native.Mathlib.Omega.{arith}
-use Rattle.rules.specs.Tools.{if◌then◌else◌, between, ◌then◌, ◌or_else◌}
+use Rattle.rules.specs.Tools.{when◌then◌else◌, between, ◌then◌, ◌or_else◌}
 use Rattle.rules.specs.Versions.{RuleSet, Setting}
 use Rattle.rules.specs.Rows.{Row}
 use Rattle.rules.specs.Tree.{Scope, flatten, RowsRead, bad, deep, form}
@@ -61,7 +61,7 @@ module _ (settings : List Setting) (input : List ℕ) (v : Setting) (asked : set
   reading_agrees (form s) q = steps_agree s q
 
   setting_agrees : (room : ℕ) → area_of (some v) ≤ room → Agree settings input (run_in v input) (Answer.answer_in [] v input room)
-  unfolding run_in Answer.answer_in Answer.form_in area_of map_answer if◌then◌else◌
+  unfolding run_in Answer.answer_in Answer.form_in area_of map_answer when◌then◌else◌
   setting_agrees room roomy = go (not (between 1 v.version.rows n) || not (eqb (length input) (v.version.header + 16 * n))) refl
     where
       n : ℕ
@@ -71,8 +71,8 @@ module _ (settings : List Setting) (input : List ℕ) (v : Setting) (asked : set
       ran = form_of (read v.rules v.version.scopes (rows_in v input)) then λ s. result_of (resolve v.rules s) then λ t. some (record { before = s; after = t; bytes = form_bytes v (flatten t) })
 
       go : (b : Bool) → (not (between 1 v.version.rows n) || not (eqb (length input) (v.version.header + 16 * n))) ≡ b
-          → Agree settings input (if b then none else ran)
-          (map_answer flatten (if b then refused 2 0 [] else if ltb room (v.version.header + 64 * n) then refused 3 0 [] else Answer.after_reading [] v.rules (read v.rules v.version.scopes (rows_in v input))))
+          → Agree settings input (when b then none else ran)
+          (map_answer flatten (when b then refused 2 0 [] else when ltb room (v.version.header + 64 * n) then refused 3 0 [] else Answer.after_reading [] v.rules (read v.rules v.version.scopes (rows_in v input))))
       go true e = omega arith
       go false e =
           let few = leb_le n v.version.rows (and_right (leb 1 n) (leb n v.version.rows) (few_rows (between 1 v.version.rows n) _ e)) in

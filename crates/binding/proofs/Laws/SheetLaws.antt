@@ -4,7 +4,7 @@ use Rattle.std.proofs.Common.{ap, sym, ◌∙◌, subst, arith}
 use Rattle.std.proofs.Math.Option
 use Rattle.std.proofs.Math.Option.{Option, none, some}
 use Rattle.std.proofs.Math.ListN.{get_elem?}
-use Rattle.rules.specs.Tools.{if◌then◌else◌, ◌then◌, ◌or_else◌}
+use Rattle.rules.specs.Tools.{when◌then◌else◌, ◌then◌, ◌or_else◌}
 use Rattle.rules.specs.Versions.{RuleSet}
 use Rattle.rules.specs.Rows.{Num, Id}
 use Rattle.rules.specs.Tree.{Declaration, Operand, ref, outer, case, Head, Scope, scope, Item, head_of}
@@ -48,16 +48,16 @@ all_passes (h & a) = rw h (all_passes a)
 
 -- none fails exactly if it passes
 pub none_fails : (bs : List Binding) → passes bs ≡ true → failing bs ≡ 0
-unfolding failing passes if◌then◌else◌
+unfolding failing passes when◌then◌else◌
 none_fails [] e = refl
 none_fails (b ∷ bs) e = rw (and_left (is_as_written b) (passes bs) e) (none_fails bs (and_right (is_as_written b) (passes bs) e))
 
 pub no_failing : (bs : List Binding) → failing bs ≡ 0 → passes bs ≡ true
-unfolding failing passes if◌then◌else◌
+unfolding failing passes when◌then◌else◌
 no_failing [] e = refl
 no_failing (b ∷ bs) e = go (is_as_written b) e (no_failing bs)
   where
-    go : (t : Bool) → (if t then failing bs else suc (failing bs)) ≡ 0 → (failing bs ≡ 0 → passes bs ≡ true) → t && passes bs ≡ true
+    go : (t : Bool) → (when t then failing bs else suc (failing bs)) ≡ 0 → (failing bs ≡ 0 → passes bs ≡ true) → t && passes bs ≡ true
     go true e below = below e
     go false e below = absurd (omega (arith, e))
 
@@ -115,12 +115,12 @@ decl_kept rules (scope kind name fs) r p d low eq e =
 -- the first of a name is an entry with that name
 first_entry : {P : Located → Type 0} (xs : List Located) (space name : ℕ) (spot : Spot) → All P xs → first_named (map standing xs) space name ≡ some spot
     → (x : Located) × P x × (x.standing.spot ≡ spot) × (x.standing.decl.space ≡ space) × (x.standing.decl.name ≡ name)
-unfolding first_named if◌then◌else◌
+unfolding first_named when◌then◌else◌
 first_entry [] space name spot a e = no_option spot e
 first_entry {P} (x ∷ xs) space name spot (h & a) e = go (eqb x.standing.decl.space space && eqb x.standing.decl.name name) refl e (λ q. first_entry xs space name spot a q)
   where
     go : (b : Bool) → eqb x.standing.decl.space space && eqb x.standing.decl.name name ≡ b
-        → (if b then some x.standing.spot else first_named (map standing xs) space name) ≡ some spot
+        → (when b then some x.standing.spot else first_named (map standing xs) space name) ≡ some spot
         → (first_named (map standing xs) space name ≡ some spot → (y : Located) × P y × (y.standing.spot ≡ spot) × (y.standing.decl.space ≡ space) × (y.standing.decl.name ≡ name))
         → (y : Located) × P y × (y.standing.spot ≡ spot) × (y.standing.decl.space ≡ space) × (y.standing.decl.name ≡ name)
     go true t e below =
@@ -199,7 +199,7 @@ outer_at_lem s fs (outer space (Id name) at z ∷ os) d a e = no_option d e
 outer_at_lem s fs (case name z ∷ os) d a e = no_option d e
 
 reached_at : (s : Scope) (fs : List Floor) (o : Operand) (d : Place) → All (AtItsWay s) fs → counting (levels fs) o ≡ some d → (x : Located) × (reached_from fs o ≡ some x) × IsAt s d x
-unfolding counting reached_from meant follow if◌then◌else◌ ◌then◌
+unfolding counting reached_from meant follow when◌then◌else◌ ◌then◌
 reached_at s [] o d a e = no_option d e
 reached_at s (f ∷ fs) (ref space (Num n) paths z) d (own & a) e =
     let s₁ = then_some (counted f.level space n) _ d e in
@@ -211,8 +211,8 @@ reached_at s (f ∷ fs) (ref space (Num n) paths z) d (own & a) e =
     step : (y x : Located) → counted_row f space n ≡ some y → follow (f ∷ fs) y.standing.spot y ≡ some x → (counted_row f space n then λ x. follow (f ∷ fs) x.standing.spot x) ≡ some x
     step y x e₁ e₂ = rw e₁ e₂
 
-    choose : (y : Located) (h : Head) (b : Bool) → (if b then counted_out (levels (f ∷ fs)) h.operands else none) ≡ some d
-        → (x : Located) × ((if b then outer_to (f ∷ fs) h.operands else some y) ≡ some x) × IsAt s d x
+    choose : (y : Located) (h : Head) (b : Bool) → (when b then counted_out (levels (f ∷ fs)) h.operands else none) ≡ some d
+        → (x : Located) × ((when b then outer_to (f ∷ fs) h.operands else some y) ≡ some x) × IsAt s d x
     choose y h true e = outer_at_lem s (f ∷ fs) h.operands d (own & a) e
     choose y h false e = no_option d e
 
@@ -239,7 +239,7 @@ counting_reaches s p d e =
 -- ---- the slot of a walked name
 
 bound_one : (before after : Scope) (slot : Slot) (p : Place) (x : Located) → refs_at before slot.place ≡ p ∷ [] → reached after p ≡ some x
-    → binding before after slot ≡ (if eqb x.standing.decl.name slot.name then as_written else elsewhere x.row)
+    → binding before after slot ≡ (when eqb x.standing.decl.name slot.name then as_written else elsewhere x.row)
 unfolding binding bound bound_to
 bound_one before after slot p x e₁ e₂ = rw (e₁, e₂)
 
@@ -266,7 +266,7 @@ not_both row e = false_not (ap is_as_written e)
 -- For a slot whose place is that of exactly one REF, a walked name of an accepted tree.
 pub slot_meant : (rules : RuleSet) (s : Scope) (r : Scope × ℕ) (slot : Slot) (p : Place) (x : ℕ × ℕ) → LowScope s → resolve rules s ≡ ok r → refs_at s slot.place ≡ p ∷ [] → walked_at s p ≡ some x
     → Meant s r.0 slot p x
-unfolding if◌then◌else◌ resolve
+unfolding when◌then◌else◌ resolve
 slot_meant rules s r slot p x low eq one w =
     let A = readings_agree rules [] nowhere s r p x low eq w in
     let D = outward_declares s p A.0 x w A.1 in
@@ -274,8 +274,8 @@ slot_meant rules s r slot p x low eq one w =
     let kept = decl_kept rules s r A.0 D.0 low eq D.1 in
     let same : X.0.standing.decl ≡ D.0 = some_same _ _ (sym X.2.0 ∙ kept) in
     let names : X.0.standing.decl.name ≡ D.0.name = ap (λ (d : Declaration). d.name) same in
-    let is_bound : binding s r.0 slot ≡ (if eqb D.0.name slot.name then as_written else elsewhere X.0.row) =
-    bound_one s r.0 slot p X.0 one X.1 ∙ ap (λ (n : ℕ). if eqb n slot.name then as_written else elsewhere X.0.row) names in
+    let is_bound : binding s r.0 slot ≡ (when eqb D.0.name slot.name then as_written else elsewhere X.0.row) =
+    bound_one s r.0 slot p X.0 one X.1 ∙ ap (λ (n : ℕ). when eqb n slot.name then as_written else elsewhere X.0.row) names in
     record {
       means = A.0;
       reads = A.1;
@@ -289,13 +289,13 @@ slot_meant rules s r slot p x low eq one w =
       otherwise = λ h. is_bound ∙ if_other D.0.name slot.name X.0.row h;
     }
   where
-    if_same : (a b row : ℕ) → a ≡ b → (if eqb a b then as_written else elsewhere row) ≡ as_written
+    if_same : (a b row : ℕ) → a ≡ b → (when eqb a b then as_written else elsewhere row) ≡ as_written
     if_same a b row e = rw (e, eqb_same b)
 
-    if_other : (a b row : ℕ) → ¬ (a ≡ b) → (if eqb a b then as_written else elsewhere row) ≡ elsewhere row
+    if_other : (a b row : ℕ) → ¬ (a ≡ b) → (when eqb a b then as_written else elsewhere row) ≡ elsewhere row
     if_other a b row h = rw (eqb-false a b h)
 
-    only_same : (a b row : ℕ) (t : Bool) → eqb a b ≡ t → (if t then as_written else elsewhere row) ≡ as_written → a ≡ b
+    only_same : (a b row : ℕ) (t : Bool) → eqb a b ≡ t → (when t then as_written else elsewhere row) ≡ as_written → a ≡ b
     only_same a b row true q e = eqb-true a b q
     only_same a b row false q e = absurd (not_both row e)
 

@@ -8,7 +8,7 @@ use Rattle.std.proofs.Math.Option.{none, some}
 use mathlib.Core.List.{List, [], ◌∷◌, ◌++◌}
 use Rattle.std.proofs.Math.ListN.{length}
 use Rattle.rules.specs.Tools
-use Rattle.rules.specs.Tools.{if◌then◌else◌, is_in, ◌or_else◌, ◌then◌}
+use Rattle.rules.specs.Tools.{when◌then◌else◌, is_in, ◌or_else◌, ◌then◌}
 use Rattle.rules.specs.Versions.{RuleSet}
 use Rattle.rules.specs.Tree.{Declaration, Operand, ref, outer, case, Head, Scope, scope, Fields, end, ◌▸◌, Item, plain, holds, head_of, head_rows, item_rows}
 use Rattle.rules.specs.Shapes
@@ -89,7 +89,7 @@ unfolding Shapes.parts Shapes.declared
 parts_eleven rules builtin d = refl
 
 pub closed : (code : ℕ) → is_in code (9 ∷ 10 ∷ 11 ∷ []) ≡ true → Shapes.opens code ≡ none
-unfolding Shapes.opens if◌then◌else◌
+unfolding Shapes.opens when◌then◌else◌
 closed code c =
     or_cases (eqb code 9) _ c (λ t. rw (eqb-true code 9 t))
     (λ c₁. or_cases (eqb code 10) _ c₁ (λ t. rw (eqb-true code 10 t))
@@ -128,16 +128,16 @@ module _ (rules : RuleSet) where
   -- ---- condition 3 holds
 
   coded : (n : ℕ) (past : List Declaration) (h : Head) → no_alias n past h ≡ none → Passed3 h
-  unfolding no_alias if◌then◌else◌
+  unfolding no_alias when◌then◌else◌
   coded n past h e = go (is_in h.code (9 ∷ 10 ∷ 11 ∷ [])) refl e
     where
       go : (b : Bool) → is_in h.code (9 ∷ 10 ∷ 11 ∷ []) ≡ b
-          → (if b then not_new (suc n) past h.decls or_else not_number (suc n + length h.decls) h.operands else some n) ≡ none → Passed3 h
+          → (when b then not_new (suc n) past h.decls or_else not_number (suc n + length h.decls) h.operands else some n) ≡ none → Passed3 h
       go true c f = (c, _, or_else_second (not_new (suc n) past h.decls) _ f)
       go false c f = no_option n (sym f)
 
-  inserted_coded : (n : ℕ) (past : List Declaration) (h : Head) → (if is_inserted h then no_alias n past h else none) ≡ none → is_inserted h ≡ true → Passed3 h
-  unfolding if◌then◌else◌
+  inserted_coded : (n : ℕ) (past : List Declaration) (h : Head) → (when is_inserted h then no_alias n past h else none) ≡ none → is_inserted h ≡ true → Passed3 h
+  unfolding when◌then◌else◌
   inserted_coded n past h e i = coded n past h (rw i at e)
 
   record Parts3 (n : ℕ) (past : List Declaration) (i : Item) (fs : Fields) : Type 0 where
@@ -148,7 +148,7 @@ module _ (rules : RuleSet) where
   parts_3 : (n : ℕ) (past : List Declaration) (i : Item) (fs : Fields) → fields_added n past (i ▸ fs) ≡ none → Parts3 n past i fs
   unfolding scope_added
   parts_3 n past i fs e =
-      let f = or_else_second (if is_inserted (head_of i) then no_alias n past (head_of i) else none) _ e in
+      let f = or_else_second (when is_inserted (head_of i) then no_alias n past (head_of i) else none) _ e in
       record {
         alias = inserted_coded n past (head_of i) (or_else_first _ _ e);
         inner = or_else_first (item_added (n + length (head_rows (head_of i))) i) _ f;

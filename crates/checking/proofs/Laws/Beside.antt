@@ -7,7 +7,7 @@ use Rattle.std.proofs.Math.Option.{none, some}
 use mathlib.Core.List.{List, [], ◌∷◌, ◌++◌, map}
 use Prim.Native.Nat.{ℕ, zero, suc, ◌+◌, ◌≤◌}
 use Rattle.std.proofs.Math.ListN.{length, get_elem?}
-use Rattle.rules.specs.Tools.{if◌then◌else◌, ◌or_else◌}
+use Rattle.rules.specs.Tools.{when◌then◌else◌, ◌or_else◌}
 use Rattle.rules.specs.Versions.{top_name}
 use Rattle.rules.specs.Tree.{Declaration, Operand, Head, Scope, scope, Fields, end, ◌▸◌, Item, plain, holds, head_of, with_operands, item_rows}
 use Rattle.rules.specs.Rules.{Env}
@@ -48,8 +48,8 @@ beside_own i cs end n f e = no_next _ _ (sym e)
 beside_own i cs (w ▸ fs) n f e = both n (next_item _ _ _ _ e) (f fs (next_fields _ _ _ _ e))
 
 beside_next : (i : Item) (cs fs : Fields) (b : Bool) → is_inserted (head_of i) ≡ b → ((gs : Fields) → blank_fields (without_fields cs) ≡ blank_fields gs → Beside cs gs)
-    → blank_fields (if b then without_fields cs else without_item i ▸ without_fields cs) ≡ blank_fields fs → Beside (i ▸ cs) fs
-unfolding if◌then◌else◌
+    → blank_fields (when b then without_fields cs else without_item i ▸ without_fields cs) ≡ blank_fields fs → Beside (i ▸ cs) fs
+unfolding when◌then◌else◌
 beside_next i cs fs true n f e = skip n (f fs e)
 beside_next i cs fs false n f e = beside_own i cs fs n f e
 
@@ -88,7 +88,7 @@ same_export h h' e = ap (λ (x : Head). x.export) e
 -- ---- a name of the input has the same first declaration in the claim
 
 standings_inserted : (n : ℕ) (i : Item) (cs : Fields) → is_inserted (head_of i) ≡ true → standings n (i ▸ cs) ≡ in_inserted (head_of i) (head_of i).decls ++ standings n cs
-unfolding standings if◌then◌else◌
+unfolding standings when◌then◌else◌
 standings_inserted n i cs e = rw e
 
 past_added : (h : Head) (space name : ℕ) → name ≤ top_name → Added h → first_named (in_inserted h h.decls) space name ≡ none
@@ -128,12 +128,12 @@ pub record Picked (cs : Fields) (f : ℕ) (w : Item) (here : Scope) (outside : L
   pub low_item : LowItem w
 
 originals_inserted : (i : Item) (cs : Fields) → is_inserted (head_of i) ≡ true → originals (i ▸ cs) ≡ originals cs
-unfolding originals if◌then◌else◌
+unfolding originals when◌then◌else◌
 originals_inserted i cs e = rw e
 
 module _ (here : Scope) (outside : List Env) where
   pub right_skip : (n : ℕ) (i : Item) (cs fs : Fields) → is_inserted (head_of i) ≡ true → fields_operands n (i ▸ cs) here outside fs ≡ none → (m : ℕ) × ((fields_operands m cs here outside fs ≡ none))
-  unfolding scope_operands if◌then◌else◌
+  unfolding scope_operands when◌then◌else◌
   right_skip n i cs end t e = (n, right_end n cs)
     where
       right_end : (n : ℕ) (cs : Fields) → fields_operands n cs here outside end ≡ none
@@ -147,7 +147,7 @@ module _ (here : Scope) (outside : List Env) where
     pub rest : fields_operands row cs here outside fs ≡ none
 
   pub right_both : (n : ℕ) (i w : Item) (cs fs : Fields) → is_inserted (head_of i) ≡ false → fields_operands n (i ▸ cs) here outside (w ▸ fs) ≡ none → Rights n i w cs fs
-  unfolding scope_operands if◌then◌else◌
+  unfolding scope_operands when◌then◌else◌
   right_both n i w cs fs t e =
       let f : (item_operands n i here outside w or_else fields_operands (n + length (item_rows i)) cs here outside fs) ≡ none = rw t at e in
       record { first = or_else_first (item_operands n i here outside w) _ f; row = _; rest = or_else_second (item_operands n i here outside w) _ f }
@@ -195,10 +195,10 @@ module _ (here : Scope) (outside : List Env) where
     pub rest : not_right here outside (suc n) now was ≡ none
 
   pub firsts : (n : ℕ) (x w : Operand) (now was : List Operand) → not_right here outside n (x ∷ now) (w ∷ was) ≡ none → Firsts n x w now was
-  unfolding not_right if◌then◌else◌
+  unfolding not_right when◌then◌else◌
   firsts n x w now was e = go (operand_right here outside w x) refl e
     where
-      go : (b : Bool) → operand_right here outside w x ≡ b → (if b then not_right here outside (suc n) now was else some n) ≡ none → Firsts n x w now was
+      go : (b : Bool) → operand_right here outside w x ≡ b → (when b then not_right here outside (suc n) now was else some n) ≡ none → Firsts n x w now was
       go true t f = record { first = t; rest = f }
       go false t f = no_option n (sym f)
 

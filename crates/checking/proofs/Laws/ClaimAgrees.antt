@@ -5,7 +5,7 @@ use Rattle.std.proofs.Common.{ap, ap₂, sym, ◌∙◌, subst, add-one, arith}
 use Rattle.std.proofs.Math.Bool.{false}
 use Rattle.std.proofs.Math.Option.{Option, none, some}
 use Rattle.std.proofs.Math.ListN.{get_elem?}
-use Rattle.rules.specs.Tools.{if◌then◌else◌, only, ◌then◌, ◌or_else◌}
+use Rattle.rules.specs.Tools.{when◌then◌else◌, only, ◌then◌, ◌or_else◌}
 use Rattle.rules.specs.Versions.{top_name}
 use Rattle.rules.specs.Rows.{Num, Id}
 use Rattle.rules.specs.Tree.{Declaration, Operand, ref, outer, case, Head, Scope, scope, Fields, end, ◌▸◌, Item, plain, holds, head_of}
@@ -48,24 +48,24 @@ added_of : (h : Head) → Added h → All StandingOf (in_inserted h h.decls)
 unfolding in_inserted
 added_of h a = subst (λ (ds : List Declaration). All StandingOf (in_inserted h ds)) (sym a.alone) (a.spaced & done)
 
-item_of : (n : ℕ) (h : Head) (b : Bool) → is_inserted h ≡ b → (is_inserted h ≡ true → Added h) → All StandingOf (if b then in_inserted h h.decls else in_original n 0 h.decls)
-unfolding if◌then◌else◌
+item_of : (n : ℕ) (h : Head) (b : Bool) → is_inserted h ≡ b → (is_inserted h ≡ true → Added h) → All StandingOf (when b then in_inserted h h.decls else in_original n 0 h.decls)
+unfolding when◌then◌else◌
 item_of n h true e a = added_of h (a e)
 item_of n h false e a = original_of n 0 h.decls
 
 standings_of : (n : ℕ) (cs : Fields) → AddedFields cs → All StandingOf (standings n cs)
 unfolding standings
 standings_of n end a = done
-standings_of n (i ▸ cs) a = all_append _ _ (item_of n (head_of i) (is_inserted (head_of i)) refl (λ e. added_head i (a.0 e))) (standings_of (if is_inserted (head_of i) then n else suc n) cs a.2)
+standings_of n (i ▸ cs) a = all_append _ _ (item_of n (head_of i) (is_inserted (head_of i)) refl (λ e. added_head i (a.0 e))) (standings_of (when is_inserted (head_of i) then n else suc n) cs a.2)
 
 spots_of : (space : ℕ) (ss : List Standing) → All StandingOf ss → All (SpotOf space) (of_space ss space)
 unfolding of_space
 spots_of space [] a = done
 spots_of space (s ∷ ss) (h & a) = go (eqb s.decl.space space) refl (spots_of space ss a)
   where
-    go : (b : Bool) → eqb s.decl.space space ≡ b → All (SpotOf space) (of_space ss space) → All (SpotOf space) (if b then s.spot ∷ of_space ss space else of_space ss space)
-    go true e p = unfold if◌then◌else◌ in (subst (λ (x : ℕ). SpotOf x s.spot) (eqb-true s.decl.space space e) h & p)
-    go false e p = unfold if◌then◌else◌ in p
+    go : (b : Bool) → eqb s.decl.space space ≡ b → All (SpotOf space) (of_space ss space) → All (SpotOf space) (when b then s.spot ∷ of_space ss space else of_space ss space)
+    go true e p = unfold when◌then◌else◌ in (subst (λ (x : ℕ). SpotOf x s.spot) (eqb-true s.decl.space space e) h & p)
+    go false e p = unfold when◌then◌else◌ in p
 
 get_all : {A : Type 0} (P : A → Type 0) (xs : List A) (n : ℕ) (x : A) → All P xs → get_elem? xs n ≡ some x → P x
 get_all P [] n x a e = no_option x e
@@ -201,7 +201,7 @@ pair_same (some m) (some n) e =
 -- an outer alias counts on to where the walk ended
 counts_on : (l : Level) (ls : List Level) (space n j d i : ℕ) (paths : List ℕ) (z : ℕ) (p : Place) (h : Head) (z' : ℕ) (os : List Operand) → d ≡ j + 1 → h.code ≡ 11 → h.operands ≡ outer space (Num d) (Num i) z' ∷ os
     → (get_elem? ls j then λ l. counted l space i then place l) ≡ some p → counted l space n ≡ some (inserted h) → counting (l ∷ ls) (ref space (Num n) paths z) ≡ some p
-unfolding counting meant Readings.counted_out ◌then◌ if◌then◌else◌
+unfolding counting meant Readings.counted_out ◌then◌ when◌then◌else◌
 counts_on l ls space n j d i paths z p h z' os far code operands there e = rw (e, code, operands, far ∙ add-one j) there
 
 counts_here : (l : Level) (ls : List Level) (space n : ℕ) (paths : List ℕ) (z : ℕ) (p : Place) → (counted l space n then place l) ≡ some p → counting (l ∷ ls) (ref space (Num n) paths z) ≡ some p

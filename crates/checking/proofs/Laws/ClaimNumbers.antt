@@ -3,7 +3,7 @@ use Rattle.std.specs.Prelude.{◌≡◌, refl, Bool, true, false, ℕ, suc}
 use Rattle.std.proofs.Common.{sym, arith}
 use Rattle.std.proofs.Math.Option.{none, some}
 use mathlib.Core.List.{List, [], ◌∷◌, map}
-use Rattle.rules.specs.Tools.{if◌then◌else◌}
+use Rattle.rules.specs.Tools.{when◌then◌else◌}
 use Rattle.rules.specs.Rows.{Num, Id}
 use Rattle.rules.specs.Tree.{Operand, ref, outer, case, Head, Scope, scope, Fields, end, ◌▸◌, Item, plain, holds, head_of}
 use Rattle.rules.specs.Rules.{Env}
@@ -31,11 +31,11 @@ number_numbered (outer space (Id name) at z) b t = false_not t
 number_numbered (case name z) b t = tt
 
 numbers_numbered : (n : ℕ) (os : List Operand) → AllBare os → not_number n os ≡ none → AllNumbered os
-unfolding not_number if◌then◌else◌
+unfolding not_number when◌then◌else◌
 numbers_numbered n [] b e = tt
 numbers_numbered n (o ∷ os) b e = go (has_numbers o) refl e (numbers_numbered (suc n) os b.1)
   where
-    go : (t : Bool) → has_numbers o ≡ t → (if t then not_number (suc n) os else some n) ≡ none → (not_number (suc n) os ≡ none → AllNumbered os) → AllNumbered (o ∷ os)
+    go : (t : Bool) → has_numbers o ≡ t → (when t then not_number (suc n) os else some n) ≡ none → (not_number (suc n) os ≡ none → AllNumbered os) → AllNumbered (o ∷ os)
     go true t f rest = (number_numbered o b.0 t, rest f)
     go false t f rest = no_option n (sym f)
 

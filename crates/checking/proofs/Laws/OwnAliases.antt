@@ -4,7 +4,7 @@ use Rattle.std.proofs.Math.Path.{refl}
 use Rattle.std.proofs.Common.{ap, sym, ◌∙◌, subst, arith}
 use Rattle.std.proofs.Math.Option.{Option, none, some, map}
 use mathlib.Core.List.{List, [], ◌∷◌, ◌++◌}
-use Rattle.rules.specs.Tools.{if◌then◌else◌, ◌or_else◌}
+use Rattle.rules.specs.Tools.{when◌then◌else◌, ◌or_else◌}
 use Rattle.rules.specs.Versions.{RuleSet}
 use Rattle.rules.specs.Rows.{Index, Num, Id}
 use Rattle.rules.specs.Tree.{Declaration, Operand, ref, outer, case, Head, Scope, scope, Fields, end, ◌▸◌, Item, plain, holds, head_of, head_rows, item_rows}
@@ -146,8 +146,8 @@ unfolding fresh
 low_below k [] p = tt
 low_below k (d ∷ ds) p = (omega (arith, p.0), low_below k ds p.1)
 
-not_found : (a : Bool) (o : Option ℕ) → o ≡ none → (if a then if false then some 0 else map suc o else o) ≡ none
-unfolding if◌then◌else◌
+not_found : (a : Bool) (o : Option ℕ) → o ≡ none → (when a then when false then some 0 else map suc o else o) ≡ none
+unfolding when◌then◌else◌
 not_found true o e = rw e
 not_found false o e = e
 
@@ -159,7 +159,7 @@ below_new k (d ∷ ds) space p =
     rw other (not_found (eqb d.space space) (find ds space (fresh k)) (below_new k ds space p.1))
 
 numbers_pass : (n : ℕ) (os : List Operand) → AllNumbered os → not_number n os ≡ none
-unfolding not_number has_numbers Check.is_number if◌then◌else◌
+unfolding not_number has_numbers Check.is_number when◌then◌else◌
 numbers_pass n [] a = refl
 numbers_pass n (ref space (Num m) [] z ∷ os) a = numbers_pass (suc n) os a.1
 numbers_pass n (ref space (Num m) (p ∷ ps) z ∷ os) a = absurd a.0
@@ -171,14 +171,14 @@ numbers_pass n (case name z ∷ os) a = numbers_pass (suc n) os a.1
 
 -- an added field with the next fresh name
 alias_passes : (n k : ℕ) (ds : List Declaration) (h : Head) → Below k ds → Named k h → Alias h → AllNumbered h.operands → no_alias n ds h ≡ none
-unfolding no_alias not_new if◌then◌else◌ ◌or_else◌
+unfolding no_alias not_new when◌then◌else◌ ◌or_else◌
 alias_passes n k ds h b m a o =
     rw (a.code, m.alone, m.named, below_new k ds m.decl.space b) (numbers_pass _ h.operands o)
 
 named_inserted : (k : ℕ) (h : Head) → Named k h → is_inserted h ≡ true
 named_inserted k h m = Lookups.new_inserted k (suc k) h (record { decl = m.decl; alone = m.alone; number = k; named = m.named; low = omega arith; high = omega arith })
 
-added_next : (n : ℕ) (past : List Declaration) (i : Item) (fs : Fields) → (if is_inserted (head_of i) then no_alias n past (head_of i) else none) ≡ none
+added_next : (n : ℕ) (past : List Declaration) (i : Item) (fs : Fields) → (when is_inserted (head_of i) then no_alias n past (head_of i) else none) ≡ none
     → item_added (n + length (head_rows (head_of i))) i ≡ none → fields_added (n + length (item_rows i)) (past ++ (head_of i).decls) fs ≡ none → fields_added n past (i ▸ fs) ≡ none
 unfolding scope_added ◌or_else◌
 added_next n past i fs p q r = rw (p, q, r)
@@ -199,12 +199,12 @@ end_passes : (n : ℕ) (past : List Declaration) → fields_added n past end ≡
 unfolding scope_added
 end_passes n past = refl
 
-if_true : (n : ℕ) (past : List Declaration) (h : Head) → is_inserted h ≡ true → no_alias n past h ≡ none → (if is_inserted h then no_alias n past h else none) ≡ none
-unfolding if◌then◌else◌
+if_true : (n : ℕ) (past : List Declaration) (h : Head) → is_inserted h ≡ true → no_alias n past h ≡ none → (when is_inserted h then no_alias n past h else none) ≡ none
+unfolding when◌then◌else◌
 if_true n past h e p = rw e p
 
-if_false : (n : ℕ) (past : List Declaration) (h : Head) → is_inserted h ≡ false → (if is_inserted h then no_alias n past h else none) ≡ none
-unfolding if◌then◌else◌
+if_false : (n : ℕ) (past : List Declaration) (h : Head) → is_inserted h ≡ false → (when is_inserted h then no_alias n past h else none) ≡ none
+unfolding when◌then◌else◌
 if_false n past h e = rw e
 
 numbered_own : (i : Item) → NumberedItem i → AllNumbered (head_of i).operands

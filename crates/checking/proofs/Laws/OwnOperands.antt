@@ -10,7 +10,7 @@ use Prim.Native.Nat.{ℕ, suc, ◌+◌, ◌≤◌}
 use native.Mathlib.Omega.{arith}
 use Rattle.std.proofs.Math.Dec.{eqb}
 use Rattle.std.proofs.Math.ListN.{length}
-use Rattle.rules.specs.Tools.{if◌then◌else◌, only, ◌then◌, is_just, is_in, ◌or_else◌}
+use Rattle.rules.specs.Tools.{when◌then◌else◌, only, ◌then◌, is_just, is_in, ◌or_else◌}
 use Rattle.rules.specs.Versions.{RuleSet, top_name}
 use Rattle.rules.specs.Rows.{Index, Num, Id}
 use Rattle.rules.specs.Tree.{Declaration, Operand, ref, outer, case, Head, Scope, scope, Fields, end, ◌▸◌, Item, plain, holds, head_of, item_rows, with_operands}
@@ -56,7 +56,7 @@ pub record Ones (here : Env) (outside : Outside) (fz : ℕ) (o : Operand) (os os
 
 module _ (here : Env) (outside : Outside) where
   pub ones : (fz : ℕ) (seen : List ℕ) (o : Operand) (os os' : List Operand) → resolve_operands here outside fz seen (o ∷ os) ≡ ok os' → Ones here outside fz o os os'
-  unfolding resolve_operands if◌then◌else◌
+  unfolding resolve_operands when◌then◌else◌
   ones fz seen (ref space at paths z) os os' e =
       let s₁ = bind_inv (number_in here.entries space at z) _ os' e in
       let s₂ = bind_inv (resolve_operands here outside fz seen os) _ os' s₁.2 in
@@ -67,7 +67,7 @@ module _ (here : Env) (outside : Outside) where
       record { seen = seen; now = _; rest = s₂.0; first = one_outer s₁.1; others = s₂.1; are = ok_same _ os' s₂.2 }
   ones fz seen (case name z) os os' e = go (not (eqb name 0) && is_in name seen) e
     where
-      go : (b : Bool) → (if b then Result.refused Rules.case_twice z else (resolve_operands here outside fz (name ∷ seen) os >>= λ os'. ok (case name z ∷ os'))) ≡ ok os' → Ones here outside fz (case name z) os os'
+      go : (b : Bool) → (when b then Result.refused Rules.case_twice z else (resolve_operands here outside fz (name ∷ seen) os >>= λ os'. ok (case name z ∷ os'))) ≡ ok os' → Ones here outside fz (case name z) os os'
       go true e = no_result Rules.case_twice z os' e
       go false e =
           let s₂ = bind_inv (resolve_operands here outside fz (name ∷ seen) os) _ os' e in
@@ -108,7 +108,7 @@ Outered es space up at z o = (x : ℕ × ℕ) × (outer_numbers o ≡ some x) ×
 
 outer_named : (early : Bool) (es : List Env) (fz space : ℕ) (up at : Index) (z : ℕ) (o : Operand) → Rules.outer_numbers early es fz space up at z ≡ ok o
     → (x : ℕ × ℕ) × (outer_numbers o ≡ some x) × (Rules.outer_numbers false (map plain_of es) 0 space up at z ≡ ok o)
-unfolding Rules.outer_numbers outer_numbers Rules.in_time if◌then◌else◌ ◌>>=◌
+unfolding Rules.outer_numbers outer_numbers Rules.in_time when◌then◌else◌ ◌>>=◌
 outer_named early es fz space up at z o e =
     let s₁ = bind_inv (Rules.up_number es up fz) _ o e in
     let s₂ = bind_inv (Rules.or_refused (Rules.nth es s₁.0) Rules.too_far fz) _ o s₁.2 in
@@ -217,7 +217,7 @@ module _ {fs : Fields} {outside : Outside} {here : Env} {out' : Fields} (E : Clo
       let X = export_resolved here there code space new from at name z Q.h' Q.resolves in
       record { m = X.0; number = X.1; reaches = placed_reached space new n _ Q f ∙ ap {B = Option Head} some (sym X.2) }
 
-  through_export_lem : (code space new from m name z n : ℕ) → eqb code (if leb space 6 then 10 else 9) ≡ true → reached out' space n ≡ some (export_alias code space new from (Num m) name z)
+  through_export_lem : (code space new from m name z n : ℕ) → eqb code (when leb space 6 then 10 else 9) ≡ true → reached out' space n ≡ some (export_alias code space new from (Num m) name z)
       → through_export out' space name n ≡ some m
   unfolding through_export export_alias Check.first ref_number ◌then◌ only
   through_export_lem code space new from m name z n c e = rw (e, c, same_self name)
@@ -229,8 +229,8 @@ module _ {fs : Fields} {outside : Outside} {here : Env} {out' : Fields} (E : Clo
     number : number_in here.entries (instance_space space) at z ≡ ok m
 
   last_path : (space : ℕ) (at : Index) (q z k n : ℕ) (b : Bool) → leb space 6 ≡ b
-      → PlacedHead (if b then export_alias 10 space (fresh k) 6 at q z else export_alias 9 space (fresh k) 10 at q z) → find (table_of here) space (fresh k) ≡ some n → Pathed space at q [] z n
-  unfolding if◌then◌else◌ through_paths instance_space
+      → PlacedHead (when b then export_alias 10 space (fresh k) 6 at q z else export_alias 9 space (fresh k) 10 at q z) → find (table_of here) space (fresh k) ≡ some n → Pathed space at q [] z n
+  unfolding when◌then◌else◌ through_paths instance_space
   last_path space at q z k n true e P f =
       let X = placed_export 10 space (fresh k) 6 at q z n P f in
       record { m = X.m; through = through_export_lem 10 space (fresh k) 6 X.m q z n (rw e) X.reaches; number = rw e X.number }
@@ -239,7 +239,7 @@ module _ {fs : Fields} {outside : Outside} {here : Env} {out' : Fields} (E : Clo
       record { m = X.m; through = through_export_lem 9 space (fresh k) 10 X.m q z n (rw e) X.reaches; number = rw e X.number }
 
   high_instance : (space : ℕ) → leb 7 space ≡ true → instance_space space ≡ 10
-  unfolding instance_space if◌then◌else◌
+  unfolding instance_space when◌then◌else◌
   high_instance space t = let l = leb_le 7 space t in rw (leb-false space 6 (omega arith))
 
   paths_through : (space : ℕ) (at : Index) (q : ℕ) (ps : List ℕ) (z k n : ℕ) → paths_ok space (suc (length ps)) ≡ true → All PlacedHead (path_aliases space at q ps z k)
@@ -255,7 +255,7 @@ module _ {fs : Fields} {outside : Outside} {here : Env} {out' : Fields} (E : Clo
       let X = placed_export 9 10 (fresh k) 10 at q z I.m P (named_number here.entries 10 (fresh k) z I.m (ap (λ (x : ℕ). number_in here.entries x (Id (fresh k)) z) (sym (high_instance space h)) ∙ I.number)) in
       record {
         m = X.m;
-        through = next_path space q q' ps n I.m X.m I.through (through_export_lem 9 10 (fresh k) 10 X.m q z I.m (unfold if◌then◌else◌ in refl) X.reaches);
+        through = next_path space q q' ps n I.m X.m I.through (through_export_lem 9 10 (fresh k) 10 X.m q z I.m (unfold when◌then◌else◌ in refl) X.reaches);
         number = ap (λ (x : ℕ). number_in here.entries x at z) (high_instance space h) ∙ X.number;
       }
     where
@@ -350,12 +350,12 @@ module _ {fs : Fields} {outside : Outside} {here : Env} {out' : Fields} (E : Clo
         go (P & a) now (one_ref n f) = ref_right_lem space (Id name) (Id name) [] [] z n z (right_outer space name z z k n at low e w (placed_stands space k at z P) (named_number here.entries space (fresh k) z n f))
 
     same_right : (fz k : ℕ) (o : Operand) → LowOperand o → PathsOk o → OkR (Right fz o) (expand_operand (declarations fs) there k o)
-    unfolding expand_operand Rules.as_it_is Rules.through if◌then◌else◌
+    unfolding expand_operand Rules.as_it_is Rules.through when◌then◌else◌
     same_right fz k (ref space (Num n) [] z) l t = λ a now x. left_right fz (ref space (Num n) [] z) now tt x
     same_right fz k (ref space (Id name) [] z) l t = bind_any _ _ _ (λ u. go (find (declarations fs) space name) refl)
       where
         go : (o : Option ℕ) → find (declarations fs) space name ≡ o
-            → OkR (Right fz (ref space (Id name) [] z)) (if is_just o then ok (Rules.as_it_is (ref space (Id name) [] z) k) else Rules.found_at space name z k (walk outside.scopes 1 space name))
+            → OkR (Right fz (ref space (Id name) [] z)) (when is_just o then ok (Rules.as_it_is (ref space (Id name) [] z) k) else Rules.found_at space name z k (walk outside.scopes 1 space name))
         go none e = found_right fz space name z k (walk outside.scopes 1 space name) l.1 e refl
         go (some n) e = λ a now x. left_right fz (ref space (Id name) [] z) now tt x
     same_right fz k (ref space at (q ∷ ps) z) l t = if_both (OkR (Right fz (ref space at (q ∷ ps) z))) (is_in space (4 ∷ 6 ∷ [])) (Result.refused Rules.not_exported z) (ok (Rules.through space z (k + length ps) (path_aliases space at q ps z k))) tt go
@@ -367,21 +367,21 @@ module _ {fs : Fields} {outside : Outside} {here : Env} {out' : Fields} (E : Clo
     same_right fz k (case name z) l t = λ a now x. left_right fz (case name z) now tt x
 
     operand_right_lem : (fz k : ℕ) (w o : Operand) → As E w o → PathsOk o → OkR (Right fz w) (expand_operand (declarations fs) there k o)
-    unfolding expand_operand Rules.as_it_is Rules.found_at if◌then◌else◌
+    unfolding expand_operand Rules.as_it_is Rules.found_at when◌then◌else◌
     operand_right_lem fz k w o (itself l) t = same_right fz k o l t
     operand_right_lem fz k w o (served {space} {name} {z} j z₀ at low e found-out new P) t = rw new (bind_any _ _ _ (λ u. go (is_just (find (declarations fs) space (fresh j)))))
       where
         right_now : All PlacedHead [] → (now : Operand) → One here there fz (ref space (Id (fresh j)) [] z) now → operand_right c beyond (ref space (Id name) [] z) now ≡ true
         right_now a now (one_ref n f) = ref_right_lem space (Id name) (Id name) [] [] z n z (right_outer space name z z₀ j n at low e found-out P (named_number here.entries space (fresh j) z n f))
 
-        go : (b : Bool) → OkR (Right fz (ref space (Id name) [] z)) (if b then ok (Rules.as_it_is (ref space (Id (fresh j)) [] z) k) else ok (Rules.as_it_is (ref space (Id (fresh j)) [] z) k))
+        go : (b : Bool) → OkR (Right fz (ref space (Id name) [] z)) (when b then ok (Rules.as_it_is (ref space (Id (fresh j)) [] z) k) else ok (Rules.as_it_is (ref space (Id (fresh j)) [] z) k))
         go true = right_now
         go false = right_now
 
     -- ---- the operands of a field
 
     right_next : (n : ℕ) (o w : Operand) (now was : List Operand) → operand_right c beyond w o ≡ true → not_right c beyond (suc n) now was ≡ none → not_right c beyond n (o ∷ now) (w ∷ was) ≡ none
-    unfolding not_right if◌then◌else◌
+    unfolding not_right when◌then◌else◌
     right_next n o w now was t e = rw t e
 
     right_end : (n : ℕ) (was : List Operand) → not_right c beyond n [] was ≡ none
@@ -457,11 +457,11 @@ module _ {fs : Fields} {outside : Outside} {here : Env} {out' : Fields} (E : Clo
       go false = refl
 
   first_own : (h : Head) (hs : List Head) (d : Declaration) → h.decls ≡ d ∷ [] → first_named (in_heads (h ∷ hs)) d.space d.name ≡ some (inserted h)
-  unfolding if◌then◌else◌
+  unfolding when◌then◌else◌
   first_own h hs d e = rw (Lookups.first_of_heads h hs d.space d.name, e, has_own d)
 
   first_other : (h : Head) (hs : List Head) (d : Declaration) (space name : ℕ) → h.decls ≡ d ∷ [] → ¬ (d.name ≡ name) → first_named (in_heads (h ∷ hs)) space name ≡ first_named (in_heads hs) space name
-  unfolding if◌then◌else◌
+  unfolding when◌then◌else◌
   first_other h hs d space name e n = rw (Lookups.first_of_heads h hs space name, e, has_other d space name n)
 
   placed_all : (lo hi : ℕ) (hs new : List Head) → Rising lo hs hi → resolve_inserted here there hs ≡ ok new → Lifts lo (in_heads new) → All PlacedHead hs
@@ -513,13 +513,13 @@ module _ {fs : Fields} {outside : Outside} {here : Env} {out' : Fields} (E : Clo
     -- the inserted fields are passed over
     skip : (lo hi : ℕ) (hs : List Head) (gs : Fields) (w : Item) (was : Fields) → Runs.AllNew lo hi hs → ((n : ℕ) → fields_operands n gs (c kind) beyond (w ▸ was) ≡ none)
         → (n : ℕ) → fields_operands n (◌before◌ hs gs) (c kind) beyond (w ▸ was) ≡ none
-    unfolding ◌before◌ scope_operands if◌then◌else◌ head_of
+    unfolding ◌before◌ scope_operands when◌then◌else◌ head_of
     skip lo hi [] gs w was a g n = g n
     skip lo hi (h ∷ hs) gs w was a g n = rw (Lookups.new_inserted lo hi h a.0) (skip lo hi hs gs w was a.1 g (n + length (item_rows (plain h))))
 
     own_next : (n : ℕ) (i w : Item) (now was : Fields) → is_inserted (head_of i) ≡ false → item_operands n i (c kind) beyond w ≡ none
         → fields_operands (n + length (item_rows i)) now (c kind) beyond was ≡ none → fields_operands n (i ▸ now) (c kind) beyond (w ▸ was) ≡ none
-    unfolding scope_operands if◌then◌else◌ ◌or_else◌
+    unfolding scope_operands when◌then◌else◌ ◌or_else◌
     own_next n i w now was e p q = rw (e, p, q)
 
     -- a field that ran

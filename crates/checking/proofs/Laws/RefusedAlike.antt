@@ -4,7 +4,7 @@ use Rattle.std.proofs.Math.Bool.{true, false}
 use Rattle.std.proofs.Math.Option.{Option, none, some}
 use mathlib.Core.List.{List, []}
 use Rattle.std.proofs.Common.{arith}
-use Rattle.rules.specs.Tools.{if◌then◌else◌, between}
+use Rattle.rules.specs.Tools.{when◌then◌else◌, between}
 use Rattle.rules.specs.Versions.{RuleSet, Setting, as_claimed}
 use Rattle.rules.specs.Rows.{Row}
 use Rattle.rules.specs.Tree.{Scope, flatten, RowsRead, bad, deep, form}
@@ -60,8 +60,8 @@ module _ (rules : RuleSet) where
   reading_alike (form s) x = steps_alike s (resolve rules s) x
 
   sized_alike : (b : Bool) (r : RowsRead) (x : AnswerOf Scope)
-      → Alike (map_answer flatten (if b then AnswerOf.refused 2 0 [] else Answer.after_reading [] rules r)) (Check.of_input rules (if b then AnswerOf.refused 2 0 [] else as_answer r) x)
-  unfolding if◌then◌else◌
+      → Alike (map_answer flatten (when b then AnswerOf.refused 2 0 [] else Answer.after_reading [] rules r)) (Check.of_input rules (when b then AnswerOf.refused 2 0 [] else as_answer r) x)
+  unfolding when◌then◌else◌
   sized_alike true r x = unfold Check.of_input map_answer in both_refuse 2 0 []
   sized_alike false r x = reading_alike r x
 
@@ -70,7 +70,7 @@ enough_room room need h = leb-false (suc room) need (omega arith)
 
 setting_alike : (v : Setting) (input : List ℕ) (room : ℕ) (x : AnswerOf Scope) → has_header v input ≡ true → v.version.header + 64 * row_count v.version input ≤ room
     → Alike (Answer.answer_in [] v input room) (Check.of_input v.rules (read_form v input) x)
-unfolding Answer.answer_in Answer.form_in read_form if◌then◌else◌
+unfolding Answer.answer_in Answer.form_in read_form when◌then◌else◌
 setting_alike v input room x e roomy =
     rw (e, enough_room room (v.version.header + 64 * row_count v.version input) roomy)
     (sized_alike v.rules (not (between 1 v.version.rows (row_count v.version input)) || not (eqb (length input) (v.version.header + 16 * row_count v.version input)))

@@ -7,7 +7,7 @@ use Rattle.std.proofs.Math.Option.{Option, none, some}
 use mathlib.Core.List.{List, [], ◌∷◌, ◌++◌, map}
 use Rattle.std.proofs.Math.ListN.{length, get_elem?}
 use Rattle.std.proofs.lemmas.List.{length-map}
-use Rattle.rules.specs.Tools.{if◌then◌else◌, is_just, is_in, ◌or_else◌}
+use Rattle.rules.specs.Tools.{when◌then◌else◌, is_just, is_in, ◌or_else◌}
 use Rattle.rules.specs.Rows.{Row, Field, Decl, Ref, Path, Outer, Case, Open, Close, Export, encode}
 use Rattle.rules.specs.Tree.{Declaration, Operand, ref, outer, case, Head, Scope, scope, Fields, end, ◌▸◌, Item, plain, holds, head_of, decl_rows, path_rows, operand_row, operand_rows, export_rows, head_rows, flatten, fields_rows, item_rows}
 use Rattle.rules.specs.Rules.{Env, find}
@@ -62,13 +62,13 @@ at_map f g rs n r a = record { k = a.k; row = a.row; x = f a.x; there = get_map 
 
 -- ---- condition 2: a row of the claim, or the row count
 
-if_some : (b : Bool) (n r : ℕ) (o : Option ℕ) (X : Type 0) → (if b then some n else o) ≡ some r → (n ≡ r → X) → (o ≡ some r → X) → X
-unfolding if◌then◌else◌
+if_some : (b : Bool) (n r : ℕ) (o : Option ℕ) (X : Type 0) → (when b then some n else o) ≡ some r → (n ≡ r → X) → (o ≡ some r → X) → X
+unfolding when◌then◌else◌
 if_some true n r o X e f g = f (some_same n r e)
 if_some false n r o X e f g = g e
 
-if_some' : (b : Bool) (n r : ℕ) (o : Option ℕ) (X : Type 0) → (if b then o else some n) ≡ some r → (n ≡ r → X) → (o ≡ some r → X) → X
-unfolding if◌then◌else◌
+if_some' : (b : Bool) (n r : ℕ) (o : Option ℕ) (X : Type 0) → (when b then o else some n) ≡ some r → (n ≡ r → X) → (o ≡ some r → X) → X
+unfolding when◌then◌else◌
 if_some' true n r o X e f g = g e
 if_some' false n r o X e f g = f (some_same n r e)
 
@@ -160,8 +160,8 @@ unfolding flatten head_of
 item_length (plain h) = omega arith
 item_length (holds h s) = omega (arith, length-append (head_rows h) (flatten s))
 
-if_inserted : (b : Bool) (o : Option ℕ) (r : ℕ) → (if b then o else none) ≡ some r → (b ≡ true) × (o ≡ some r)
-unfolding if◌then◌else◌
+if_inserted : (b : Bool) (o : Option ℕ) (r : ℕ) → (when b then o else none) ≡ some r → (b ≡ true) × (o ≡ some r)
+unfolding when◌then◌else◌
 if_inserted true o r e = (refl, e)
 if_inserted false o r e = no_option r e
 
@@ -174,7 +174,7 @@ data Found3 (n : ℕ) (past : List Declaration) (i : Item) (fs : Fields) (r : �
 found_3 : (n : ℕ) (past : List Declaration) (i : Item) (fs : Fields) (r : ℕ) → fields_added n past (i ▸ fs) ≡ some r → Found3 n past i fs r
 unfolding scope_added
 found_3 n past i fs r e =
-    or_else_some (if is_inserted (head_of i) then no_alias n past (head_of i) else none) _ r (Found3 n past i fs r) e
+    or_else_some (when is_inserted (head_of i) then no_alias n past (head_of i) else none) _ r (Found3 n past i fs r) e
     (λ f. let I = if_inserted (is_inserted (head_of i)) (no_alias n past (head_of i)) r f in
     let w = no_alias_within n past (head_of i) r I.1 in in_alias I.0 (w.0, omega (arith, w.1, item_length i)))
     (λ f. or_else_some (item_added (n + length (head_rows (head_of i))) i) _ r (Found3 n past i fs r) f in_inner in_rest)
@@ -243,27 +243,27 @@ module _ {P : Claimed → Type 0} where
   unfolding scope_claimed
   in_scope_lem n kind name fs r a = at_next _ _ n r (at_left (fields_claimed fs) (own Close ∷ []) a)
 
-  in_item : (n : ℕ) (i : Item) (fs : Fields) (b : Bool) (r : ℕ) → is_inserted (head_of i) ≡ b → At P (if b then map added (item_rows i) else item_claimed i) n r → At P (fields_claimed (i ▸ fs)) n r
+  in_item : (n : ℕ) (i : Item) (fs : Fields) (b : Bool) (r : ℕ) → is_inserted (head_of i) ≡ b → At P (when b then map added (item_rows i) else item_claimed i) n r → At P (fields_claimed (i ▸ fs)) n r
   unfolding scope_claimed
-  in_item n i fs b r e a = at_left (if is_inserted (head_of i) then map added (item_rows i) else item_claimed i) (fields_claimed fs) (subst (λ (x : Bool). At P (if x then map added (item_rows i) else item_claimed i) n r) (sym e) a)
+  in_item n i fs b r e a = at_left (when is_inserted (head_of i) then map added (item_rows i) else item_claimed i) (fields_claimed fs) (subst (λ (x : Bool). At P (when x then map added (item_rows i) else item_claimed i) n r) (sym e) a)
 
   in_later : (n : ℕ) (i : Item) (fs : Fields) (r : ℕ) → At P (fields_claimed fs) (n + length (item_rows i)) r → At P (fields_claimed (i ▸ fs)) n r
   unfolding scope_claimed
-  in_later n i fs r a = at_right (if is_inserted (head_of i) then map added (item_rows i) else item_claimed i) (fields_claimed fs) n _ r (ap (λ (x : ℕ). n + x) (claimed_length (is_inserted (head_of i)) i)) a
+  in_later n i fs r a = at_right (when is_inserted (head_of i) then map added (item_rows i) else item_claimed i) (fields_claimed fs) n _ r (ap (λ (x : ℕ). n + x) (claimed_length (is_inserted (head_of i)) i)) a
 
   in_held : (n : ℕ) (h : Head) (s : Scope) (r : ℕ) → At P (scope_claimed s) (n + length (head_rows h)) r → At P (item_claimed (holds h s)) n r
   unfolding scope_claimed
   in_held n h s r a = at_right (map own (head_rows h)) (scope_claimed s) n _ r (ap (λ (x : ℕ). n + x) (length-map (head_rows h) own)) a
 
 inner_added : (n : ℕ) (past : List Declaration) (i : Item) (r : ℕ) (b : Bool) → item_added (n + length (head_rows (head_of i))) i ≡ some r → At IsAdded (item_claimed i) n r
-    → At IsAdded (if b then map added (item_rows i) else item_claimed i) n r
-unfolding if◌then◌else◌
+    → At IsAdded (when b then map added (item_rows i) else item_claimed i) n r
+unfolding when◌then◌else◌
 inner_added n past i r true e a = let w = item_within n i r e in added_within (item_rows i) n r (omega (arith, w.0), w.1)
 inner_added n past i r false e a = a
 
 found_added : (n : ℕ) (past : List Declaration) (i : Item) (fs : Fields) (r : ℕ) → Found3 n past i fs r → (item_added (n + length (head_rows (head_of i))) i ≡ some r → At IsAdded (item_claimed i) n r)
     → (fields_added (n + length (item_rows i)) (past ++ (head_of i).decls) fs ≡ some r → At IsAdded (fields_claimed fs) (n + length (item_rows i)) r) → At IsAdded (fields_claimed (i ▸ fs)) n r
-found_added n past i fs r (in_alias t w) f g = in_item n i fs true r t (unfold if◌then◌else◌ in added_within (item_rows i) n r w)
+found_added n past i fs r (in_alias t w) f g = in_item n i fs true r t (unfold when◌then◌else◌ in added_within (item_rows i) n r w)
 found_added n past i fs r (in_inner e) f g = in_item n i fs (is_inserted (head_of i)) r refl (inner_added n past i r (is_inserted (head_of i)) e (f e))
 found_added n past i fs r (in_rest e) f g = in_later n i fs r (g e)
 
@@ -336,10 +336,10 @@ module _ (here : Scope) (outside : List Env) where
   operands_row n (x ∷ now) [] r b s e = no_option r e
   operands_row n (x ∷ now) (w ∷ was) r b s e = go (operand_right here outside w x) refl e (λ f. operands_row (suc n) now was r b.1 (cons_tail s) f)
     where
-      go : (t : Bool) → operand_right here outside w x ≡ t → (if t then not_right here outside (suc n) now was else some n) ≡ some r
+      go : (t : Bool) → operand_right here outside w x ≡ t → (when t then not_right here outside (suc n) now was else some n) ≡ some r
           → (not_right here outside (suc n) now was ≡ some r → At IsReference (operand_rows now) (suc n) r) → At IsReference (operand_row x ++ operand_rows now) n r
-      go true t f rest = at_right (operand_row x) (operand_rows now) n (suc n) r (omega (arith, one_row x b.0)) (rest (unfold if◌then◌else◌ in f))
-      go false t f rest = subst (λ (y : ℕ). At IsReference (operand_row x ++ operand_rows now) n y) (some_same n r (unfold if◌then◌else◌ in f)) (wrong_row n x w (operand_rows now) (cons_head s) t)
+      go true t f rest = at_right (operand_row x) (operand_rows now) n (suc n) r (omega (arith, one_row x b.0)) (rest (unfold when◌then◌else◌ in f))
+      go false t f rest = subst (λ (y : ℕ). At IsReference (operand_row x ++ operand_rows now) n y) (some_same n r (unfold when◌then◌else◌ in f)) (wrong_row n x w (operand_rows now) (cons_head s) t)
 
   head_row : (n : ℕ) (h w : Head) (r : ℕ) → AllBare h.operands → blank_head h ≡ blank_head w → head_operands here outside n h w ≡ some r → At IsReference (head_rows h) n r
   unfolding head_operands head_rows
@@ -362,13 +362,13 @@ end_right n fs here outside r e = no_option r e
 
 skip_right : (n : ℕ) (i : Item) (cs : Fields) (here : Scope) (outside : List Env) (fs : Fields) (r : ℕ) → is_inserted (head_of i) ≡ true → fields_operands n (i ▸ cs) here outside fs ≡ some r
     → fields_operands (n + length (item_rows i)) cs here outside fs ≡ some r
-unfolding scope_operands if◌then◌else◌
+unfolding scope_operands when◌then◌else◌
 skip_right n i cs here outside end r t e = no_option r e
 skip_right n i cs here outside (w ▸ fs) r t e = rw t at e
 
 both_right : (n : ℕ) (i w : Item) (cs : Fields) (here : Scope) (outside : List Env) (fs : Fields) (r : ℕ) (X : Type 0) → is_inserted (head_of i) ≡ false → fields_operands n (i ▸ cs) here outside (w ▸ fs) ≡ some r
     → (item_operands n i here outside w ≡ some r → X) → (fields_operands (n + length (item_rows i)) cs here outside fs ≡ some r → X) → X
-unfolding scope_operands if◌then◌else◌
+unfolding scope_operands when◌then◌else◌
 both_right n i w cs here outside fs r X t e f g = or_else_some (item_operands n i here outside w) _ r X (rw t at e) f g
 
 inside_right : (n kind name : ℕ) (cs : Fields) (outside : List Env) (kind' name' : ℕ) (fs : Fields) (r : ℕ) → scope_operands n (scope kind name cs) outside (scope kind' name' fs) ≡ some r
@@ -406,7 +406,7 @@ unfolding scope_claimed
 in_plain n h r a = a
 
 own_item : {P : Claimed → Type 0} (n : ℕ) (i : Item) (cs : Fields) (r : ℕ) → is_inserted (head_of i) ≡ false → At P (item_claimed i) n r → At P (fields_claimed (i ▸ cs)) n r
-unfolding if◌then◌else◌
+unfolding when◌then◌else◌
 own_item n i cs r t a = in_item n i cs false r t a
 
 mutual

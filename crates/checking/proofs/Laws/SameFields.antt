@@ -4,7 +4,7 @@ use Rattle.std.proofs.Math.Path.{refl}
 use Rattle.std.proofs.Common.{ap, ap₂, sym, ◌∙◌, subst, arith}
 use Rattle.std.proofs.Math.Bool.{true, false}
 use Rattle.std.proofs.Math.Option.{Option, none, some}
-use Rattle.rules.specs.Tools.{if◌then◌else◌, ◌then◌}
+use Rattle.rules.specs.Tools.{when◌then◌else◌, ◌then◌}
 use Rattle.rules.specs.Versions.{RuleSet}
 use Rattle.rules.specs.Rows.{Num, Id, Raw, raw, Row, Field, Decl, Ref, Path, Outer, Case, Open, Close, Export, decode, encode, flag, number}
 use Rattle.rules.specs.Tree.{Declaration, Operand, ref, outer, case, Head, Scope, scope, Fields, end, ◌▸◌, Item, plain, holds, head_of, with_operands, decl_rows, path_rows, operand_row, operand_rows, export_rows, head_rows, flatten, fields_rows, item_rows}
@@ -37,7 +37,7 @@ blank_row Close = Close
 blank_row (Export name) = Export name
 
 blank_parts : (r : Row) → kept (encode r) ≡ encode (blank_row r)
-unfolding kept encode blank_row flag number if◌then◌else◌
+unfolding kept encode blank_row flag number when◌then◌else◌
 blank_parts (Field code builtin z) = refl
 blank_parts (Decl space name z) = refl
 blank_parts (Ref space at paths z) = refl
@@ -130,14 +130,14 @@ alike_done = record { pathless = done; same = refl }
 
 -- a claimed row that is added, and one that is not
 alike_added : (n m : ℕ) (b : Bool) (c : Row) (cs : List Claimed) (rs : List Row) → is_path (encode c) ≡ b → (differs m cs rs ≡ none → Alike cs rs)
-    → (if b then some n else differs m cs rs) ≡ none → Alike (added c ∷ cs) rs
-unfolding rows_of unadded if◌then◌else◌
+    → (when b then some n else differs m cs rs) ≡ none → Alike (added c ∷ cs) rs
+unfolding rows_of unadded when◌then◌else◌
 alike_added n m true c cs rs p f e = some_none n e
 alike_added n m false c cs rs p f e = let a = f e in record { pathless = p & a.pathless; same = a.same }
 
 alike_own : (n m : ℕ) (b s : Bool) (c r : Row) (cs : List Claimed) (rs : List Row) → is_path (encode c) ≡ b → same_parts (kept (encode c)) (kept (encode r)) ≡ s
-    → (differs m cs rs ≡ none → Alike cs rs) → (if b then some n else if s then differs m cs rs else some n) ≡ none → Alike (own c ∷ cs) (r ∷ rs)
-unfolding rows_of unadded if◌then◌else◌
+    → (differs m cs rs ≡ none → Alike cs rs) → (when b then some n else when s then differs m cs rs else some n) ≡ none → Alike (own c ∷ cs) (r ∷ rs)
+unfolding rows_of unadded when◌then◌else◌
 alike_own n m true s c r cs rs p q f e = some_none n e
 alike_own n m false true c r cs rs p q f e =
     let a = f e in
@@ -155,7 +155,7 @@ differs_alike n (own c ∷ cs) (r ∷ rs) e = alike_own n (suc n) (is_path (enco
 
 -- and the other way round
 alike_differs : (n : ℕ) (cs : List Claimed) (rs : List Row) → All NoPath (rows_of cs) → map blank_row (unadded cs) ≡ map blank_row rs → differs n cs rs ≡ none
-unfolding differs rows_of unadded if◌then◌else◌
+unfolding differs rows_of unadded when◌then◌else◌
 alike_differs n [] [] p e = refl
 alike_differs n [] (r ∷ rs) p e = no_cons e
 alike_differs n (added c ∷ cs) rs (h & p) e = rw h (alike_differs (suc n) cs rs p e)
@@ -171,27 +171,27 @@ strip : List Row → List Row
 strip rs = map blank_row (without_paths rs)
 
 strip_append : (xs ys : List Row) → strip (xs ++ ys) ≡ strip xs ++ strip ys
-unfolding strip without_paths if◌then◌else◌
+unfolding strip without_paths when◌then◌else◌
 strip_append [] ys = refl
 strip_append (x ∷ xs) ys = go (is_path (encode x)) (strip_append xs ys)
   where
     go : (b : Bool) → strip (xs ++ ys) ≡ strip xs ++ strip ys
-        → map blank_row (if b then without_paths (xs ++ ys) else x ∷ without_paths (xs ++ ys)) ≡ map blank_row (if b then without_paths xs else x ∷ without_paths xs) ++ strip ys
+        → map blank_row (when b then without_paths (xs ++ ys) else x ∷ without_paths (xs ++ ys)) ≡ map blank_row (when b then without_paths xs else x ∷ without_paths xs) ++ strip ys
     go true e = e
     go false e = ap (λ (l : List Row). blank_row x ∷ l) e
 
 strip_decls : (ds : List Declaration) → strip (decl_rows ds) ≡ decl_rows ds
-unfolding strip without_paths if◌then◌else◌ is_path encode blank_row decl_rows
+unfolding strip without_paths when◌then◌else◌ is_path encode blank_row decl_rows
 strip_decls [] = refl
 strip_decls (d ∷ ds) = ap (λ (l : List Row). Decl d.space d.name d.z ∷ l) (strip_decls ds)
 
 strip_paths : (ps : List ℕ) → strip (path_rows ps) ≡ []
-unfolding strip without_paths if◌then◌else◌ is_path encode path_rows
+unfolding strip without_paths when◌then◌else◌ is_path encode path_rows
 strip_paths [] = refl
 strip_paths (p ∷ ps) = strip_paths ps
 
 strip_operand : (o : Operand) → strip (operand_row o) ≡ operand_row (blank_operand o)
-unfolding strip without_paths if◌then◌else◌ is_path encode blank_row operand_row blank_operand path_rows
+unfolding strip without_paths when◌then◌else◌ is_path encode blank_row operand_row blank_operand path_rows
 strip_operand (ref space at paths z) = ap (λ (l : List Row). Ref space (Num 0) 0 z ∷ l) (strip_paths paths)
 strip_operand (outer space up at z) = refl
 strip_operand (case name z) = refl
@@ -202,7 +202,7 @@ strip_operands [] = unfold strip without_paths in refl
 strip_operands (o ∷ os) = strip_append (operand_row o) (operand_rows os) ∙ ap₂ (λ (xs ys : List Row). xs ++ ys) (strip_operand o) (strip_operands os)
 
 strip_export : (o : Option ℕ) → strip (export_rows o) ≡ export_rows o
-unfolding strip without_paths if◌then◌else◌ is_path encode blank_row export_rows
+unfolding strip without_paths when◌then◌else◌ is_path encode blank_row export_rows
 strip_export none = refl
 strip_export (some n) = refl
 
@@ -216,14 +216,14 @@ strip_head h =
     (strip_append (operand_rows h.operands) (export_rows h.export) ∙ ap₂ (λ (xs ys : List Row). xs ++ ys) (strip_operands h.operands) (strip_export h.export))))
   where
     first : strip (Field h.code h.builtin h.z ∷ []) ≡ Field h.code h.builtin h.z ∷ []
-    first = unfold strip without_paths if◌then◌else◌ is_path encode blank_row in refl
+    first = unfold strip without_paths when◌then◌else◌ is_path encode blank_row in refl
 
 strip_open : (kind name : ℕ) → strip (Open kind name ∷ []) ≡ Open kind name ∷ []
-unfolding strip without_paths if◌then◌else◌ is_path encode blank_row
+unfolding strip without_paths when◌then◌else◌ is_path encode blank_row
 strip_open kind name = refl
 
 strip_close : strip (Close ∷ []) ≡ Close ∷ []
-unfolding strip without_paths if◌then◌else◌ is_path encode blank_row
+unfolding strip without_paths when◌then◌else◌ is_path encode blank_row
 strip_close = refl
 
 strip_end : strip [] ≡ []
@@ -289,14 +289,14 @@ scope_unadded : (kind name : ℕ) (fs : List Claimed) → unadded (own (Open kin
 unfolding unadded
 scope_unadded kind name fs = ap (λ (l : List Row). Open kind name ∷ l) (unadded_append fs (own Close ∷ []))
 
-rows_if : (b : Bool) (i : Item) → rows_of (item_claimed i) ≡ item_rows i → rows_of (if b then map added (item_rows i) else item_claimed i) ≡ item_rows i
-unfolding if◌then◌else◌
+rows_if : (b : Bool) (i : Item) → rows_of (item_claimed i) ≡ item_rows i → rows_of (when b then map added (item_rows i) else item_claimed i) ≡ item_rows i
+unfolding when◌then◌else◌
 rows_if true i e = rows_added (item_rows i)
 rows_if false i e = e
 
 unadded_if : (b : Bool) (i : Item) (cs : List Claimed) (fs : Fields) → unadded (item_claimed i) ≡ item_rows (without_item i) → unadded cs ≡ fields_rows fs
-    → unadded ((if b then map added (item_rows i) else item_claimed i) ++ cs) ≡ fields_rows (if b then fs else without_item i ▸ fs)
-unfolding if◌then◌else◌ flatten
+    → unadded ((when b then map added (item_rows i) else item_claimed i) ++ cs) ≡ fields_rows (when b then fs else without_item i ▸ fs)
+unfolding when◌then◌else◌ flatten
 unadded_if true i cs fs e f = unadded_append (map added (item_rows i)) cs ∙ ap₂ (λ (xs ys : List Row). xs ++ ys) (unadded_added (item_rows i)) f
 unadded_if false i cs fs e f = unadded_append (item_claimed i) cs ∙ ap₂ (λ (xs ys : List Row). xs ++ ys) e f
 
@@ -317,7 +317,7 @@ mutual
   rows_fields : (fs : Fields) → rows_of (fields_claimed fs) ≡ fields_rows fs
   rows_fields end = none_rows
   rows_fields (i ▸ fs) =
-      rows_append (if is_inserted (head_of i) then map added (item_rows i) else item_claimed i) (fields_claimed fs)
+      rows_append (when is_inserted (head_of i) then map added (item_rows i) else item_claimed i) (fields_claimed fs)
       ∙ ap₂ (λ (xs ys : List Row). xs ++ ys) (rows_if (is_inserted (head_of i)) i (rows_item i)) (rows_fields fs)
 
   rows_item : (i : Item) → rows_of (item_claimed i) ≡ item_rows i
@@ -334,8 +334,8 @@ rows_count (added r ∷ cs) = ap suc (rows_count cs)
 pub scope_length : (s : Scope) → length (scope_claimed s) ≡ length (flatten s)
 scope_length s = sym (rows_count (scope_claimed s)) ∙ ap length (rows_scope s)
 
-pub claimed_length : (b : Bool) (i : Item) → length (if b then map added (item_rows i) else item_claimed i) ≡ length (item_rows i)
-claimed_length b i = sym (rows_count (if b then map added (item_rows i) else item_claimed i)) ∙ ap length (rows_if b i (rows_item i))
+pub claimed_length : (b : Bool) (i : Item) → length (when b then map added (item_rows i) else item_claimed i) ≡ length (item_rows i)
+claimed_length b i = sym (rows_count (when b then map added (item_rows i) else item_claimed i)) ∙ ap length (rows_if b i (rows_item i))
 
 mutual
   unfolding flatten scope_claimed without
@@ -482,7 +482,7 @@ unadded_all (own r ∷ cs) (h & a) = h & unadded_all cs a
 unadded_all (added r ∷ cs) (h & a) = unadded_all cs a
 
 strip_bare : (rs : List Row) → All NoPath rs → strip rs ≡ map blank_row rs
-unfolding strip without_paths if◌then◌else◌
+unfolding strip without_paths when◌then◌else◌
 strip_bare [] a = refl
 strip_bare (r ∷ rs) (h & a) = rw h (ap (λ (l : List Row). blank_row r ∷ l) (strip_bare rs a))
 
@@ -563,8 +563,8 @@ module _ (rules : RuleSet) where
   )
 
   fields_if : (kind : ℕ) (b : Bool) (i : Item) (fs : Fields) → GoodItem rules (blank_item (without_item i)) kind → GoodFields rules (blank_fields fs) kind
-      → GoodFields rules (blank_fields (if b then fs else without_item i ▸ fs)) kind
-  unfolding if◌then◌else◌ blank
+      → GoodFields rules (blank_fields (when b then fs else without_item i ▸ fs)) kind
+  unfolding when◌then◌else◌ blank
   fields_if kind true i fs g gs = gs
   fields_if kind false i fs g gs = (g, gs)
 

@@ -10,7 +10,7 @@ use Rattle.std.proofs.Math.Dec.{leb}
 use Rattle.std.proofs.Math.ListN.{length, take, length-reverse}
 use Rattle.std.proofs.lemmas.List.{length-map}
 use Rattle.std.proofs.Math.Seq.{take-append_seam}
-use Rattle.rules.specs.Tools.{if◌then◌else◌}
+use Rattle.rules.specs.Tools.{when◌then◌else◌}
 use Rattle.rules.specs.Rows.{Row}
 use Rattle.rules.specs.Tree.{Item, item_rows}
 use Rattle.comparing.specs.Compare.{Choice, blur, same}
@@ -23,18 +23,18 @@ use Rattle.comparing.proofs.Laws.Sides.{item_filled}
 unfoldable pub alikes : Choice → (ls rs : List Item) → ℕ
 alikes c [] rs = 0
 alikes c (l ∷ ls) [] = 0
-alikes c (l ∷ ls) (r ∷ rs) = if same c (item_rows l) (item_rows r) then suc (alikes c ls rs) else 0
+alikes c (l ∷ ls) (r ∷ rs) = when same c (item_rows l) (item_rows r) then suc (alikes c ls rs) else 0
 
 -- how many rows are
 unfoldable pub common : Choice → (xs ys : List Row) → ℕ
 common c [] ys = 0
 common c (x ∷ xs) [] = 0
-common c (x ∷ xs) (y ∷ ys) = if same c (x ∷ []) (y ∷ []) then suc (common c xs ys) else 0
+common c (x ∷ xs) (y ∷ ys) = when same c (x ∷ []) (y ∷ []) then suc (common c xs ys) else 0
 
 -- how many of these fields have at most `n` rows together
 unfoldable pub fitting : (n : ℕ) → List Item → ℕ
 fitting n [] = 0
-fitting n (i ∷ is) = if leb (length (item_rows i)) n then suc (fitting (n - length (item_rows i)) is) else 0
+fitting n (i ∷ is) = when leb (length (item_rows i)) n then suc (fitting (n - length (item_rows i)) is) else 0
 
 -- the rows of fields, the last field and the last row first
 unfoldable pub back_rows : List Item → List Row
@@ -45,7 +45,7 @@ module _ (c : Choice) where
   -- ---- common rows
 
   common_same : (xs ys xs' ys' : List Row) → map (blur c) xs ≡ map (blur c) ys → common c (xs ++ xs') (ys ++ ys') ≡ length xs + common c xs' ys'
-  unfolding common if◌then◌else◌
+  unfolding common when◌then◌else◌
   common_same [] [] xs' ys' e = omega arith
   common_same [] (y ∷ ys) xs' ys' e = absurd (cons≢nil (sym e))
   common_same (x ∷ xs) [] xs' ys' e = absurd (cons≢nil e)
@@ -53,13 +53,13 @@ module _ (c : Choice) where
       rw (equal_same c (x ∷ []) (y ∷ []) (ap (λ (r : Row). r ∷ []) (head-eq_of_cons-eq e)), common_same xs ys xs' ys' (tail-eq_of_cons-eq e)) (omega arith)
 
   common_equal : (n : ℕ) (xs ys : List Row) → n ≤ common c xs ys → take n (map (blur c) xs) ≡ take n (map (blur c) ys)
-  unfolding common if◌then◌else◌
+  unfolding common when◌then◌else◌
   common_equal zero xs ys h = refl
   common_equal (suc n) [] ys h = absurd (omega arith)
   common_equal (suc n) (x ∷ xs) [] h = absurd (omega arith)
   common_equal (suc n) (x ∷ xs) (y ∷ ys) h = go (same c (x ∷ []) (y ∷ [])) refl h (λ k. common_equal n xs ys k)
     where
-      go : (b : Bool) → same c (x ∷ []) (y ∷ []) ≡ b → suc n ≤ (if b then suc (common c xs ys) else 0)
+      go : (b : Bool) → same c (x ∷ []) (y ∷ []) ≡ b → suc n ≤ (when b then suc (common c xs ys) else 0)
           → (n ≤ common c xs ys → take n (map (blur c) xs) ≡ take n (map (blur c) ys))
           → take (suc n) (map (blur c) (x ∷ xs)) ≡ take (suc n) (map (blur c) (y ∷ ys))
       go true s k rec = ap₂ (λ (r : Row) (l : List Row). r ∷ l) (head-eq_of_cons-eq (same_equal c (x ∷ []) (y ∷ []) s)) (rec (omega arith))
@@ -134,13 +134,13 @@ module _ (c : Choice) where
 
   -- Of fields, the last one first: as many are the same as have together no more rows than are the same.
   pub backward : (ls rs : List Item) → alikes c ls rs ≡ fitting (common c (back_rows ls) (back_rows rs)) ls
-  unfolding alikes fitting if◌then◌else◌
+  unfolding alikes fitting when◌then◌else◌
   backward [] rs = refl
   backward (l ∷ ls) [] = unfold back_rows in rw (common_none (reverse (item_rows l) ++ back_rows ls), leb-false (length (item_rows l)) 0 (item_filled l))
   backward (l ∷ ls) (r ∷ rs) = go (same c (item_rows l) (item_rows r)) refl (backward ls rs)
     where
       go : (b : Bool) → same c (item_rows l) (item_rows r) ≡ b → alikes c ls rs ≡ fitting (common c (back_rows ls) (back_rows rs)) ls
-          → (if b then suc (alikes c ls rs) else 0) ≡ fitting (common c (back_rows (l ∷ ls)) (back_rows (r ∷ rs))) (l ∷ ls)
+          → (when b then suc (alikes c ls rs) else 0) ≡ fitting (common c (back_rows (l ∷ ls)) (back_rows (r ∷ rs))) (l ∷ ls)
       go true s rec =
           let n = length (item_rows l) in
           let k = common c (back_rows ls) (back_rows rs) in

@@ -4,7 +4,7 @@ use Rattle.std.proofs.Math.Path.{refl}
 use Rattle.std.proofs.Common.{ap, ap₂, sym, ◌∙◌, subst, arith}
 use Rattle.std.proofs.Math.Option.{Option, none, some}
 use mathlib.Core.List.{List, [], ◌∷◌, map}
-use Rattle.rules.specs.Tools.{if◌then◌else◌}
+use Rattle.rules.specs.Tools.{when◌then◌else◌}
 use Rattle.rules.specs.Versions.{Setting, as_claimed}
 use Rattle.rules.specs.Rows.{Index, Num, Id, Row, Field, Decl, Ref, Path, Outer, Case, Open, Close, Export}
 use Rattle.rules.specs.Tree.{Scope, flatten}
@@ -54,12 +54,12 @@ abbrev pub nothing : Choice
 nothing = record { places = false; fresh = false }
 
 index_counts : (i : Index) → blur_index nothing i ≡ i
-unfolding blur_index blur_name if◌then◌else◌
+unfolding blur_index blur_name when◌then◌else◌
 index_counts (Num n) = refl
 index_counts (Id n) = refl
 
 row_counts : (r : Row) → blur nothing r ≡ r
-unfolding blur blur_name blur_place if◌then◌else◌
+unfolding blur blur_name blur_place when◌then◌else◌
 row_counts (Field code builtin z) = refl
 row_counts (Decl space name z) = refl
 row_counts (Ref space at paths z) = rw (index_counts at)

@@ -7,7 +7,7 @@ use mathlib.Core.List.{List, [], ◌∷◌, ◌++◌, reverse, reverse-append, r
 use Prim.Native.Nat.{ℕ, suc, ◌+◌, ◌-◌, ◌≤◌}
 use native.Mathlib.Omega.{arith}
 use Rattle.std.proofs.Math.ListN.{length, length-append, length-reverse}
-use Rattle.rules.specs.Tools.{if◌then◌else◌}
+use Rattle.rules.specs.Tools.{when◌then◌else◌}
 use Rattle.rules.specs.Tree.{Item, item_rows}
 use Rattle.comparing.specs.Compare.{Choice, same, Pair, alike, differs, rest, front, mirrored, field_pairs, Entry, entries}
 use Rattle.rules.specs.Laws.ToolLaws.{if_ok_lem, All, done, ◌&◌}
@@ -55,13 +55,13 @@ module _ (c : Choice) where
     splits : ps ≡ heads ++ go (drop n ls) (drop n rs)
 
   front_splits : (go : List Item → List Item → List Pair) (ls rs : List Item) → Split go ls rs (alikes c ls rs) (front c go ls rs)
-  unfolding front alikes if◌then◌else◌
+  unfolding front alikes when◌then◌else◌
   front_splits go [] rs = record { heads = []; all_alike = done; splits = refl }
   front_splits go (l ∷ ls) [] = record { heads = []; all_alike = done; splits = refl }
   front_splits go (l ∷ ls) (r ∷ rs) = step (same c (item_rows l) (item_rows r)) (front_splits go ls rs)
     where
       step : (b : Bool) → Split go ls rs (alikes c ls rs) (front c go ls rs)
-          → Split go (l ∷ ls) (r ∷ rs) (if b then suc (alikes c ls rs) else 0) (if b then alike (item_rows l) (item_rows r) ∷ front c go ls rs else go (l ∷ ls) (r ∷ rs))
+          → Split go (l ∷ ls) (r ∷ rs) (when b then suc (alikes c ls rs) else 0) (when b then alike (item_rows l) (item_rows r) ∷ front c go ls rs else go (l ∷ ls) (r ∷ rs))
       step true s =
           record {
             heads = alike (item_rows l) (item_rows r) ∷ s.heads;
@@ -78,13 +78,13 @@ module _ (c : Choice) where
   moved i i' j j' ps p q = ap₂ (λ (m n : ℕ). entries m n ps) p q
 
   front_entries : (go : List Item → List Item → List Pair) (i j : ℕ) (ls rs : List Item) → entries i j (front c go ls rs) ≡ behind_front go i j ls rs (alikes c ls rs)
-  unfolding front alikes entries items_rows if◌then◌else◌
+  unfolding front alikes entries items_rows when◌then◌else◌
   front_entries go i j [] rs = moved i (i + 0) j (j + 0) (go [] rs) (omega arith) (omega arith)
   front_entries go i j (l ∷ ls) [] = moved i (i + 0) j (j + 0) (go (l ∷ ls) []) (omega arith) (omega arith)
   front_entries go i j (l ∷ ls) (r ∷ rs) = step (same c (item_rows l) (item_rows r)) (front_entries go (i + length (item_rows l)) (j + length (item_rows r)) ls rs)
     where
       step : (b : Bool) → entries (i + length (item_rows l)) (j + length (item_rows r)) (front c go ls rs) ≡ behind_front go (i + length (item_rows l)) (j + length (item_rows r)) ls rs (alikes c ls rs)
-          → entries i j (if b then alike (item_rows l) (item_rows r) ∷ front c go ls rs else go (l ∷ ls) (r ∷ rs)) ≡ behind_front go i j (l ∷ ls) (r ∷ rs) (if b then suc (alikes c ls rs) else 0)
+          → entries i j (when b then alike (item_rows l) (item_rows r) ∷ front c go ls rs else go (l ∷ ls) (r ∷ rs)) ≡ behind_front go i j (l ∷ ls) (r ∷ rs) (when b then suc (alikes c ls rs) else 0)
       step true rec =
           let x = items_rows (take (alikes c ls rs) ls) in
           let y = items_rows (take (alikes c ls rs) rs) in

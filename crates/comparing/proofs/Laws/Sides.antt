@@ -3,7 +3,7 @@ use Rattle.std.specs.Prelude.{◌≡◌, true, ◌+◌, ◌≤◌, eqb, length}
 use Rattle.std.proofs.Math.Path.{refl, sym}
 use Rattle.std.proofs.Common.{ap, ap₂, ◌∙◌, arith}
 use mathlib.Core.List.{List, [], ◌∷◌, ◌++◌, map, map-append, reverse, reverse_aux, reverse-reverse, append_assoc, append_cancel_right, cons≢nil, head-eq_of_cons-eq, tail-eq_of_cons-eq}
-use Rattle.rules.specs.Tools.{if◌then◌else◌}
+use Rattle.rules.specs.Tools.{when◌then◌else◌}
 use Rattle.rules.specs.Rows.{Row, Open, Close}
 use Rattle.rules.specs.Tree.{Scope, scope, Fields, Item, plain, holds, head_of, head_rows, flatten, fields_rows, item_rows}
 use Rattle.comparing.specs.Compare.{Choice, blur, same, left_only, right_only, differing, opening, Pair, alike, differs, items, only_left, only_right, rest, front, mirrored, field_pairs, open_pair, form_pairs}
@@ -177,7 +177,7 @@ form_sides c (scope kind name fs) (scope kind' name' fs') =
 module _ (c : Choice) where
   front_alike : (go : List Item → List Item → List Pair) → go [] [] ≡ [] → (ls rs : List Item)
       → map (map (blur c)) (map item_rows ls) ≡ map (map (blur c)) (map item_rows rs) → All Alike (front c go ls rs)
-  unfolding front if◌then◌else◌
+  unfolding front when◌then◌else◌
   front_alike go h [] [] e = rw h done
   front_alike go h [] (r ∷ rs) e = absurd (cons≢nil (sym e))
   front_alike go h (l ∷ ls) [] e = absurd (cons≢nil e)
@@ -189,7 +189,7 @@ module _ (c : Choice) where
   fields_alike ls rs e = front_alike (mirrored (front c (mirrored rest))) refl ls rs e
 
   open_alike : (l r : List Row) → map (blur c) l ≡ map (blur c) r → Alike (open_pair c l r)
-  unfolding open_pair if◌then◌else◌
+  unfolding open_pair when◌then◌else◌
   open_alike l r e = rw (equal_same c l r e) tt
 
   -- Forms that are equal as they count have no differing pair.

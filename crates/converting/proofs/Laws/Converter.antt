@@ -7,7 +7,7 @@ use Rattle.std.proofs.Math.Option.{Option, none, some}
 use mathlib.Core.List.{List, [], ◌++◌}
 use Rattle.std.proofs.Math.Dec.{eqb, ltb}
 use Rattle.std.proofs.Math.ListN.{drop, take-append-drop, length-append, length-drop}
-use Rattle.rules.specs.Tools.{if◌then◌else◌, between, only, ◌or_else◌}
+use Rattle.rules.specs.Tools.{when◌then◌else◌, between, only, ◌or_else◌}
 use Rattle.rules.specs.Versions.{RuleSet, Version, Setting, version1, version2, today, newer, all}
 use Rattle.rules.specs.Rows.{Row}
 use Rattle.rules.specs.Tree.{Scope, flatten, RowsRead, bad, deep, form}
@@ -89,7 +89,7 @@ module _ (settings : List Setting) (w : Coherent settings) where
       → row_count s.version input ≤ t.version.rows → height tree ≤ t.version.scopes
       → (room : ℕ) → t.version.header + 16 * row_count s.version input ≤ room
       → converted settings t.version.number input room ≡ accepted (recast s t input)
-  unfolding converted converted_for converted_in if_form within_limits within_scopes if◌then◌else◌
+  unfolding converted converted_for converted_in if_form within_limits within_scopes when◌then◌else◌
   converts s t input tree among-s a same g few low room roomy =
       let r = (read_exactly s input tree).0 g in
       let rules : t.rules ≡ s.rules = w.one_rules t s a among-s same in
@@ -295,7 +295,7 @@ module _ (settings : List Setting) (w : Coherent settings) where
     -- 1: the version asked for lacks its rules
     pub other_rules : (version : ℕ) (v : Version) → version_of settings version ≡ some v → setting_with settings version s.rules.number ≡ none
         → (room : ℕ) → v.header + 16 * row_count s.version input ≤ room → converted settings version input room ≡ refused 1 0 []
-    unfolding converted converted_for converted_in if_form within_limits if◌then◌else◌
+    unfolding converted converted_for converted_in if_form within_limits when◌then◌else◌
     other_rules version v a b room roomy =
         let fits : ltb room (v.header + 16 * row_count s.version input) ≡ false = leb-false (suc room) (v.header + 16 * row_count s.version input) (omega (arith, roomy)) in
         rw (own, a, b, sound.counted, sound.long, fits, tree_read)
@@ -307,7 +307,7 @@ module _ (settings : List Setting) (w : Coherent settings) where
       -- 2: it allows fewer rows
       pub too_many : t.version.rows < row_count s.version input → t.version.header + 16 * row_count s.version input ≤ room
           → converted settings t.version.number input room ≡ refused 2 0 []
-      unfolding converted converted_for converted_in if_form within_limits if◌then◌else◌
+      unfolding converted converted_for converted_in if_form within_limits when◌then◌else◌
       too_many many roomy =
           let fits : ltb room (t.version.header + 16 * row_count s.version input) ≡ false = leb-false (suc room) (t.version.header + 16 * row_count s.version input) (omega (arith, roomy)) in
           rw (own, version_is settings t w a, get, sound.counted, sound.long, fits, tree_read, leb-true many)
@@ -315,7 +315,7 @@ module _ (settings : List Setting) (w : Coherent settings) where
       -- what the reading by its limits says
       pub limited : row_count s.version input ≤ t.version.rows → t.version.header + 16 * row_count s.version input ≤ room
           → converted settings t.version.number input room ≡ within_scopes s t input (read t.rules t.version.scopes (rows_in s input))
-      unfolding converted converted_for converted_in if_form within_limits if◌then◌else◌
+      unfolding converted converted_for converted_in if_form within_limits when◌then◌else◌
       limited few roomy =
           let fits : ltb room (t.version.header + 16 * row_count s.version input) ≡ false = leb-false (suc room) (t.version.header + 16 * row_count s.version input) (omega (arith, roomy)) in
           let within : ltb t.version.rows (row_count s.version input) ≡ false = leb-false (suc t.version.rows) (row_count s.version input) (omega (arith, few)) in
@@ -348,7 +348,7 @@ module _ (settings : List Setting) (w : Coherent settings) where
   pub refused_alike : (s : Setting) (input : List ℕ) (number place : ℕ) → setting_of settings input ≡ some s → read_form s input ≡ refused number place []
       → (version : ℕ) (v : Version) → version_of settings version ≡ some v → (room : ℕ) → v.header + 16 * row_count s.version input ≤ room
       → converted settings version input room ≡ refused number place []
-  unfolding converted converted_for converted_in read_form if◌then◌else◌
+  unfolding converted converted_for converted_in read_form when◌then◌else◌
   refused_alike s input number place e g version v a room roomy =
       let fits : ltb room (v.header + 16 * row_count s.version input) ≡ false = leb-false (suc room) (v.header + 16 * row_count s.version input) (omega (arith, roomy)) in
       rw (e, a) (go (not (between 1 s.version.rows (row_count s.version input)) || not (eqb (length input) (s.version.header + 16 * row_count s.version input))) fits (rw (found_in settings input s w.in_force e).has at g))
@@ -358,10 +358,10 @@ module _ (settings : List Setting) (w : Coherent settings) where
       at_rows (deep p) y = unfold as_answer if_form in (let n-is : ◌≡◌ {A = ℕ} 5 number = cc in let p-is : p ≡ place = cc in rw (n-is, p-is))
       at_rows (form t) y = unfold as_answer in not_refused t number place [] y
 
-      go : (b : Bool) → ltb room (v.header + 16 * row_count s.version input) ≡ false → (if b then refused 2 0 [] else as_answer (read s.rules s.version.scopes (rows_in s input))) ≡ refused number place []
-          → (if b then refused 2 0 [] else if ltb room (v.header + 16 * row_count s.version input) then refused 3 0 [] else if_form s (setting_with settings version s.rules.number) input (read s.rules s.version.scopes (rows_in s input))) ≡ refused number place []
-      go true fits y = unfold if◌then◌else◌ in (let n-is : ◌≡◌ {A = ℕ} 2 number = cc in let p-is : ◌≡◌ {A = ℕ} 0 place = cc in rw (n-is, p-is))
-      go false fits y = unfold if◌then◌else◌ in rw fits (at_rows (read s.rules s.version.scopes (rows_in s input)) y)
+      go : (b : Bool) → ltb room (v.header + 16 * row_count s.version input) ≡ false → (when b then refused 2 0 [] else as_answer (read s.rules s.version.scopes (rows_in s input))) ≡ refused number place []
+          → (when b then refused 2 0 [] else when ltb room (v.header + 16 * row_count s.version input) then refused 3 0 [] else if_form s (setting_with settings version s.rules.number) input (read s.rules s.version.scopes (rows_in s input))) ≡ refused number place []
+      go true fits y = unfold when◌then◌else◌ in (let n-is : ◌≡◌ {A = ℕ} 2 number = cc in let p-is : ◌≡◌ {A = ℕ} 0 place = cc in rw (n-is, p-is))
+      go false fits y = unfold when◌then◌else◌ in rw fits (at_rows (read s.rules s.version.scopes (rows_in s input)) y)
 
 -- ---- the two versions
 

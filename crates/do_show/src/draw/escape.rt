@@ -1,5 +1,5 @@
 // A file of names made fit for a picture: what has a meaning in its text is spelt out. It stays a file of names.
-use files::parts::front;
+use files::path_parts::front;
 
 // The most bytes that a file of names comes to.
 pub(crate) const ROOM: usize = 327680;

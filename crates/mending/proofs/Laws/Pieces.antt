@@ -3,7 +3,7 @@ use Rattle.std.specs.Prelude.{◌≡◌, Bool, true, false, List, [], ◌∷◌,
 use Rattle.std.proofs.Math.Path.{refl}
 use Rattle.std.proofs.Common.{ap, ap₂, sym, ◌∙◌, subst, append_assoc, arith, length-append}
 use Rattle.std.proofs.Math.ListN.{get_or-append}
-use Rattle.rules.specs.Tools.{if◌then◌else◌}
+use Rattle.rules.specs.Tools.{when◌then◌else◌}
 use Rattle.rules.specs.Answer.{same_numbers}
 use Rattle.mending.specs.Mend.{Piece, befores, afters, Change, changes, undo}
 use Rattle.rules.specs.Laws.ToolLaws.{false_not, and_left, and_right, eqb-true, eqb_same, leb_le, leb_lt, All, done, ◌&◌}
@@ -44,12 +44,12 @@ from_lower n m [] l f = tt
 from_lower n m (c ∷ cs) l f = omega arith
 
 changes_from : (at : ℕ) (ps : List Piece) → From at (changes at ps)
-unfolding changes if◌then◌else◌
+unfolding changes when◌then◌else◌
 changes_from at [] = tt
 changes_from at (p ∷ ps) = go (same_numbers p.before p.after) (changes_from (at + length p.after) ps)
   where
     go : (b : Bool) → From (at + length p.after) (changes (at + length p.after) ps)
-        → From at (if b then changes (at + length p.after) ps else record { at = at; before = p.before; now = length p.after } ∷ changes (at + length p.after) ps)
+        → From at (when b then changes (at + length p.after) ps else record { at = at; before = p.before; now = length p.after } ∷ changes (at + length p.after) ps)
     go true f = from_lower (at + length p.after) at (changes (at + length p.after) ps) (omega arith) f
     go false f = omega arith
 
@@ -69,12 +69,12 @@ undo_here at old new cs bs =
     let e : at - at ≡ 0 = omega arith in rw (e, drop_past new bs (length new) 0 (omega arith))
 
 pub undo_changes : (at : ℕ) (ps : List Piece) → undo at (changes at ps) (afters ps) ≡ befores ps
-unfolding changes afters befores if◌then◌else◌
+unfolding changes afters befores when◌then◌else◌
 undo_changes at [] = unfold undo in refl
 undo_changes at (p ∷ ps) = go (same_numbers p.before p.after) refl (undo_changes (at + length p.after) ps)
   where
     go : (b : Bool) → same_numbers p.before p.after ≡ b → undo (at + length p.after) (changes (at + length p.after) ps) (afters ps) ≡ befores ps
-        → undo at (if b then changes (at + length p.after) ps else record { at = at; before = p.before; now = length p.after } ∷ changes (at + length p.after) ps) (p.after ++ afters ps) ≡ p.before ++ befores ps
+        → undo at (when b then changes (at + length p.after) ps else record { at = at; before = p.before; now = length p.after } ∷ changes (at + length p.after) ps) (p.after ++ afters ps) ≡ p.before ++ befores ps
     go true e r =
         undo_past at (changes (at + length p.after) ps) p.after (afters ps) (changes_from (at + length p.after) ps)
         ∙ ap₂ (λ (xs ys : List ℕ). xs ++ ys) (sym (same_lists p.before p.after e)) r
@@ -91,7 +91,7 @@ stays_afters [] done = refl
 stays_afters (p ∷ ps) (e & a) = ap₂ (λ (xs ys : List ℕ). xs ++ ys) (sym e) (stays_afters ps a)
 
 pub stays_changes : (at : ℕ) (ps : List Piece) → All Stays ps → changes at ps ≡ []
-unfolding changes if◌then◌else◌
+unfolding changes when◌then◌else◌
 stays_changes at [] done = refl
 stays_changes at (p ∷ ps) (e & a) = rw (e, lists_same p.after) (stays_changes (at + length p.after) ps a)
 
@@ -132,11 +132,11 @@ by_cases {X} a b f g = go (leb b a) refl
 
 -- a byte of the first piece
 untouched_here : (at : ℕ) (p : Piece) (ps : List Piece) (q : ℕ) → q < length p.after → Outside (at + q) (changes at (p ∷ ps)) → get_or (p.after ++ afters ps) q 0 ≡ get_or (p.before ++ befores ps) q 0
-unfolding changes if◌then◌else◌
+unfolding changes when◌then◌else◌
 untouched_here at p ps q h out = go (same_numbers p.before p.after) refl out
   where
     go : (b : Bool) → same_numbers p.before p.after ≡ b
-        → Outside (at + q) (if b then changes (at + length p.after) ps else record { at = at; before = p.before; now = length p.after } ∷ changes (at + length p.after) ps)
+        → Outside (at + q) (when b then changes (at + length p.after) ps else record { at = at; before = p.before; now = length p.after } ∷ changes (at + length p.after) ps)
         → get_or (p.after ++ afters ps) q 0 ≡ get_or (p.before ++ befores ps) q 0
     go true e o =
         let same = same_lists p.before p.after e in
@@ -146,10 +146,10 @@ untouched_here at p ps q h out = go (same_numbers p.before p.after) refl out
 
 -- what is outside of the changes is outside of the later ones
 outside_later : (at : ℕ) (p : Piece) (ps : List Piece) (n : ℕ) → Outside n (changes at (p ∷ ps)) → Outside n (changes (at + length p.after) ps)
-unfolding changes if◌then◌else◌
+unfolding changes when◌then◌else◌
 outside_later at p ps n out = go (same_numbers p.before p.after) out
   where
-    go : (b : Bool) → Outside n (if b then changes (at + length p.after) ps else record { at = at; before = p.before; now = length p.after } ∷ changes (at + length p.after) ps) → Outside n (changes (at + length p.after) ps)
+    go : (b : Bool) → Outside n (when b then changes (at + length p.after) ps else record { at = at; before = p.before; now = length p.after } ∷ changes (at + length p.after) ps) → Outside n (changes (at + length p.after) ps)
     go true o = o
     go false o = o.1
 

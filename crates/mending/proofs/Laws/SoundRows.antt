@@ -2,7 +2,7 @@
 use Rattle.std.specs.Prelude.{◌≡◌, refl, Bool, true, false, List, [], ◌∷◌, ◌++◌, map, ℕ, zero, suc, ◌+◌, ◌*◌, ◌-◌, ◌/◌, ◌%◌, ◌≤◌, eqb, leb, length, take, drop, replicate}
 use Rattle.std.proofs.Common.{ap, ap₂, sym, ◌∙◌, subst, append_assoc, arith, length-drop, drop_of_length-le}
 use Rattle.std.proofs.Math.Option.{Option, none, some}
-use Rattle.rules.specs.Tools.{if◌then◌else◌}
+use Rattle.rules.specs.Tools.{when◌then◌else◌}
 use Rattle.rules.specs.Versions.{RuleSet}
 use Rattle.rules.specs.Rows.{value, bytes, raw, raw_at, Index, Num, Id, Row, Field, Decl, Ref, Path, Outer, Case, Open, Close, Export, decode, decode_row, encode, flag}
 use Rattle.rules.specs.Tree.{Declaration, Operand, ref, outer, case, Head, Scope, scope, Fields, end, ◌▸◌, Item, plain, holds, decl_rows, path_rows, operand_row, operand_rows, export_rows, head_rows, flatten, fields_rows, item_rows}
@@ -96,11 +96,11 @@ unfolding flag
 flag_small (Num n) = omega arith
 flag_small (Id n) = omega arith
 
-builtin_zero : (b : ℕ) (p : List ℕ) → builtin_ok b (value p) ≡ true → FineAt (if eqb b 19 then stays else if eqb b 22 then stays else zeroed) p
-unfolding builtin_ok if◌then◌else◌
+builtin_zero : (b : ℕ) (p : List ℕ) → builtin_ok b (value p) ≡ true → FineAt (when eqb b 19 then stays else when eqb b 22 then stays else zeroed) p
+unfolding builtin_ok when◌then◌else◌
 builtin_zero b p e = go (eqb b 19) (eqb b 22) e
   where
-    go : (t u : Bool) → (if t then leb (value p) 47 else if u then leb (value p) 1 else eqb (value p) 0) ≡ true → FineAt (if t then stays else if u then stays else zeroed) p
+    go : (t u : Bool) → (when t then leb (value p) 47 else when u then leb (value p) 1 else eqb (value p) 0) ≡ true → FineAt (when t then stays else when u then stays else zeroed) p
     go true u q = tt
     go false true q = tt
     go false false q = eqb-true (value p) 0 q
@@ -214,17 +214,17 @@ past depth [] rs done e = e
 past depth (x ∷ xs) rs (h & a) e = more (h depth).0 (subst (λ (d : ℕ). Ends d (xs ++ rs)) (sym (h depth).1) (past depth xs rs a e))
 
 decls_neither : (ds : List Declaration) → All Neither (decl_rows ds)
-unfolding decl_rows Neither code_of closes_root depth_after if◌then◌else◌
+unfolding decl_rows Neither code_of closes_root depth_after when◌then◌else◌
 decls_neither [] = done
 decls_neither (d ∷ ds) = (λ n. (refl, refl)) & decls_neither ds
 
 paths_neither : (ps : List ℕ) → All Neither (path_rows ps)
-unfolding path_rows Neither code_of closes_root depth_after if◌then◌else◌
+unfolding path_rows Neither code_of closes_root depth_after when◌then◌else◌
 paths_neither [] = done
 paths_neither (p ∷ ps) = (λ n. (refl, refl)) & paths_neither ps
 
 operand_neither : (o : Operand) → All Neither (operand_row o)
-unfolding operand_row Neither code_of closes_root depth_after if◌then◌else◌
+unfolding operand_row Neither code_of closes_root depth_after when◌then◌else◌
 operand_neither (ref space at paths z) = (λ n. (refl, refl)) & paths_neither paths
 operand_neither (outer space up at z) = (λ n. (refl, refl)) & done
 operand_neither (case name z) = (λ n. (refl, refl)) & done
@@ -235,20 +235,20 @@ operands_neither [] = done
 operands_neither (o ∷ os) = all_append (operand_row o) (operand_rows os) (operand_neither o) (operands_neither os)
 
 export_neither : (o : Option ℕ) → All Neither (export_rows o)
-unfolding export_rows Neither code_of closes_root depth_after if◌then◌else◌
+unfolding export_rows Neither code_of closes_root depth_after when◌then◌else◌
 export_neither none = done
 export_neither (some n) = (λ n. (refl, refl)) & done
 
 head_neither : (h : Head) → All Neither (head_rows h)
-unfolding head_rows Neither code_of closes_root depth_after if◌then◌else◌
+unfolding head_rows Neither code_of closes_root depth_after when◌then◌else◌
 head_neither h = (λ n. (refl, refl)) & all_append (decl_rows h.decls) _ (decls_neither h.decls) (all_append (operand_rows h.operands) _ (operands_neither h.operands) (export_neither h.export))
 
 open_next : (depth kind name : ℕ) (rs : List Row) → Ends (suc depth) rs → Ends depth (Open kind name ∷ rs)
-unfolding code_of closes_root depth_after if◌then◌else◌
+unfolding code_of closes_root depth_after when◌then◌else◌
 open_next depth kind name rs e = more refl e
 
 close_next : (depth : ℕ) (rs : List Row) → 1 ≤ depth → Ends depth rs → Ends (suc depth) (Close ∷ rs)
-unfolding code_of closes_root depth_after if◌then◌else◌
+unfolding code_of closes_root depth_after when◌then◌else◌
 close_next depth rs h e =
     let same : suc depth - 1 ≡ depth = omega arith in
     more (leb-false (suc depth) 1 (omega arith)) (subst (λ (d : ℕ). Ends d rs) (sym same) e)
@@ -341,7 +341,7 @@ none_left names zero bs e = refl
 none_left names (suc n) bs e = no_rows_lem (sym e)
 
 pub rows_stay : (names depth n : ℕ) (bs : List ℕ) (rows : List Row) → Bytes bs → length bs ≡ 16 * n → rows_of names n bs ≡ map some rows → All FieldOk rows → Ends depth rows → All Stays (all_rows depth n bs)
-unfolding rows_of all_rows if◌then◌else◌
+unfolding rows_of all_rows when◌then◌else◌
 rows_stay names depth zero bs (r ∷ rs) a l e f x = no_rows_lem e
 rows_stay names depth (suc n) bs (r ∷ rs) a l e (f & fs) (last x) =
     let code = row_code_lem names bs r (first_row_lem e) in

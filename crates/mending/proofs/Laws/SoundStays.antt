@@ -3,7 +3,7 @@ use Rattle.std.specs.Prelude.{◌≡◌, Bool, true, false, ◌&&◌, ◌||◌, 
 use Rattle.std.proofs.Math.Path.{refl, ap, sym, subst}
 use Rattle.std.proofs.Common.{ap₂, ◌∙◌, arith}
 use Rattle.std.proofs.Math.ListN.{length, length-drop}
-use Rattle.rules.specs.Tools.{if◌then◌else◌, between, zeros}
+use Rattle.rules.specs.Tools.{when◌then◌else◌, between, zeros}
 use Rattle.rules.specs.Versions.{Setting}
 use Rattle.rules.specs.Rows.{value, bytes, Close, encode_row}
 use Rattle.rules.specs.Rows
@@ -142,7 +142,7 @@ module _ (s : Setting) (input : List ℕ) (t : Scope) (h : 6 + s.version.countin
 
   -- A form that 01 reads, with room for it: it stays, with an empty list.
   pub sound_stays : (room space : ℕ) → length input ≤ room → mend_in s input room space ≡ mended input []
-  unfolding mend_in Mend.read Mend.sized if◌then◌else◌ list_bytes
+  unfolding mend_in Mend.read Mend.sized when◌then◌else◌ list_bytes
   sound_stays room space fits = rw (same, stays_changes 0 (form_pieces s input) form_stays, sizes, e, not_less room (length input) fits, not_less space 0 (omega arith))
 
 -- ---- mended bytes are bytes
@@ -180,12 +180,12 @@ close_few (suc n) = all_append (encode_row Close) (close_rows n) one (close_few 
     one = unfold encode_row Rows.encode Rows.raw_bytes in all_append (bytes 1 8) _ (bytes_few 1 8) (all_append (bytes 1 0) _ (bytes_few 1 0) (all_append (bytes 2 0) _ (bytes_few 2 0) (all_append (bytes 4 0) _ (bytes_few 4 0) (all_append (bytes 4 0) _ (bytes_few 4 0) (bytes_few 4 0)))))
 
 rows_few : (depth count : ℕ) (bs : List ℕ) → Bytes bs → All Few (all_rows depth count bs)
-unfolding all_rows row_pieces if◌then◌else◌
+unfolding all_rows row_pieces when◌then◌else◌
 rows_few depth zero bs a = close_few depth & done
 rows_few depth (suc count) bs a =
     all_append (row_pieces (take 16 bs)) _ (parts_few _ _ (take 16 bs) (bytes_take 16 bs a)) (go (closes_root (value (take 1 bs)) depth) (rows_few (depth_after (value (take 1 bs)) depth) count (drop 16 bs) (bytes_drop 16 bs a)))
   where
-    go : (b : Bool) → All Few (all_rows (depth_after (value (take 1 bs)) depth) count (drop 16 bs)) → All Few (if b then piece (drop 16 bs) [] ∷ [] else all_rows (depth_after (value (take 1 bs)) depth) count (drop 16 bs))
+    go : (b : Bool) → All Few (all_rows (depth_after (value (take 1 bs)) depth) count (drop 16 bs)) → All Few (when b then piece (drop 16 bs) [] ∷ [] else all_rows (depth_after (value (take 1 bs)) depth) count (drop 16 bs))
     go true p = done & done
     go false p = p
 

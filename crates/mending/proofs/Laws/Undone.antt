@@ -3,7 +3,7 @@
 use Rattle.std.specs.Prelude.{◌≡◌, refl, Bool, true, false, ◌||◌, not, List, [], ◌∷◌, ◌++◌, ℕ, zero, suc, ◌+◌, ◌-◌, ◌/◌, ◌≤◌, ◌<◌, ltb, length, take, drop, replicate, get_or}
 use Rattle.std.proofs.Common.{ap, ap₂, sym, ◌∙◌, subst, append_assoc, append-nil, arith, length-take, length-drop, take-append-drop}
 use Rattle.std.proofs.lemmas.List.{length-replicate}
-use Rattle.rules.specs.Tools.{if◌then◌else◌}
+use Rattle.rules.specs.Tools.{when◌then◌else◌}
 use Rattle.rules.specs.Versions.{Version, Setting}
 use Rattle.rules.specs.Rows.{value, bytes}
 use Rattle.rules.specs.Tree.{Scope}
@@ -49,14 +49,14 @@ unfolding befores
 one_bytes p = append-nil p.before
 
 rows_bytes_lem : (depth count : ℕ) (bs : List ℕ) → befores (all_rows depth count bs) ≡ bs
-unfolding all_rows if◌then◌else◌
+unfolding all_rows when◌then◌else◌
 rows_bytes_lem depth zero bs = one_bytes _
 rows_bytes_lem depth (suc count) bs =
     befores_append (row_pieces (take 16 bs)) _
     ∙ (ap₂ (λ (xs ys : List ℕ). xs ++ ys) (row_bytes_lem (take 16 bs)) (go (closes_root (value (take 1 bs)) depth) (rows_bytes_lem (depth_after (value (take 1 bs)) depth) count (drop 16 bs))) ∙ take-append-drop 16 bs)
   where
     go : (b : Bool) → befores (all_rows (depth_after (value (take 1 bs)) depth) count (drop 16 bs)) ≡ drop 16 bs
-        → befores (if b then piece (drop 16 bs) [] ∷ [] else all_rows (depth_after (value (take 1 bs)) depth) count (drop 16 bs)) ≡ drop 16 bs
+        → befores (when b then piece (drop 16 bs) [] ∷ [] else all_rows (depth_after (value (take 1 bs)) depth) count (drop 16 bs)) ≡ drop 16 bs
     go true e = one_bytes _
     go false e = e
 
@@ -107,7 +107,7 @@ same_list : (a b : List ℕ) (l m : List Change) → mended a l ≡ mended b m �
 same_list a b l m e = cc
 
 pub mended_is : (s : Setting) (input : List ℕ) (room space : ℕ) (form : List ℕ) (list : List Change) → mend_in s input room space ≡ mended form list → Mended s input form list
-unfolding mend_in Mend.read if◌then◌else◌
+unfolding mend_in Mend.read when◌then◌else◌
 mended_is s input room space form list e = sizes (not (sized s.version (afters (form_pieces s input)))) e
   where
     read_as_lem : (r : AnswerOf Scope) → read_form s (afters (form_pieces s input)) ≡ r → Mend.read r (afters (form_pieces s input)) (changes 0 (form_pieces s input)) ≡ mended form list → Mended s input form list
@@ -116,11 +116,11 @@ mended_is s input room space form list e = sizes (not (sized s.version (afters (
         let f = same_form _ form _ list p in
         record { is_form = f; is_list = same_list _ form _ list p; tree = t; reads = subst (λ (x : List ℕ). read_form s x ≡ accepted t) f q }
 
-    rooms : (b : Bool) → (if b then Mending.refused 3 0 else Mend.read (read_form s (afters (form_pieces s input))) (afters (form_pieces s input)) (changes 0 (form_pieces s input))) ≡ mended form list → Mended s input form list
+    rooms : (b : Bool) → (when b then Mending.refused 3 0 else Mend.read (read_form s (afters (form_pieces s input))) (afters (form_pieces s input)) (changes 0 (form_pieces s input))) ≡ mended form list → Mended s input form list
     rooms true p = no_mended 3 0 form list p
     rooms false p = read_as_lem (read_form s (afters (form_pieces s input))) refl p
 
-    sizes : (b : Bool) → (if b then Mending.refused 2 0 else if ltb room (length (afters (form_pieces s input))) || ltb space (length (list_bytes (changes 0 (form_pieces s input)))) then Mending.refused 3 0
+    sizes : (b : Bool) → (when b then Mending.refused 2 0 else when ltb room (length (afters (form_pieces s input))) || ltb space (length (list_bytes (changes 0 (form_pieces s input)))) then Mending.refused 3 0
         else Mend.read (read_form s (afters (form_pieces s input))) (afters (form_pieces s input)) (changes 0 (form_pieces s input))) ≡ mended form list → Mended s input form list
     sizes true p = no_mended 2 0 form list p
     sizes false p = rooms (ltb room (length (afters (form_pieces s input))) || ltb space (length (list_bytes (changes 0 (form_pieces s input))))) p
@@ -154,12 +154,12 @@ parts_long (w ∷ ws) [] bs = refl & done
 parts_long (w ∷ ws) (f ∷ fs) bs = fated_length f (take w bs) & parts_long ws fs (drop w bs)
 
 rows_even : (depth count : ℕ) (bs : List ℕ) → Even (all_rows depth count bs)
-unfolding all_rows row_pieces if◌then◌else◌
+unfolding all_rows row_pieces when◌then◌else◌
 rows_even depth zero bs = last
 rows_even depth (suc count) bs =
     even_append (row_pieces (take 16 bs)) _ (parts_long _ _ (take 16 bs)) (go (closes_root (value (take 1 bs)) depth) (rows_even (depth_after (value (take 1 bs)) depth) count (drop 16 bs)))
   where
-    go : (b : Bool) → Even (all_rows (depth_after (value (take 1 bs)) depth) count (drop 16 bs)) → Even (if b then piece (drop 16 bs) [] ∷ [] else all_rows (depth_after (value (take 1 bs)) depth) count (drop 16 bs))
+    go : (b : Bool) → Even (all_rows (depth_after (value (take 1 bs)) depth) count (drop 16 bs)) → Even (when b then piece (drop 16 bs) [] ∷ [] else all_rows (depth_after (value (take 1 bs)) depth) count (drop 16 bs))
     go true e = last
     go false e = e
 

@@ -3,7 +3,7 @@ use Rattle.std.specs.Prelude.{◌≡◌, refl, Bool, true, false, ◌||◌, not,
 use Rattle.std.proofs.Common.{ap, sym, ◌∙◌, subst}
 use Rattle.std.proofs.Math.Option.{some}
 use Rattle.std.proofs.Math.ListN.{get_elem?}
-use Rattle.rules.specs.Tools.{if◌then◌else◌, between}
+use Rattle.rules.specs.Tools.{when◌then◌else◌, between}
 use Rattle.rules.specs.Versions.{RuleSet, Setting}
 use Rattle.rules.specs.Tree.{Declaration, Scope, flatten, RowsRead, bad, deep, form}
 use Rattle.rules.specs.Reader.{read}
@@ -23,12 +23,12 @@ use Rattle.moving.proofs.Laws.Lists.{Moves}
 -- ---- an entry names two DECLs of its space
 
 of_that_space : (xs : List Located) (space : ℕ) → All (λ (x : Located). x.standing.decl.space ≡ space) (located_of xs space)
-unfolding located_of if◌then◌else◌
+unfolding located_of when◌then◌else◌
 of_that_space [] space = done
 of_that_space (x ∷ xs) space = go (eqb x.standing.decl.space space) refl (of_that_space xs space)
   where
     go : (b : Bool) → eqb x.standing.decl.space space ≡ b → All (λ (x : Located). x.standing.decl.space ≡ space) (located_of xs space)
-        → All (λ (x : Located). x.standing.decl.space ≡ space) (if b then x ∷ located_of xs space else located_of xs space)
+        → All (λ (x : Located). x.standing.decl.space ≡ space) (when b then x ∷ located_of xs space else located_of xs space)
     go true e a = eqb-true _ space e & a
     go false e a = a
 
@@ -70,14 +70,14 @@ of_reading_lem rules (form s) = go (Answer.resolved (resolve rules s))
 pub same_answer : (v : Setting) (input : List ℕ) (rooms : Rooms)
     → (ltb rooms.moved (16 * row_count v.version input) || ltb rooms.apart (12 * row_count v.version input)) ≡ false
     → plainly (moved_in v input rooms) ≡ answer_in [] v input rooms.out
-unfolding moved_in answer_in form_in MovedAnswer.too_short if◌then◌else◌ plainly map_answer
+unfolding moved_in answer_in form_in MovedAnswer.too_short when◌then◌else◌ plainly map_answer
 same_answer v input rooms e =
     rw e (go (not (between 1 v.version.rows (row_count v.version input)) || not (eqb (length input) (v.version.header + 16 * row_count v.version input)))
     (ltb rooms.out (v.version.header + 64 * row_count v.version input)) (read v.rules v.version.scopes (rows_in v input)))
   where
     go : (a b : Bool) (r : RowsRead)
-        → plainly (if a then refused 2 0 [] else if b || false then refused 3 0 [] else MovedAnswer.of_reading v.rules r)
-        ≡ map_answer flatten (if a then refused 2 0 [] else if b then refused 3 0 [] else Answer.after_reading [] v.rules r)
+        → plainly (when a then refused 2 0 [] else when b || false then refused 3 0 [] else MovedAnswer.of_reading v.rules r)
+        ≡ map_answer flatten (when a then refused 2 0 [] else when b then refused 3 0 [] else Answer.after_reading [] v.rules r)
     go true b r = refl
     go false true r = refl
     go false false r = of_reading_lem v.rules r

@@ -3,7 +3,7 @@ use Rattle.std.specs.Prelude.{◌≡◌, refl, Bool, true, false, List, [], ◌�
 use Rattle.std.proofs.Common.{ap, sym, ◌∙◌, subst, arith, length-append}
 use Rattle.std.proofs.Math.Option.{Option, none, some, map}
 use Rattle.std.proofs.Math.ListN.{get_elem?}
-use Rattle.rules.specs.Tools.{if◌then◌else◌, ◌then◌, ◌or_else◌}
+use Rattle.rules.specs.Tools.{when◌then◌else◌, ◌then◌, ◌or_else◌}
 use Rattle.rules.specs.Versions.{RuleSet}
 use Rattle.rules.specs.Rows.{Num}
 use Rattle.rules.specs.Tree.{Declaration, ref, outer, Head, Scope, scope, Fields, end, ◌▸◌, Item, head_of}
@@ -30,11 +30,11 @@ use Rattle.rules.proofs.Laws.Meaning.Agree.{Arrived}
 -- ---- the spots of a scope
 
 of_space_lem : {P : Spot → Type 0} (xs : List Standing) (space : ℕ) → All (λ (x : Standing). P x.spot) xs → All P (of_space xs space)
-unfolding of_space if◌then◌else◌
+unfolding of_space when◌then◌else◌
 of_space_lem [] space a = done
 of_space_lem {P} (x ∷ xs) space (h & a) = go (eqb x.decl.space space) (of_space_lem xs space a)
   where
-    go : (b : Bool) → All P (of_space xs space) → All P (if b then x.spot ∷ of_space xs space else of_space xs space)
+    go : (b : Bool) → All P (of_space xs space) → All P (when b then x.spot ∷ of_space xs space else of_space xs space)
     go true r = h & r
     go false r = r
 
@@ -178,7 +178,7 @@ scope_first t p w ls l o e q = rw (e, o) at q
 -- an original declaration of the input, and what the output's number counts to
 both : (ls' : List Level) (l l' : Level) (x y : Spot) (was now : Option Place) → Nested ls' → get_elem? ls' 0 ≡ some l' → l'.way ≡ l.way → OnOriginal x → OutSpot y → place l x ≡ was → place l' y ≡ now
     → (d : Place) × (was ≡ some d) × (meant ls' l x ≡ some d) × (same_place was now ≡ true → meant ls' l' y ≡ some d) × (same_place was now ≡ false → ¬ (meant ls' l' y ≡ some d))
-unfolding place meant if◌then◌else◌
+unfolding place meant when◌then◌else◌
 both ls' l l' (inserted h) y was now nested e way on out ew en = absurd on
 both ls' l l' (original f a) (original f' a') was now nested e way on out ew en =
     let d : Place = record { way = l.way; field = f; at = a } in
@@ -204,7 +204,7 @@ both ls' l l' (original f a) (inserted h) was now nested e way on out ew en =
         let same : l₀ ≡ l' = some_same l₀ l' q in
         leads_elsewhere l₀ ls h d n (out c) e (w ∙ (sym way ∙ ap (λ (x : Level). x.way) (sym same)))
 
-    leads : (b : Bool) → eqb h.code 11 ≡ b → ¬ ((if b then counted_out ls' h.operands else none) ≡ some (record { way = l.way; field = f; at = a }))
+    leads : (b : Bool) → eqb h.code 11 ≡ b → ¬ ((when b then counted_out ls' h.operands else none) ≡ some (record { way = l.way; field = f; at = a }))
     leads true q r = front ls' nested e (eqb-true h.code 11 q) _ refl r
     leads false q r = no_option _ r
 

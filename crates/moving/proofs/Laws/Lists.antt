@@ -3,7 +3,7 @@ use Rattle.std.specs.Prelude.{◌≡◌, refl, Bool, true, false, not, List, [],
 use Rattle.std.proofs.Common.{ap, sym, ◌∙◌, subst, append_assoc, append-nil, arith}
 use Rattle.std.proofs.Math.Option.{Option, none, some, map}
 use Rattle.std.proofs.Math.ListN.{get_elem?}
-use Rattle.rules.specs.Tools.{if◌then◌else◌, only, ◌then◌, is_just}
+use Rattle.rules.specs.Tools.{when◌then◌else◌, only, ◌then◌, is_just}
 use Rattle.rules.specs.Versions.{RuleSet}
 use Rattle.rules.specs.Tree.{Declaration, Operand, Head, Scope, scope, Fields, end, ◌▸◌, Item, plain, holds, head_of}
 use Rattle.rules.specs.Answer.{same_numbers}
@@ -97,14 +97,14 @@ places_has w f at (x ∷ os) (suc k) o e =
 -- the places of an original field's operands and of the scope that it holds are among those of its scope
 of_field : (w : List ℕ) (n : ℕ) (fs : Fields) (m : ℕ) (i : Item) (p : Place) → get_elem? (originals fs) m ≡ some i
     → In p (places_at w (n + m) 0 (head_of i).operands ++ places_inside (w ++ ((n + m) ∷ [])) i) → In p (places_in w n fs)
-unfolding originals places_in if◌then◌else◌
+unfolding originals places_in when◌then◌else◌
 of_field w n end m i p e q = no_option i e
 of_field w n (j ▸ fs) m i p e q = go (is_inserted (head_of j)) m e q (λ n' m' e' q'. of_field w n' fs m' i p e' q')
   where
-    go : (b : Bool) (m : ℕ) → get_elem? (if b then originals fs else j ∷ originals fs) m ≡ some i
+    go : (b : Bool) (m : ℕ) → get_elem? (when b then originals fs else j ∷ originals fs) m ≡ some i
         → In p (places_at w (n + m) 0 (head_of i).operands ++ places_inside (w ++ ((n + m) ∷ [])) i)
         → ((n' m' : ℕ) → get_elem? (originals fs) m' ≡ some i → In p (places_at w (n' + m') 0 (head_of i).operands ++ places_inside (w ++ ((n' + m') ∷ [])) i) → In p (places_in w n' fs))
-        → In p (if b then places_in w n fs else places_at w n 0 (head_of j).operands ++ (places_inside (w ++ (n ∷ [])) j ++ places_in w (suc n) fs))
+        → In p (when b then places_in w n fs else places_at w n 0 (head_of j).operands ++ (places_inside (w ++ (n ∷ [])) j ++ places_in w (suc n) fs))
     go true m e q below = below n m e q
     go false zero e q below =
         let same : j ≡ i = some_same j i e in
@@ -387,17 +387,17 @@ lt_elem (y ∷ xs) zero h = (y, refl)
 lt_elem (y ∷ xs) (suc n) h = lt_elem xs n (omega arith)
 
 kin_longer : {xs ys : List Standing} → Kin xs ys → (space : ℕ) → length (of_space xs space) ≤ length (of_space ys space)
-unfolding of_space if◌then◌else◌
+unfolding of_space when◌then◌else◌
 kin_longer nothing_left space = omega arith
 kin_longer (stays {x = x} {xs = xs} {ys = ys} k) space = go (eqb x.decl.space space) (kin_longer k space)
   where
     go : (b : Bool) → length (of_space xs space) ≤ length (of_space ys space)
-        → length (if b then x.spot ∷ of_space xs space else of_space xs space) ≤ length (if b then x.spot ∷ of_space ys space else of_space ys space)
+        → length (when b then x.spot ∷ of_space xs space else of_space xs space) ≤ length (when b then x.spot ∷ of_space ys space else of_space ys space)
     go true h = omega arith
     go false h = h
 kin_longer (comes {d = d} {h = h} {xs = xs} {ys = ys} k) space = go (eqb d.space space) (kin_longer k space)
   where
-    go : (b : Bool) → length (of_space xs space) ≤ length (of_space ys space) → length (of_space xs space) ≤ length (if b then inserted h ∷ of_space ys space else of_space ys space)
+    go : (b : Bool) → length (of_space xs space) ≤ length (of_space ys space) → length (of_space xs space) ≤ length (when b then inserted h ∷ of_space ys space else of_space ys space)
     go true l = omega arith
     go false l = l
 
@@ -451,7 +451,7 @@ abbrev mutual
   NoneInItem (holds h s) = NoneInserted s
 
 none_original : (fs : Fields) (n : ℕ) (i : Item) → NoneInFields fs → get_elem? (originals fs) n ≡ some i → NoneInItem i
-unfolding originals if◌then◌else◌
+unfolding originals when◌then◌else◌
 none_original end n i h e = no_option i e
 none_original (j ▸ fs) zero i h e = let q : some j ≡ some i = rw h.0 at e in subst NoneInItem (some_same j i q) h.1
 none_original (j ▸ fs) (suc n) i h e = none_original fs n i h.2 (rw h.0 at e)
@@ -481,7 +481,7 @@ own_spots n m [] = done
 own_spots n m (d ∷ ds) = tt & own_spots n (suc m) ds
 
 pub none_spots : (n : ℕ) (fs : Fields) → NoneInFields fs → All (λ (x : Standing). OnOriginal x.spot) (standings n fs)
-unfolding standings if◌then◌else◌
+unfolding standings when◌then◌else◌
 none_spots n end h = done
 none_spots n (i ▸ fs) h = rw h.0 (all_append _ _ (own_spots n 0 (head_of i).decls) (none_spots (suc n) fs h.2))
 
@@ -491,11 +491,11 @@ kin_equal (stays {x = x} k) (h & a) = ap {B = List Standing} (λ l. x ∷ l) (ki
 kin_equal (comes k) (h & a) = absurd h
 
 pub spots_original : (xs : List Standing) (space : ℕ) → All (λ (x : Standing). OnOriginal x.spot) xs → All OnOriginal (of_space xs space)
-unfolding of_space if◌then◌else◌
+unfolding of_space when◌then◌else◌
 spots_original [] space a = done
 spots_original (x ∷ xs) space (h & a) = go (eqb x.decl.space space) (spots_original xs space a)
   where
-    go : (b : Bool) → All OnOriginal (of_space xs space) → All OnOriginal (if b then x.spot ∷ of_space xs space else of_space xs space)
+    go : (b : Bool) → All OnOriginal (of_space xs space) → All OnOriginal (when b then x.spot ∷ of_space xs space else of_space xs space)
     go true r = h & r
     go false r = r
 

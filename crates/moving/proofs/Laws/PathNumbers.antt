@@ -8,7 +8,7 @@ use mathlib.Core.List.{List, [], ◌∷◌, ◌++◌}
 use Prim.Native.Nat.{ℕ, zero, suc, ◌+◌, ◌≤◌}
 use Rattle.std.proofs.Math.Dec.{leb}
 use Rattle.std.proofs.Math.ListN.{get_elem?, length}
-use Rattle.rules.specs.Tools.{if◌then◌else◌, ◌then◌}
+use Rattle.rules.specs.Tools.{when◌then◌else◌, ◌then◌}
 use Rattle.rules.specs.Versions.{RuleSet}
 use Rattle.rules.specs.Rows.{Num}
 use Rattle.rules.specs.Tree.{Declaration, Operand, ref, Head, Scope, scope, head_of, with_operands}
@@ -43,15 +43,15 @@ record FirstMade (space n q z b : ℕ) (new : List Head) : Type 0 where
 module _ (space n q z : ℕ) where
   alone : (k code from : ℕ) (item : ℕ) (rest : List Head)
       → first_named (in_heads (export_alias code item (fresh k) from (Num n) q z ∷ rest)) item (fresh k) ≡ some (inserted (export_alias code item (fresh k) from (Num n) q z))
-  unfolding Lookups.has export_alias if◌then◌else◌
+  unfolding Lookups.has export_alias when◌then◌else◌
   alone k code from item rest = rw (Lookups.first_of_heads (export_alias code item (fresh k) from (Num n) q z) rest item (fresh k), eqb_same item, eqb_same (fresh k))
 
   -- one PATH, or a space that may have several
   made : (qs : List ℕ) (k : ℕ) → (¬ (qs ≡ []) → leb space 6 ≡ false) → FirstMade space n q z k (path_aliases space (Num n) q qs z k)
-  unfolding path_aliases instance_space if◌then◌else◌
+  unfolding path_aliases instance_space when◌then◌else◌
   made [] k few = go (leb space 6) refl
     where
-      go : (b : Bool) → leb space 6 ≡ b → FirstMade space n q z k ((if b then export_alias 10 space (fresh k) 6 (Num n) q z else export_alias 9 space (fresh k) 10 (Num n) q z) ∷ [])
+      go : (b : Bool) → leb space 6 ≡ b → FirstMade space n q z k ((when b then export_alias 10 space (fresh k) 6 (Num n) q z else export_alias 9 space (fresh k) 10 (Num n) q z) ∷ [])
       go true e = record { j = k; later = omega arith; code = 10; item = space; found = rw e (alone k 10 6 space []) }
       go false e = record { j = k; later = omega arith; code = 9; item = space; found = rw e (alone k 9 10 space []) }
   made (q' ∷ qs) k few =
@@ -88,7 +88,7 @@ module _ (space n q z : ℕ) where
         bind_ok _ _ _ _ (Runs.operand_grown ds outside k x) (λ x' g. bind_ok _ _ _ _ (operands_made x'.k os o e) (λ es m. made_after k x'.k x'.inserted es.inserted g.0 g.1 m))
 
     head_made : (k : ℕ) (h : Head) (o : ℕ) → here_only h.code ≡ false → get_elem? h.operands o ≡ some (ref space (Num n) (q ∷ qs) z) → OkR (λ e. FirstMade space n q z k e.inserted) (expand_head ds outside k h)
-    unfolding expand_head with_operands if◌then◌else◌
+    unfolding expand_head with_operands when◌then◌else◌
     head_made k h o c e = rw c (bind_ok _ _ _ _ (operands_made k h.operands o e) (λ es m. m))
 
 -- a number is left by step C

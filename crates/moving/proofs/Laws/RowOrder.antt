@@ -3,7 +3,7 @@ use Rattle.std.specs.Prelude.{◌≡◌, refl, Bool, true, false, List, [], ◌�
 use Rattle.std.proofs.Common.{ap, ap₂, sym, ◌∙◌, subst, arith, length-append}
 use Rattle.std.proofs.Math.Option.{Option, none, some}
 use Rattle.std.proofs.Math.ListN.{get_elem?}
-use Rattle.rules.specs.Tools.{if◌then◌else◌, ◌then◌}
+use Rattle.rules.specs.Tools.{when◌then◌else◌, ◌then◌}
 use Rattle.rules.specs.Rows.{Close}
 use Rattle.rules.specs.Tree.{Operand, Scope, scope, Fields, end, ◌▸◌, Item, plain, holds, head_of, flatten, fields_rows, item_rows, head_rows, operand_row, operand_rows}
 use Rattle.rules.specs.Readings
@@ -137,16 +137,16 @@ place_field {s} {f} {n} R x e j =
     (ap (get_elem? (originals_from f.row f.level.fields)) (omega arith) ∙ (sym (R.same 0) ∙ e))
 
 pub rest_inserted : {s : Scope} {f : Floor} {n row : ℕ} {i : Item} {fs : Fields} → is_inserted (head_of i) ≡ true → Rest s f n row (i ▸ fs) → Rest s f n (row + length (item_rows i)) fs
-unfolding originals_from if◌then◌else◌
+unfolding originals_from when◌then◌else◌
 rest_inserted b R = record { own = R.own; same = λ m. rw b at (R.same m) }
 
 pub rest_original : {s : Scope} {f : Floor} {n row : ℕ} {i : Item} {fs : Fields} → is_inserted (head_of i) ≡ false → Rest s f n row (i ▸ fs) → Rest s f (suc n) (row + length (item_rows i)) fs
-unfolding originals_from if◌then◌else◌
+unfolding originals_from when◌then◌else◌
 rest_original {f = f} b R =
     record { own = R.own; same = λ m. (rw b at (R.same (suc m))) ∙ ap (get_elem? (originals_from f.row f.level.fields)) (omega arith) }
 
 pub first_is : (row : ℕ) (i : Item) (fs : Fields) → is_inserted (head_of i) ≡ false → get_elem? (originals_from row (i ▸ fs)) 0 ≡ some (record { row = row; item = i })
-unfolding originals_from if◌then◌else◌
+unfolding originals_from when◌then◌else◌
 first_is row i fs b = rw b
 
 -- the scope that a field holds
@@ -178,15 +178,15 @@ choose : (s : Scope) (f : Floor) (n row : ℕ) (i : Item) (fs : Fields) → Rest
     → ((k : ℕ) → Rest s f k (row + length (item_rows i)) fs → InOrder s (row + length (item_rows i)) (row + length (item_rows i) + length (fields_rows fs)) (places_in f.level.way k fs))
     → (is_inserted (head_of i) ≡ false → InOrder s (row + length (head_rows (head_of i))) (row + length (item_rows i)) (places_inside (f.level.way ++ (n ∷ [])) i))
     → InOrder s row (row + length (item_rows i ++ fields_rows fs))
-    (if b then places_in f.level.way n fs else places_at f.level.way n 0 (head_of i).operands ++ (places_inside (f.level.way ++ (n ∷ [])) i ++ places_in f.level.way (suc n) fs))
-unfolding if◌then◌else◌ operand_row_at
+    (when b then places_in f.level.way n fs else places_at f.level.way n 0 (head_of i).operands ++ (places_inside (f.level.way ++ (n ∷ [])) i ++ places_in f.level.way (suc n) fs))
+unfolding when◌then◌else◌ operand_row_at
 choose s f n row i fs R b e below inside =
     let total : row + length (item_rows i) + length (fields_rows fs) ≡ row + length (item_rows i ++ fields_rows fs) = (let l = length-append (item_rows i) (fields_rows fs) in omega (arith, l)) in
     go b e total
   where
     go : (b : Bool) → is_inserted (head_of i) ≡ b → row + length (item_rows i) + length (fields_rows fs) ≡ row + length (item_rows i ++ fields_rows fs)
         → InOrder s row (row + length (item_rows i ++ fields_rows fs))
-        (if b then places_in f.level.way n fs else places_at f.level.way n 0 (head_of i).operands ++ (places_inside (f.level.way ++ (n ∷ [])) i ++ places_in f.level.way (suc n) fs))
+        (when b then places_in f.level.way n fs else places_at f.level.way n 0 (head_of i).operands ++ (places_inside (f.level.way ++ (n ∷ [])) i ++ places_in f.level.way (suc n) fs))
     go true e total =
         subst (λ (t : ℕ). InOrder s row t (places_in f.level.way n fs)) total (order_lower (omega arith) (below n (rest_inserted e R)))
     go false e total =

@@ -9,7 +9,7 @@ use mathlib.Core.List.{List, [], ◌∷◌, ◌++◌}
 use Rattle.std.proofs.Math.Dec.{leb}
 use Rattle.std.proofs.Math.ListN.{length}
 use Rattle.std.proofs.lemmas.List.{length-replicate}
-use Rattle.rules.specs.Tools.{if◌then◌else◌, between}
+use Rattle.rules.specs.Tools.{when◌then◌else◌, between}
 use Rattle.rules.specs.Versions.{Setting}
 use Rattle.rules.specs.Rows.{Row, Raw, raw, raw_bytes, bytes, encode, encode_row}
 use Rattle.rules.specs.Tree.{Scope, flatten, RowsRead, bad, deep, form}
@@ -63,7 +63,7 @@ module _ (outside : List Env) (v : Setting) (input : List ℕ) (room : ℕ) (u :
   Fits (accepted t) = (size ≤ room) × (length (flatten t) ≤ 4 * row_count v.version input)
 
   form_fits : Fits (form_in outside v input room)
-  unfolding form_in after_reading if◌then◌else◌ size
+  unfolding form_in after_reading when◌then◌else◌ size
   form_fits = counted (not (between 1 v.version.rows (row_count v.version input)) || not (eqb (length input) (v.version.header + 16 * row_count v.version input)))
     where
       stepped : (t : Scope) → read v.rules (scopes_left v.version.scopes outside) (rows_in v input) ≡ form t → size ≤ room → (m : Result (Scope × ℕ)) → resolve_inside v.rules outside t ≡ m → Fits (Answer.resolved m)
@@ -75,22 +75,22 @@ module _ (outside : List Env) (v : Setting) (input : List ℕ) (room : ℕ) (u :
       read_then (deep p) e l = inl (omega arith)
       read_then (form t) e l = stepped t e l (resolve_inside v.rules outside t) refl
 
-      roomy : (b : Bool) → ltb room size ≡ b → Fits (if b then refused 3 0 [] else after_reading outside v.rules (read v.rules (scopes_left v.version.scopes outside) (rows_in v input)))
+      roomy : (b : Bool) → ltb room size ≡ b → Fits (when b then refused 3 0 [] else after_reading outside v.rules (read v.rules (scopes_left v.version.scopes outside) (rows_in v input)))
       roomy true e = inl (omega arith)
       roomy false e =
           let l : size < suc room = leb_lt (suc room) size e in
           read_then (read v.rules (scopes_left v.version.scopes outside) (rows_in v input)) refl (omega (arith, l))
 
       counted : (b : Bool)
-          → Fits (if b then refused 2 0 [] else (if ltb room size then refused 3 0 [] else after_reading outside v.rules (read v.rules (scopes_left v.version.scopes outside) (rows_in v input))))
+          → Fits (when b then refused 2 0 [] else (when ltb room size then refused 3 0 [] else after_reading outside v.rules (read v.rules (scopes_left v.version.scopes outside) (rows_in v input))))
       counted true = inl (omega arith)
       counted false = roomy (ltb room size) refl
 
   after_length : (old : List ℕ) → length old ≡ room → (m : AnswerOf Scope) → Fits m → length (output_after v (map_answer flatten m) size old) ≡ length old
-  unfolding output_after map_answer if◌then◌else◌
+  unfolding output_after map_answer when◌then◌else◌
   after_length old e (refused n p c) f = go (leb n 5) refl f
     where
-      go : (b : Bool) → leb n 5 ≡ b → (n ≤ 5) ⊎ (size ≤ room) → length (if b then old else written size [] old) ≡ length old
+      go : (b : Bool) → leb n 5 ≡ b → (n ≤ 5) ⊎ (size ≤ room) → length (when b then old else written size [] old) ≡ length old
       go true q f = refl
       go false q (inl l) = let high : 5 < n = leb_lt n 5 q in absurd (omega (arith, high, l))
       go false q (inr l) = written_length size [] old (omega arith) (omega arith)

@@ -5,7 +5,7 @@ use Rattle.std.proofs.Common.{sym, ◌∙◌, subst, arith}
 use Rattle.std.proofs.Math.Bool.{not}
 use Rattle.std.proofs.Math.Option.{some}
 use mathlib.Core.List.{List, [], ◌∷◌, map, append-nil}
-use Rattle.rules.specs.Tools.{if◌then◌else◌, between, only, ◌or_else◌}
+use Rattle.rules.specs.Tools.{when◌then◌else◌, between, only, ◌or_else◌}
 use Rattle.rules.specs.Versions.{Setting, as_claimed, claimed}
 use Rattle.rules.specs.Rows.{Row}
 use Rattle.rules.specs.Tree.{Scope, scope, flatten, RowsRead, bad, deep, form}
@@ -42,8 +42,8 @@ then_inv (refused n z c) f b e = no_answer n z c b e
 then_inv (accepted a) f b e = (a, refl, e)
 
 -- a test that refuses
-pub past : {A : Type 0} (b : Bool) (n z : ℕ) (c : List ℕ) (m : AnswerOf A) (a : A) → (if b then refused n z c else m) ≡ accepted a → (b ≡ false) × (m ≡ accepted a)
-unfolding if◌then◌else◌
+pub past : {A : Type 0} (b : Bool) (n z : ℕ) (c : List ℕ) (m : AnswerOf A) (a : A) → (when b then refused n z c else m) ≡ accepted a → (b ≡ false) × (m ≡ accepted a)
+unfolding when◌then◌else◌
 past true n z c m a e = no_answer n z c a e
 past false n z c m a e = (refl, e)
 
@@ -89,7 +89,7 @@ module _ (s : Setting) (input : List ℕ) where
 
   read_is : has_header s input ≡ true → between 1 s.version.rows (row_count s.version input) ≡ true → eqb (length input) (s.version.header + 16 * row_count s.version input) ≡ true
       → read_form s input ≡ as_answer reading
-  unfolding read_form if◌then◌else◌
+  unfolding read_form when◌then◌else◌
   read_is headed counted long = rw (headed, counted, long)
 
   -- What is read is exactly such a form.

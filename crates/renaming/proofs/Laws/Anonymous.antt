@@ -7,7 +7,7 @@ use Rattle.std.proofs.Math.Option.{Option, none, some}
 use native.Mathlib.Omega.{arith}
 use Rattle.std.proofs.Math.ListN.{length, take, length-append, length-drop}
 use Rattle.std.proofs.Math.Seq.{length-take-le}
-use Rattle.rules.specs.Tools.{if◌then◌else◌, between}
+use Rattle.rules.specs.Tools.{when◌then◌else◌, between}
 use Rattle.rules.specs.Versions.{Setting, top_name}
 use Rattle.rules.specs.Rows.{Row}
 use Rattle.rules.specs.Tree.{Scope, RowsRead, bad, deep, form}
@@ -41,7 +41,7 @@ neither true false e = (refl, sym e)
 neither false b e = (sym e, absurd (let no_way : ◌≡◌ {A = ℕ} 0 1 = cc in omega arith))
 
 taken_in : (s : Setting) (input key : List ℕ) (room : ℕ) → anonymous_in s input room ≡ accepted key → Taken s input key
-unfolding anonymous_in after_reading if◌then◌else◌
+unfolding anonymous_in after_reading when◌then◌else◌
 taken_in s input key room e =
     counted (not (between 1 s.version.rows (row_count s.version input)) || not (eqb (length input) (s.version.header + 16 * row_count s.version input))) refl e
   where
@@ -61,12 +61,12 @@ taken_in s input key room e =
         }
 
     roomy : (b : Bool) → not (between 1 s.version.rows (row_count s.version input)) || not (eqb (length input) (s.version.header + 16 * row_count s.version input)) ≡ false
-        → (if b then refused 3 0 [] else after_reading (read s.rules s.version.scopes (rows_in s input)) (key_in s input)) ≡ accepted key → Taken s input key
+        → (when b then refused 3 0 [] else after_reading (read s.rules s.version.scopes (rows_in s input)) (key_in s input)) ≡ accepted key → Taken s input key
     roomy true c e = no_refusal e
     roomy false c e = whole (read s.rules s.version.scopes (rows_in s input)) refl c e
 
     counted : (b : Bool) → not (between 1 s.version.rows (row_count s.version input)) || not (eqb (length input) (s.version.header + 16 * row_count s.version input)) ≡ b
-        → (if b then refused 2 0 [] else (if ltb room (length input) then refused 3 0 [] else after_reading (read s.rules s.version.scopes (rows_in s input)) (key_in s input))) ≡ accepted key
+        → (when b then refused 2 0 [] else (when ltb room (length input) then refused 3 0 [] else after_reading (read s.rules s.version.scopes (rows_in s input)) (key_in s input))) ≡ accepted key
         → Taken s input key
     counted true c e = no_refusal e
     counted false c e = roomy (ltb room (length input)) c e
@@ -114,10 +114,10 @@ module _ (settings : List Setting) (l : InForce settings) (input : List ℕ) (bs
 
   -- As many bytes are written as the form has.
   pub as_long : length (renamed_bytes (place_of key) settings input) ≡ length input
-  unfolding renamed_bytes renamed_for renamed_in if◌then◌else◌
+  unfolding renamed_bytes renamed_for renamed_in when◌then◌else◌
   as_long = rw it.asks (go (eqb (length input) (it.setting.version.header + 16 * row_count it.setting.version input)))
     where
-      go : (b : Bool) → length (if b then take it.setting.version.header input ++ renamed_rows (renamed (place_of key)) (row_count it.setting.version input) (drop it.setting.version.header input) else input) ≡ length input
+      go : (b : Bool) → length (when b then take it.setting.version.header input ++ renamed_rows (renamed (place_of key)) (row_count it.setting.version input) (drop it.setting.version.header input) else input) ≡ length input
       go true =
           omega (
             arith,

@@ -10,7 +10,7 @@ use Rattle.std.proofs.Math.Dec.{leb}
 use Rattle.std.proofs.Math.ListN.{length, take, drop, length-drop}
 use Rattle.std.proofs.Math.Seq.{length-take-le, drop-append_seam}
 use Rattle.std.proofs.lemmas.List.{take-append-le}
-use Rattle.rules.specs.Tools.{if◌then◌else◌, between, zeros, only, ◌or_else◌}
+use Rattle.rules.specs.Tools.{when◌then◌else◌, between, zeros, only, ◌or_else◌}
 use Rattle.rules.specs.Versions.{RuleSet, Setting, top_name, base, all}
 use Rattle.rules.specs.Rows.{value, bytes, Raw, raw, raw_at, raw_bytes, Index, Num, Id, Row, Field, Decl, Ref, Path, Outer, Case, Open, Close, Export, decode, encode, flag, number, decode_row, encode_row}
 use Rattle.rules.specs.Tree.{Scope, flatten, RowsRead, bad, deep, form}
@@ -247,7 +247,7 @@ module _ (f : ℕ → ℕ) (w : Keeps f) where
     new = renamed_rows g count (drop h input)
 
     renamed_is : renamed_in f s input ≡ take h input ++ new
-    unfolding renamed_in if◌then◌else◌
+    unfolding renamed_in when◌then◌else◌
     renamed_is = rw as_long
 
     front_long : length (take h input) ≡ h
@@ -309,7 +309,7 @@ module _ (f : ℕ → ℕ) (w : Keeps f) where
   -- an input that is not as long as its header says
   short_ren : (around around' : List Env) (s : Setting) (input : List ℕ) (room : ℕ) → eqb (length input) (s.version.header + 16 * row_count s.version input) ≡ false
       → form_in around' s input room ≡ map_answer (ren_scope g) (form_in around s input room)
-  unfolding form_in map_answer if◌then◌else◌
+  unfolding form_in map_answer when◌then◌else◌
   short_ren around around' s input room e = rw (e, or-true (not (between 1 s.version.rows (row_count s.version input))))
 
   -- the resolved form, under one setting
@@ -318,7 +318,7 @@ module _ (f : ℕ → ℕ) (w : Keeps f) where
   form_renamed around s input room bs p has = go (eqb (length input) (s.version.header + 16 * row_count s.version input)) refl
     where
       stays_so : eqb (length input) (s.version.header + 16 * row_count s.version input) ≡ false → renamed_in f s input ≡ input
-      stays_so e = unfold renamed_in if◌then◌else◌ in rw e
+      stays_so e = unfold renamed_in when◌then◌else◌ in rw e
 
       go : (b : Bool) → eqb (length input) (s.version.header + 16 * row_count s.version input) ≡ b
           → form_in (map (ren_env g) around) s (renamed_in f s input) room ≡ map_answer (ren_scope g) (form_in around s input room)
@@ -342,7 +342,7 @@ module _ (f : ℕ → ℕ) (w : Keeps f) where
       go (eqb (length input) (s.version.header + 16 * row_count s.version input)) refl r.plain r.has
     where
       stays_so : eqb (length input) (s.version.header + 16 * row_count s.version input) ≡ false → renamed_in f s input ≡ input
-      stays_so q = unfold renamed_in if◌then◌else◌ in rw q
+      stays_so q = unfold renamed_in when◌then◌else◌ in rw q
 
       go : (b : Bool) → eqb (length input) (s.version.header + 16 * row_count s.version input) ≡ b → Plain s → has_header s input ≡ true → Likewise s settings input
       go true q p has =

@@ -6,7 +6,7 @@ use Rattle.std.proofs.Math.Bool.{true, false}
 use Rattle.std.proofs.Math.Option.{Option, none, some}
 use mathlib.Core.List.{List, [], ◌∷◌, ◌++◌, map}
 use Rattle.std.proofs.lemmas.List.{length-replicate}
-use Rattle.rules.specs.Tools.{if◌then◌else◌, is_in, between}
+use Rattle.rules.specs.Tools.{when◌then◌else◌, is_in, between}
 use Rattle.rules.specs.Versions.{Setting, top_name}
 use Rattle.rules.specs.Rows.{Index, Num, Id, Row, Field, Decl, Ref, Path, Outer, Case, Open, Close, Export}
 use Rattle.rules.specs.Tree.{Scope, flatten, RowsRead, form}
@@ -40,7 +40,7 @@ module _ (ns : List ℕ) where
   fresh_known k l h = absurd (omega (arith, h))
 
   own_name : (n : ℕ) → ¬ (n ≡ 0) → is_in n (name_in n) ≡ true
-  unfolding name_in if◌then◌else◌
+  unfolding name_in when◌then◌else◌
   own_name n h = rw (eqb-false n 0 h, eqb_same n)
 
   name_known : (n : ℕ) → ((m : ℕ) → is_in m (name_in n) ≡ true → is_in m ns ≡ true) → Known n
@@ -76,9 +76,9 @@ module _ (ns : List ℕ) where
     unfolding renamed
     name_same n k = go (between 1 top_name n) refl
       where
-        go : (b : Bool) → between 1 top_name n ≡ b → (if b then f n else n) ≡ (if b then g n else n)
-        go true e = unfold if◌then◌else◌ in agree n (k (leb_le 1 n (and_left (leb 1 n) (leb n top_name) e)) (leb_le n top_name (and_right (leb 1 n) (leb n top_name) e)))
-        go false e = unfold if◌then◌else◌ in refl
+        go : (b : Bool) → between 1 top_name n ≡ b → (when b then f n else n) ≡ (when b then g n else n)
+        go true e = unfold when◌then◌else◌ in agree n (k (leb_le 1 n (and_left (leb 1 n) (leb n top_name) e)) (leb_le n top_name (and_right (leb 1 n) (leb n top_name) e)))
+        go false e = unfold when◌then◌else◌ in refl
 
     index_same : (i : Index) → RowHas Known (Ref 0 i 0 0) → renamed_index (renamed f) i ≡ renamed_index (renamed g) i
     index_same (Num n) k = refl

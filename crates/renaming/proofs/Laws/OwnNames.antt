@@ -8,7 +8,7 @@ use mathlib.Core.List.{List, [], ◌∷◌, ◌++◌, map}
 use Prim.Native.Nat.{ℕ, zero, suc, ◌+◌, ◌*◌, ◌≤◌, ◌<◌}
 use native.Mathlib.Omega.{arith}
 use Rattle.std.proofs.Math.Dec.{eqb}
-use Rattle.rules.specs.Tools.{if◌then◌else◌, is_in}
+use Rattle.rules.specs.Tools.{when◌then◌else◌, is_in}
 use Rattle.rules.specs.Versions.{top_name}
 use Rattle.rules.specs.Rows.{Index, Num, Id, Row, Field, Decl, Ref, Path, Outer, Case, Open, Close, Export, decode_row}
 use Rattle.rules.specs.Answer.{rows_of}
@@ -20,7 +20,7 @@ use Rattle.renaming.proofs.Laws.Bytes.{by_range}
 -- ---- two values change places
 
 swap : (a b x : ℕ) → ℕ
-swap a b x = if eqb x a then b else if eqb x b then a else x
+swap a b x = when eqb x a then b else when eqb x b then a else x
 
 not_same : (x y : ℕ) → eqb x y ≡ false → ¬ (x ≡ y)
 not_same x y e q = false_not (sym e ∙ (ap (eqb x) (sym q) ∙ eqb_same x))
@@ -107,7 +107,7 @@ module _ (f g : ℕ → ℕ) where
   one_agree n e = rw e
 
   zero_agree : (n : ℕ) → n ≡ 0 → renamed f n ≡ renamed g n
-  unfolding renamed if◌then◌else◌
+  unfolding renamed when◌then◌else◌
   zero_agree n e = rw e
 
   name_agree : (n : ℕ) → Agree f g (name_in n) → renamed f n ≡ renamed g n
@@ -116,7 +116,7 @@ module _ (f g : ℕ → ℕ) where
     where
       by_zero : (b : Bool) → eqb n 0 ≡ b → renamed f n ≡ renamed g n
       by_zero true e = zero_agree n (eqb-true n 0 e)
-      by_zero false e = one_agree n (a n (unfold name_in if◌then◌else◌ in rw (e, eqb_same n)))
+      by_zero false e = one_agree n (a n (unfold name_in when◌then◌else◌ in rw (e, eqb_same n)))
 
   index_agree : (i : Index) → Agree f g (index_names i) → renamed_index (renamed f) i ≡ renamed_index (renamed g) i
   index_agree (Num n) a = refl
@@ -158,10 +158,10 @@ name_range : (m : ℕ) → m ≤ top_name → InRange (name_in m)
 unfolding name_in
 name_range m h n i = go (eqb m 0) refl i
   where
-    go : (b : Bool) → eqb m 0 ≡ b → is_in n (if b then [] else m ∷ []) ≡ true → (1 ≤ n) × (n ≤ top_name)
-    go true e i = false_not (unfold if◌then◌else◌ in i)
+    go : (b : Bool) → eqb m 0 ≡ b → is_in n (when b then [] else m ∷ []) ≡ true → (1 ≤ n) × (n ≤ top_name)
+    go true e i = false_not (unfold when◌then◌else◌ in i)
     go false e i =
-        let is_m : n ≡ m = or_cases (eqb n m) false (unfold if◌then◌else◌ in i) (λ q. eqb-true n m q) (λ q. false_not q) in
+        let is_m : n ≡ m = or_cases (eqb n m) false (unfold when◌then◌else◌ in i) (λ q. eqb-true n m q) (λ q. false_not q) in
         let not_zero : ¬ (m ≡ 0) = not_same m 0 e in
         (omega (arith, is_m, not_zero), omega (arith, is_m, h))
 
@@ -195,7 +195,7 @@ rows_range (suc count) bs = next_range (decode_row top_name bs) (rows_of top_nam
 
 -- a name that stands in the list has its own place
 place_apart : (ms : List ℕ) (a b : ℕ) → is_in a ms ≡ true → place_of ms a ≡ place_of ms b → a ≡ b
-unfolding place_of if◌then◌else◌
+unfolding place_of when◌then◌else◌
 place_apart [] a b i e = false_not i
 place_apart (m ∷ ms) a b i e = go (eqb a m) refl (eqb b m) refl i e (λ j q. place_apart ms a b j q)
   where
@@ -203,7 +203,7 @@ place_apart (m ∷ ms) a b i e = go (eqb a m) refl (eqb b m) refl i e (λ j q. p
     positive [] n = unfold place_of in omega arith
     positive (x ∷ l) n = unfold place_of in if_ok_lem (λ v. 1 ≤ v) (eqb n x) 1 (suc (place_of l n)) (λ q. omega arith) (λ q. omega arith)
 
-    go : (x : Bool) → eqb a m ≡ x → (y : Bool) → eqb b m ≡ y → x || is_in a ms ≡ true → (if x then 1 else suc (place_of ms a)) ≡ (if y then 1 else suc (place_of ms b))
+    go : (x : Bool) → eqb a m ≡ x → (y : Bool) → eqb b m ≡ y → x || is_in a ms ≡ true → (when x then 1 else suc (place_of ms a)) ≡ (when y then 1 else suc (place_of ms b))
         → (is_in a ms ≡ true → place_of ms a ≡ place_of ms b → a ≡ b) → a ≡ b
     go true p true q i e rec = eqb-true a m p ∙ sym (eqb-true b m q)
     go true p false q i e rec = let same : 1 ≡ suc (place_of ms b) = e in absurd (omega (arith, positive ms b, same))
@@ -312,14 +312,14 @@ counting_suc k zero = refl
 counting_suc k (suc n) = ap (λ (l : List ℕ). suc k ∷ l) (counting_suc (suc k) n)
 
 places_behind : (m : ℕ) (ms xs : List ℕ) → is_in m xs ≡ false → map (place_of (m ∷ ms)) xs ≡ map suc (map (place_of ms) xs)
-unfolding place_of if◌then◌else◌
+unfolding place_of when◌then◌else◌
 places_behind m ms [] e = refl
 places_behind m ms (x ∷ xs) e =
     let r = neither_one (eqb m x) (is_in m xs) e in
     rw (eqb-false x m (λ q. not_same m x r.0 (sym q)), places_behind m ms xs r.1)
 
 places : (ms : List ℕ) → Different ms → map (place_of ms) ms ≡ counting 1 (length ms)
-unfolding place_of if◌then◌else◌
+unfolding place_of when◌then◌else◌
 places [] d = refl
 places (m ∷ ms) d =
     ap₂ (λ (n : ℕ) (l : List ℕ). n ∷ l) (rw (eqb_same m))

@@ -7,7 +7,7 @@ use Rattle.std.proofs.Math.Option.{Option, none, some}
 use mathlib.Core.List.{List, [], ◌∷◌, ◌++◌, map}
 use Prim.Native.Nat.{ℕ, zero, suc, ◌-◌}
 use Rattle.std.proofs.lemmas.List.{length-map}
-use Rattle.rules.specs.Tools.{if◌then◌else◌, only, ◌then◌}
+use Rattle.rules.specs.Tools.{when◌then◌else◌, only, ◌then◌}
 use Rattle.rules.specs.Versions.{RuleSet}
 use Rattle.rules.specs.Rows.{Index, Row, Field, Decl, Ref, Path, Outer, Case, Open, Close, Export}
 use Rattle.rules.specs.Tree.{Declaration, Operand, ref, outer, case, Head, Scope, scope, Fields, end, ◌▸◌, Item, plain, holds, with_operands, RowsRead, bad, deep, form}

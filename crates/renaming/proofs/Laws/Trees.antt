@@ -8,7 +8,7 @@ use mathlib.Core.List.{List, [], ◌∷◌, ◌++◌, map}
 use Prim.Native.Nat.{ℕ, zero, suc, ◌+◌}
 use Rattle.std.proofs.Math.ListN.{length}
 use Rattle.std.proofs.lemmas.List.{length-map}
-use Rattle.rules.specs.Tools.{if◌then◌else◌, is_in, is_just, ◌or_else◌}
+use Rattle.rules.specs.Tools.{when◌then◌else◌, is_in, is_just, ◌or_else◌}
 use Rattle.rules.specs.Versions.{RuleSet, top_name}
 use Rattle.rules.specs.Rows.{Index, Num, Id, Row, Field, Decl, Ref, Path, Open, Close}
 use Rattle.rules.specs.Tree.{Declaration, Operand, ref, outer, case, Head, Scope, scope, Fields, end, ◌▸◌, Item, plain, holds, with_operands, head_of, decl_rows, path_rows, operand_row, operand_rows, head_rows, flatten, fields_rows, item_rows, export_rows}
@@ -65,8 +65,8 @@ bind_ren g h (refused why place) m' k k' e p = rw e
 bind_ren g h (ok a) m' k k' e p = rw e (p a)
 
 pub if_ren : {A B : Type 0} (g : A → B) (b : Bool) (x y : A) (x' y' : B)
-    → x' ≡ g x → y' ≡ g y → (if b then x' else y') ≡ g (if b then x else y)
-unfolding if◌then◌else◌
+    → x' ≡ g x → y' ≡ g y → (when b then x' else y') ≡ g (when b then x else y)
+unfolding when◌then◌else◌
 if_ren g true x y x' y' p q = p
 if_ren g false x y x' y' p q = q
 

@@ -3,7 +3,7 @@ use Rattle.std.proofs.Math.Path.{◌≡◌, subst}
 use Rattle.std.specs.Prelude.{refl, true, false, ◌↔◌, ℕ, ◌+◌, ◌*◌, ◌≤◌, eqb, ltb, length}
 use Rattle.std.proofs.Common.{ap, sym, ◌∙◌, arith}
 use mathlib.Core.List.{List, []}
-use Rattle.rules.specs.Tools.{if◌then◌else◌, between}
+use Rattle.rules.specs.Tools.{when◌then◌else◌, between}
 use Rattle.rules.specs.Versions.{RuleSet, Setting}
 use Rattle.rules.specs.Tree.{Scope, flatten, RowsRead, bad, deep, form}
 use Rattle.rules.specs.Good.{height}
@@ -31,7 +31,7 @@ module _ (around : List Env) (s : Setting) (input : List ℕ) (room : ℕ) where
     pub roomy : ltb room (s.version.header + 64 * row_count s.version input) ≡ false
 
   answer_is : Sized → answer_in around s input room ≡ map_answer flatten (after_reading around s.rules (read s.rules (scopes_left s.version.scopes around) (rows_in s input)))
-  unfolding answer_in form_in if◌then◌else◌
+  unfolding answer_in form_in when◌then◌else◌
   answer_is z = rw (z.counted, z.long, z.roomy)
 
   -- whatever is right for the rows gives the answer

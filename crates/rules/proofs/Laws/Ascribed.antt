@@ -6,7 +6,7 @@ use Rattle.std.proofs.Common.{◌∙◌}
 use Rattle.std.proofs.Math.Bool.{true, false}
 use Rattle.std.proofs.Math.Option.{Option, none, some}
 use mathlib.Core.List.{List, [], ◌∷◌}
-use Rattle.rules.specs.Tools.{if◌then◌else◌, only, ◌then◌, is_in}
+use Rattle.rules.specs.Tools.{when◌then◌else◌, only, ◌then◌, is_in}
 use Rattle.rules.specs.Tree.{Operand, ref, outer, case}
 use Rattle.rules.specs.Shapes.{Want, r, p, Part, one, opt, typed, signature, ascribed, fits_ref, fits_outer, is_case, next, complete}
 use Rattle.rules.specs.Good.{after_operand, after_operands}
@@ -49,8 +49,8 @@ module _ (rest : List Part → Option (List Part)) (w : Want) (ps : List Part) w
       go true = refl
       go false = refl
 
-if_only : {A : Type 0} (b : Bool) (x : A) → (if b then some x else none) ≡ only b x
-unfolding if◌then◌else◌ only
+if_only : {A : Type 0} (b : Bool) (x : A) → (when b then some x else none) ≡ only b x
+unfolding when◌then◌else◌ only
 if_only true x = refl
 if_only false x = refl
 
@@ -69,20 +69,20 @@ module _ (s : ℕ) where
   type = p (9 ∷ [])
 
   typed_one : (f : Want → Bool) → ended (next f (typed s ∷ []) then λ qs. some qs) ≡ (ended (next f (one own ∷ []) then λ qs. some qs) || ended (next f (one type ∷ one own ∷ []) then λ qs. some qs))
-  unfolding next only if◌then◌else◌ ◌then◌ ended complete
+  unfolding next only when◌then◌else◌ ◌then◌ ended complete
   typed_one f = go (f type) (f own)
     where
-      go : (a b : Bool) → ended ((if a then some ((if b then opt own else one own) ∷ []) else only b []) then λ qs. some qs) ≡ (ended (only {A = List Part} b [] then λ qs. some qs) || ended (only a (one own ∷ []) then λ qs. some qs))
+      go : (a b : Bool) → ended ((when a then some ((when b then opt own else one own) ∷ []) else only b []) then λ qs. some qs) ≡ (ended (only {A = List Part} b [] then λ qs. some qs) || ended (only a (one own ∷ []) then λ qs. some qs))
       go true true = refl
       go true false = refl
       go false true = refl
       go false false = refl
 
   typed_more : (f g : Want → Bool) (rest : List Part → Option (List Part)) → ended (next f (typed s ∷ []) then λ ps. next g ps then rest) ≡ (ended (next f (one own ∷ []) then λ ps. next g ps then rest) || ended (next f (one type ∷ one own ∷ []) then λ ps. next g ps then rest))
-  unfolding next only if◌then◌else◌ ◌then◌ ended
+  unfolding next only when◌then◌else◌ ◌then◌ ended
   typed_more f g rest = go (f type) (f own)
     where
-      go : (a b : Bool) → ended ((if a then some ((if b then opt own else one own) ∷ []) else only b []) then λ ps. next g ps then rest) ≡ (ended (only b [] then λ ps. next g ps then rest) || ended (only a (one own ∷ []) then λ ps. next g ps then rest))
+      go : (a b : Bool) → ended ((when a then some ((when b then opt own else one own) ∷ []) else only b []) then λ ps. next g ps then rest) ≡ (ended (only b [] then λ ps. next g ps then rest) || ended (only a (one own ∷ []) then λ ps. next g ps then rest))
       go true true = rw (if_only {A = List Part} (g own) []) refl
       go true false = refl
       go false true = refl
@@ -110,12 +110,12 @@ module _ (s : ℕ) where
       (needs_both type (o ∷ os) ∙ simp (after_is, may_too) refl)
 
   pub ascribed_exactly : (os : List Operand) → takes (ascribed s) os ≡ takes_both (signature s) (one own ∷ []) os
-  unfolding ascribed signature if◌then◌else◌
+  unfolding ascribed signature when◌then◌else◌
   ascribed_exactly os = go (eqb s 7) (is_in s (8 ∷ 10 ∷ 11 ∷ []))
     where
       go : (a b : Bool)
-          → takes (if a then one (r (4 ∷ [])) ∷ one own ∷ [] else if b then one (r (9 ∷ [])) ∷ one own ∷ [] else typed s ∷ []) os
-          ≡ takes_both (if a then one (r (4 ∷ [])) ∷ [] else if b then one (r (9 ∷ [])) ∷ [] else opt type ∷ []) (one own ∷ []) os
+          → takes (when a then one (r (4 ∷ [])) ∷ one own ∷ [] else when b then one (r (9 ∷ [])) ∷ one own ∷ [] else typed s ∷ []) os
+          ≡ takes_both (when a then one (r (4 ∷ [])) ∷ [] else when b then one (r (9 ∷ [])) ∷ [] else opt type ∷ []) (one own ∷ []) os
       go true b = needs_both (r (4 ∷ [])) os
       go false true = needs_both (r (9 ∷ [])) os
       go false false = may_both os

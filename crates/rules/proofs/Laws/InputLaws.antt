@@ -3,7 +3,7 @@ use Rattle.std.specs.Prelude.{◌≡◌, refl, Bool, true, false, ◌||◌, not,
 use Rattle.std.proofs.Common.{ap, sym, ◌∙◌, subst, arith}
 use Rattle.std.proofs.Math.Option.{Option, none, some}
 use Rattle.std.proofs.lemmas.List.{length-map}
-use Rattle.rules.specs.Tools.{if◌then◌else◌, between, only, ◌or_else◌}
+use Rattle.rules.specs.Tools.{when◌then◌else◌, between, only, ◌or_else◌}
 use Rattle.rules.specs.Versions.{RuleSet, Setting, top_name, base, all, as_claimed}
 use Rattle.rules.specs.Rows.{Row}
 use Rattle.rules.specs.Tree.{Scope, flatten, RowsRead, bad, deep, form}
@@ -44,8 +44,8 @@ abbrev pub FromSteps : Answer → Type 0
 FromSteps (refused n z c) = (6 ≤ n)
 FromSteps (accepted rs) = Unit {0}
 
-past : (b : Bool) (n z : ℕ) (m : AnswerOf Scope) (x : Answer) → n ≤ 5 → FromSteps x → map_answer flatten (if b then refused n z [] else m) ≡ x → (b ≡ false) × (map_answer flatten m ≡ x)
-unfolding if◌then◌else◌ map_answer
+past : (b : Bool) (n z : ℕ) (m : AnswerOf Scope) (x : Answer) → n ≤ 5 → FromSteps x → map_answer flatten (when b then refused n z [] else m) ≡ x → (b ≡ false) × (map_answer flatten m ≡ x)
+unfolding when◌then◌else◌ map_answer
 past true n z m x h f e = let c : 6 ≤ n = subst FromSteps (sym e) f in absurd (omega arith)
 past false n z m x h f e = (refl, e)
 
@@ -62,7 +62,7 @@ pub record Steps (outside : List Env) (v : Setting) (input : List ℕ) (room : �
   pub answers : map_answer flatten (Answer.resolved (resolve_inside v.rules outside s)) ≡ x
 
 pub steps : (outside : List Env) (v : Setting) (input : List ℕ) (room : ℕ) (x : Answer) → FromSteps x → answer_in outside v input room ≡ x → Steps outside v input room x
-unfolding answer_in form_in Answer.after_reading map_answer if◌then◌else◌
+unfolding answer_in form_in Answer.after_reading map_answer when◌then◌else◌
 steps outside v input room x f e =
     let n = row_count v.version input in
     let P = past (not (between 1 v.version.rows n) || not (eqb (length input) (v.version.header + 16 * n))) 2 0 _ x (omega arith) f e in

@@ -4,7 +4,7 @@ use Rattle.std.proofs.Math.Path.{ap}
 use Rattle.std.proofs.Common.{sym, ◌∙◌, length-append}
 use Rattle.std.proofs.Math.Option.{Option, none, some, map}
 use Rattle.std.proofs.lemmas.List.{length-map}
-use Rattle.rules.specs.Tools.{if◌then◌else◌}
+use Rattle.rules.specs.Tools.{when◌then◌else◌}
 use Rattle.rules.specs.Rows.{Id}
 use Rattle.rules.specs.Tree.{Declaration, Head}
 use Rattle.rules.specs.Rules.{Entry, decls_in, unknown, Result, find, heads_decls, entered, stand_in, inserted_entries, or_refused, Lookup, found, absent, one_on, look_up, or_unknown, number_in}
@@ -64,8 +64,8 @@ one_on_lem (found number row) = refl
 one_on_lem (absent space) = refl
 
 look_step : (a b : Bool) (row : ℕ) (l : Lookup) (o : Option ℕ) → numbered l ≡ o
-    → numbered (if a then if b then found 0 row else one_on l else l) ≡ (if a then if b then some 0 else map suc o else o)
-unfolding if◌then◌else◌ numbered
+    → numbered (when a then when b then found 0 row else one_on l else l) ≡ (when a then when b then some 0 else map suc o else o)
+unfolding when◌then◌else◌ numbered
 look_step true true row l o e = refl
 look_step true false row l o e = one_on_lem l ∙ ap (map suc) e
 look_step false b row l o e = e
@@ -86,8 +86,8 @@ unfolding one_on
 one_space space (found number row) h = tt
 one_space space (absent s) h = h
 
-space_step : (a b : Bool) (row space : ℕ) (l : Lookup) → OfSpace space l → OfSpace space (if a then if b then found 0 row else one_on l else l)
-unfolding if◌then◌else◌
+space_step : (a b : Bool) (row space : ℕ) (l : Lookup) → OfSpace space l → OfSpace space (when a then when b then found 0 row else one_on l else l)
+unfolding when◌then◌else◌
 space_step true true row space l h = tt
 space_step true false row space l h = one_space space l h
 space_step false b row space l h = h

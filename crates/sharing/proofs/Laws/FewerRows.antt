@@ -8,7 +8,7 @@ use Rattle.std.proofs.Math.Option.{Option, none, some}
 use mathlib.Core.List.{List, [], ◌∷◌}
 use native.Mathlib.Omega.{arith}
 use Rattle.std.proofs.Math.ListN.{length-append}
-use Rattle.rules.specs.Tools.{if◌then◌else◌, is_just}
+use Rattle.rules.specs.Tools.{when◌then◌else◌, is_just}
 use Rattle.rules.specs.Versions.{RuleSet, top_name}
 use Rattle.rules.specs.Rows.{Num, Id, Row}
 use Rattle.rules.specs.Tree.{Declaration, Operand, ref, outer, case, Head, Scope, scope, Fields, end, ◌▸◌, Item, plain, holds, decl_rows, path_rows, operand_row, operand_rows, export_rows, head_rows, flatten, fields_rows, item_rows, with_operands, head_of}
@@ -33,7 +33,7 @@ use Rattle.sharing.proofs.Laws.Planned.{now, item, others, marked_ran, marked_he
 
 adds : List Declaration → Operand → ℕ
 adds ds (ref space (Num n) [] z) = 0
-adds ds (ref space (Id name) [] z) = if is_just (find ds space name) then 0 else 3
+adds ds (ref space (Id name) [] z) = when is_just (find ds space name) then 0 else 3
 adds ds (ref space at (p ∷ ps) z) = 3 * suc (length ps)
 adds ds (outer space up at z) = 0
 adds ds (case name z) = 0
@@ -43,7 +43,7 @@ adds_all ds [] = 0
 adds_all ds (o ∷ os) = adds ds o + adds_all ds os
 
 adds_head : List Declaration → Head → ℕ
-adds_head ds h = if here_only h.code then 0 else adds_all ds h.operands
+adds_head ds h = when here_only h.code then 0 else adds_all ds h.operands
 
 mutual
   adds_scope : Scope → ℕ
@@ -89,9 +89,9 @@ module _ {fs : Fields} {outside : Outside} {here : Env} {out' : Fields} (E : Clo
   operand_all fz k (ref space (Id name) [] z) l = bind_any _ _ _ (λ u. go (find ds space name) refl)
     where
       go : (o : Option ℕ) → find ds space name ≡ o
-          → OkR (λ e. Passed fz e.now → 1 + (if is_just o then 0 else 3) ≤ Grown operand_row e) (if is_just o then ok (Rules.as_it_is (ref space (Id name) [] z) k) else Rules.found_at space name z k (walk outside.scopes 1 space name))
-      go none e = unfold if◌then◌else◌ in found_all fz space name z k (walk outside.scopes 1 space name) l.1 e
-      go (some n) e = unfold if◌then◌else◌ Rules.as_it_is sizes operand_row path_rows in λ x. omega arith
+          → OkR (λ e. Passed fz e.now → 1 + (when is_just o then 0 else 3) ≤ Grown operand_row e) (when is_just o then ok (Rules.as_it_is (ref space (Id name) [] z) k) else Rules.found_at space name z k (walk outside.scopes 1 space name))
+      go none e = unfold when◌then◌else◌ in found_all fz space name z k (walk outside.scopes 1 space name) l.1 e
+      go (some n) e = unfold when◌then◌else◌ Rules.as_it_is sizes operand_row path_rows in λ x. omega arith
   operand_all fz k (ref space at (p ∷ ps) z) l = if_both (OkR _) _ _ _ tt (λ x. omega (arith, FourTimes.aliases_size space at p ps z k, paths_length ps))
   operand_all fz k (outer space up at z) l = λ x. omega arith
   operand_all fz k (case name z) l = λ x. omega arith
@@ -111,8 +111,8 @@ module _ {fs : Fields} {outside : Outside} {here : Env} {out' : Fields} (E : Clo
   head_all k h l = go (here_only h.code) refl
     where
       go : (b : Bool) → here_only h.code ≡ b → OkR (λ e. (h' : Head) → resolve_head here there e.now ≡ ok h' → length (head_rows h) + adds_head ds h ≤ Grown head_rows e) (expand_head ds there k h)
-      go true t = unfold expand_head adds_head if◌then◌else◌ Rules.as_it_is sizes in rw t (λ h' q. omega arith)
-      go false t = unfold expand_head adds_head if◌then◌else◌ with_operands in rw t (bind_ok _ _ _ _ (operands_all h.z k h.operands l) (λ es f. λ h' q.
+      go true t = unfold expand_head adds_head when◌then◌else◌ Rules.as_it_is sizes in rw t (λ h' q. omega arith)
+      go false t = unfold expand_head adds_head when◌then◌else◌ with_operands in rw t (bind_ok _ _ _ _ (operands_all h.z k h.operands l) (λ es f. λ h' q.
           let a = f [] h'.operands (OwnOperands.resolved_operands E past 0 _ h' q) in
           omega (arith, a, head_length h, head_length (with_operands h es.now))))
 
@@ -141,10 +141,10 @@ module _ (here : List Declaration) (outside : Outside) where
   operand_most seen k k' (ref space (Id name) [] z) = go (find here space name) refl
     where
       go : (o : Option ℕ) → find here space name ≡ o
-          → OkR (λ e. Grown operand_row e ≤ 1 + (if is_just o then 0 else 3))
-          (expand_operand here outside k (if◌then◌else◌ {A = Marked Operand} (is_just o) (record { now = ref space (Id name) [] z; seen = seen; k = k' }) (mark_outer seen k' space name z (served_by seen space name))).now)
-      go none e = unfold if◌then◌else◌ in outer_most seen k k' space name z (served_by seen space name)
-      go (some n) e = unfold if◌then◌else◌ expand_operand Rules.as_it_is sizes operand_row path_rows in bind_any _ _ _ (λ u. rw e (omega arith))
+          → OkR (λ e. Grown operand_row e ≤ 1 + (when is_just o then 0 else 3))
+          (expand_operand here outside k (when◌then◌else◌ {A = Marked Operand} (is_just o) (record { now = ref space (Id name) [] z; seen = seen; k = k' }) (mark_outer seen k' space name z (served_by seen space name))).now)
+      go none e = unfold when◌then◌else◌ in outer_most seen k k' space name z (served_by seen space name)
+      go (some n) e = unfold when◌then◌else◌ expand_operand Rules.as_it_is sizes operand_row path_rows in bind_any _ _ _ (λ u. rw e (omega arith))
   operand_most seen k k' (ref space at (p ∷ ps) z) = if_both (OkR _) _ _ _ tt (omega (arith, FourTimes.aliases_size space at p ps z k, paths_length ps))
   operand_most seen k k' (outer space up at z) = omega arith
   operand_most seen k k' (case name z) = omega arith
@@ -160,8 +160,8 @@ module _ (here : List Declaration) (outside : Outside) where
   head_most seen k k' h = subst (λ (m : Marked Head). OkR (λ (e : Expanded Head). Grown head_rows e ≤ length (head_rows h) + adds_head here h) (expand_head here outside k m.now)) (sym (Planned.head_by_lem here seen k' h)) (go (here_only h.code) refl)
     where
       go : (b : Bool) → here_only h.code ≡ b → OkR (λ e. Grown head_rows e ≤ length (head_rows h) + adds_head here h) (expand_head here outside k (Planned.head_by b here seen k' h).now)
-      go true t = unfold expand_head adds_head if◌then◌else◌ Rules.as_it_is sizes in rw t (omega arith)
-      go false t = unfold expand_head adds_head if◌then◌else◌ with_operands in rw t (bind_ok _ _ _ _ (operands_most seen k k' h.operands) (λ es a.
+      go true t = unfold expand_head adds_head when◌then◌else◌ Rules.as_it_is sizes in rw t (omega arith)
+      go false t = unfold expand_head adds_head when◌then◌else◌ with_operands in rw t (bind_ok _ _ _ _ (operands_most seen k k' h.operands) (λ es a.
           omega (arith, a, head_length h, head_length (with_operands h es.now), head_length (with_operands h (mark_operands here seen k' h.operands).now))))
 
 -- ---- trees

@@ -11,7 +11,7 @@ use Prim.Native.Nat.{ℕ, zero, suc, ◌+◌, ◌≤◌}
 use native.Mathlib.Omega.{arith}
 use Rattle.std.proofs.Math.Dec.{leb}
 use Rattle.std.proofs.Math.ListN.{length}
-use Rattle.rules.specs.Tools.{if◌then◌else◌, is_just, is_in, ◌or_else◌}
+use Rattle.rules.specs.Tools.{when◌then◌else◌, is_just, is_in, ◌or_else◌}
 use Rattle.rules.specs.Versions.{RuleSet, top_name}
 use Rattle.rules.specs.Rows.{Index, Num, Id}
 use Rattle.rules.specs.Tree.{Declaration, Operand, ref, outer, case, Head, Scope, scope, Fields, end, ◌▸◌, Item, plain, holds, head_of, with_operands, flatten, operand_row}
@@ -51,8 +51,8 @@ ok_bind m f h g = let r = g h.0 h.1 in (r.0, rw h.1 r.1)
 is_ok : {A : Type 0} (a : A) → IsOk (ok a)
 is_ok a = (a, refl)
 
-if_same : {A : Type 0} (b : Bool) (x : A) → (if b then x else x) ≡ x
-unfolding if◌then◌else◌
+if_same : {A : Type 0} (b : Bool) (x : A) → (when b then x else x) ≡ x
+unfolding when◌then◌else◌
 if_same true x = refl
 if_same false x = refl
 
@@ -117,11 +117,11 @@ number_like e₀ e space (Id n) z L l h =
 -- ---- names that come in time
 
 in_time_lem : (late : Bool) (z : ℕ) → late ≡ false → Rules.in_time late z ≡ ok tt
-unfolding Rules.in_time if◌then◌else◌
+unfolding Rules.in_time when◌then◌else◌
 in_time_lem late z e = rw e
 
 was_in_time : (late : Bool) (z : ℕ) (u : Unit {0}) → Rules.in_time late z ≡ ok u → late ≡ false
-unfolding Rules.in_time if◌then◌else◌
+unfolding Rules.in_time when◌then◌else◌
 was_in_time true z u e = no_result Rules.not_earlier z u e
 was_in_time false z u e = refl
 
@@ -154,18 +154,18 @@ nowhere_late [] d space n w = refl
 nowhere_late (e ∷ es) d space n w = go (find (table_of e) space n) w (λ q. nowhere_late es (suc d) space n q)
   where
     go : (o : Option ℕ) → (Option.map (λ m. (d, m)) o or_else walk es (suc d) space n) ≡ none → (walk es (suc d) space n ≡ none → Rules.comes_later_out es space n ≡ false)
-        → (if is_just o then Rules.comes_later (table_of e) e.before space n else Rules.comes_later_out es space n) ≡ false
-    go none q r = unfold if◌then◌else◌ in r (unfold ◌or_else◌ in q)
+        → (when is_just o then Rules.comes_later (table_of e) e.before space n else Rules.comes_later_out es space n) ≡ false
+    go none q r = unfold when◌then◌else◌ in r (unfold ◌or_else◌ in q)
     go (some m) q r = let no : ◌≡◌ {A = Option (ℕ × ℕ)} none (some (d, m)) = unfold ◌or_else◌ in sym q in no_option (d, m) no
 
 fresh_late : (ds : List Declaration) (o : Outside) (space j : ℕ) → find ds space (fresh j) ≡ none → walk o.scopes 1 space (fresh j) ≡ none → Rules.late_name ds o space (fresh j) ≡ false
-unfolding Rules.late_name if◌then◌else◌
+unfolding Rules.late_name when◌then◌else◌
 fresh_late ds o space j e w = rw (e, nowhere_late o.scopes 1 space (fresh j) w) (and-false o.early)
 
 -- a walked name that comes in time
 name_expands : (ds : List Declaration) (o : Outside) (k space n z : ℕ) → Rules.late_name ds o space n ≡ false
-    → expand_operand ds o k (ref space (Id n) [] z) ≡ (if is_just (find ds space n) then ok (Rules.as_it_is (ref space (Id n) [] z) k) else Rules.found_at space n z k (walk o.scopes 1 space n))
-unfolding expand_operand Rules.in_time ◌>>=◌ if◌then◌else◌
+    → expand_operand ds o k (ref space (Id n) [] z) ≡ (when is_just (find ds space n) then ok (Rules.as_it_is (ref space (Id n) [] z) k) else Rules.found_at space n z k (walk o.scopes 1 space n))
+unfolding expand_operand Rules.in_time ◌>>=◌ when◌then◌else◌
 name_expands ds o k space n z e = rw e
 
 outer_like : (early early₀ : Bool) (es₀ es : List Env) (fz space : ℕ) (up at : Index) (z : ℕ) → early ≡ early₀ → LikeEnvs es₀ es → LegalIndex top_name at
@@ -209,8 +209,8 @@ resolve_outer_like early early₀ es₀ es fz space (Id name) at z q L l h = out
 
 -- ---- declarations that are there
 
-just_cases : (s n : Bool) (o : Option ℕ) → is_just o ≡ true → is_just (if s then if n then some 0 else Option.map suc o else o) ≡ true
-unfolding if◌then◌else◌
+just_cases : (s n : Bool) (o : Option ℕ) → is_just o ≡ true → is_just (when s then when n then some 0 else Option.map suc o else o) ≡ true
+unfolding when◌then◌else◌
 just_cases true true o e = refl
 just_cases true false none e = e
 just_cases true false (some x) e = refl
@@ -221,7 +221,7 @@ unfolding find
 just_later d ds space n e = just_cases (eqb d.space space) (eqb d.name n) (find ds space n) e
 
 just_here : (space n z : ℕ) (ds : List Declaration) → is_just (find (record { space = space; name = n; z = z } ∷ ds) space n) ≡ true
-unfolding find if◌then◌else◌
+unfolding find when◌then◌else◌
 just_here space n z ds = rw (eqb_same space, eqb_same n)
 
 just_append : (xs ys : List Declaration) (space n : ℕ) → is_just (find (xs ++ ys) space n) ≡ is_just (find xs space n) || is_just (find ys space n)
@@ -230,13 +230,13 @@ just_append [] ys space n = refl
 just_append (d ∷ xs) ys space n = go (eqb d.space space) (eqb d.name n) (find (xs ++ ys) space n) (find xs space n) (just_append xs ys space n)
   where
     go : (s t : Bool) (o p : Option ℕ) → is_just o ≡ is_just p || is_just (find ys space n)
-        → is_just (if s then if t then some 0 else Option.map suc o else o) ≡ is_just (if s then if t then some 0 else Option.map suc p else p) || is_just (find ys space n)
-    go true true o p e = unfold if◌then◌else◌ in refl
-    go true false none none e = unfold if◌then◌else◌ in e
-    go true false none (some q) e = unfold if◌then◌else◌ in e
-    go true false (some m) none e = unfold if◌then◌else◌ in e
-    go true false (some m) (some q) e = unfold if◌then◌else◌ in refl
-    go false t o p e = unfold if◌then◌else◌ in e
+        → is_just (when s then when t then some 0 else Option.map suc o else o) ≡ is_just (when s then when t then some 0 else Option.map suc p else p) || is_just (find ys space n)
+    go true true o p e = unfold when◌then◌else◌ in refl
+    go true false none none e = unfold when◌then◌else◌ in e
+    go true false none (some q) e = unfold when◌then◌else◌ in e
+    go true false (some m) none e = unfold when◌then◌else◌ in e
+    go true false (some m) (some q) e = unfold when◌then◌else◌ in refl
+    go false t o p e = unfold when◌then◌else◌ in e
 
 -- a walked name is declared here or further out
 abbrev pub Reaching : List Declaration → List Env → Operand → Type 0
@@ -312,7 +312,7 @@ module _ (here₀ here : Env) (outside₀ outside : Outside) (likes : LikeOutsid
   alias_goes code space n from at p z h = ok_bind _ _ (ok_bind (number_in here.entries from at z) _ h (λ m q. ok_bind _ _ (is_ok []) (λ os r. is_ok _))) (λ os q. is_ok _)
 
   from_space : ℕ → List ℕ → ℕ
-  from_space space [] = if leb space 6 then 6 else 10
+  from_space space [] = when leb space 6 then 6 else 10
   from_space space (q ∷ ps) = 10
 
   alias_decl : (code space n from : ℕ) (at : Index) (p z : ℕ) (hs : List Head) → heads_decls (export_alias code space n from at p z ∷ hs) ≡ record { space = space; name = n; z = z } ∷ heads_decls hs
@@ -342,10 +342,10 @@ module _ (here₀ here : Env) (outside₀ outside : Outside) (likes : LikeOutsid
   unfolding path_aliases from_space
   paths_go space at p [] z k t h late s = go (leb space 6) h late
     where
-      go : (b : Bool) → IsOk (number_in here.entries (if b then 6 else 10) at z) → Rules.late_instance here outside (ref (if b then 6 else 10) at [] z ∷ []) ≡ false
-          → IsOk (resolve_inserted here outside ((if b then export_alias 10 space (fresh k) 6 at p z else export_alias 9 space (fresh k) 10 at p z) ∷ []))
-      go true h late = unfold if◌then◌else◌ in alias_first 10 space (fresh k) 6 at p z [] late h none_inserted
-      go false h late = unfold if◌then◌else◌ in alias_first 9 space (fresh k) 10 at p z [] late h none_inserted
+      go : (b : Bool) → IsOk (number_in here.entries (when b then 6 else 10) at z) → Rules.late_instance here outside (ref (when b then 6 else 10) at [] z ∷ []) ≡ false
+          → IsOk (resolve_inserted here outside ((when b then export_alias 10 space (fresh k) 6 at p z else export_alias 9 space (fresh k) 10 at p z) ∷ []))
+      go true h late = unfold when◌then◌else◌ in alias_first 10 space (fresh k) 6 at p z [] late h none_inserted
+      go false h late = unfold when◌then◌else◌ in alias_first 9 space (fresh k) 10 at p z [] late h none_inserted
   paths_go space at p (q ∷ ps) z k t h late s =
       let high = OwnOperands.high_space space (length ps) t in
       let sub = subst SubIn (alias_decl 9 10 (fresh k) 10 at p z (path_aliases space (Id (fresh k)) q ps z (suc k))) s in
@@ -355,7 +355,7 @@ module _ (here₀ here : Env) (outside₀ outside : Outside) (likes : LikeOutsid
       (subst (λ (y : ℕ). IsOk (number_in here.entries y (Id (fresh k)) z)) (sym (high_from space ps high)) (has_number 10 k z has)) (fresh_instance (from_space space ps) k z) (λ sp n e. sub sp n (just_later _ _ sp n e)))
     where
       high_from : (space : ℕ) (ps : List ℕ) → leb 7 space ≡ true → from_space space ps ≡ 10
-      high_from space [] t = let l = leb_le 7 space t in unfold from_space if◌then◌else◌ in rw (leb-false space 6 (omega arith))
+      high_from space [] t = let l = leb_le 7 space t in unfold from_space when◌then◌else◌ in rw (leb-false space 6 (omega arith))
       high_from space (q ∷ ps) t = unfold from_space in refl
 
   paths_first : (space : ℕ) (at : Index) (p : ℕ) (ps : List ℕ) (z k : ℕ) → IsOk (resolve_inserted here₀ outside₀ (path_aliases space at p ps z k))
@@ -363,21 +363,21 @@ module _ (here₀ here : Env) (outside₀ outside : Outside) (likes : LikeOutsid
   unfolding path_aliases from_space
   paths_first space at p [] z k h = go (leb space 6) h
     where
-      go : (b : Bool) → IsOk (resolve_inserted here₀ outside₀ ((if b then export_alias 10 space (fresh k) 6 at p z else export_alias 9 space (fresh k) 10 at p z) ∷ []))
-          → IsOk (number_in here₀.entries (if b then 6 else 10) at z) × (Rules.late_instance here₀ outside₀ (ref (if b then 6 else 10) at [] z ∷ []) ≡ false)
-      go true h = unfold if◌then◌else◌ in alias_was 10 space (fresh k) 6 at p z [] (unfold if◌then◌else◌ in h)
-      go false h = unfold if◌then◌else◌ in alias_was 9 space (fresh k) 10 at p z [] (unfold if◌then◌else◌ in h)
+      go : (b : Bool) → IsOk (resolve_inserted here₀ outside₀ ((when b then export_alias 10 space (fresh k) 6 at p z else export_alias 9 space (fresh k) 10 at p z) ∷ []))
+          → IsOk (number_in here₀.entries (when b then 6 else 10) at z) × (Rules.late_instance here₀ outside₀ (ref (when b then 6 else 10) at [] z ∷ []) ≡ false)
+      go true h = unfold when◌then◌else◌ in alias_was 10 space (fresh k) 6 at p z [] (unfold when◌then◌else◌ in h)
+      go false h = unfold when◌then◌else◌ in alias_was 9 space (fresh k) 10 at p z [] (unfold when◌then◌else◌ in h)
   paths_first space at p (q ∷ ps) z k h = alias_was 9 10 (fresh k) 10 at p z _ h
 
   paths_has : (space : ℕ) (at : Index) (p : ℕ) (ps : List ℕ) (z k j : ℕ) → j ≡ k + length ps → is_just (find (heads_decls (path_aliases space at p ps z k)) space (fresh j)) ≡ true
   unfolding path_aliases
   paths_has space at p [] z k j e =
       let same : j ≡ k = omega arith in
-      subst (λ (x : ℕ). is_just (find (heads_decls ((if leb space 6 then export_alias 10 space (fresh k) 6 at p z else export_alias 9 space (fresh k) 10 at p z) ∷ [])) space (fresh x)) ≡ true) (sym same) (go (leb space 6))
+      subst (λ (x : ℕ). is_just (find (heads_decls ((when leb space 6 then export_alias 10 space (fresh k) 6 at p z else export_alias 9 space (fresh k) 10 at p z) ∷ [])) space (fresh x)) ≡ true) (sym same) (go (leb space 6))
     where
-      go : (b : Bool) → is_just (find (heads_decls ((if b then export_alias 10 space (fresh k) 6 at p z else export_alias 9 space (fresh k) 10 at p z) ∷ [])) space (fresh k)) ≡ true
-      go true = unfold if◌then◌else◌ heads_decls export_alias in just_here space (fresh k) z []
-      go false = unfold if◌then◌else◌ heads_decls export_alias in just_here space (fresh k) z []
+      go : (b : Bool) → is_just (find (heads_decls ((when b then export_alias 10 space (fresh k) 6 at p z else export_alias 9 space (fresh k) 10 at p z) ∷ [])) space (fresh k)) ≡ true
+      go true = unfold when◌then◌else◌ heads_decls export_alias in just_here space (fresh k) z []
+      go false = unfold when◌then◌else◌ heads_decls export_alias in just_here space (fresh k) z []
   paths_has space at p (q ∷ ps) z k j e =
       subst (λ (x : List Declaration). is_just (find x space (fresh j)) ≡ true) (sym (alias_decl 9 10 (fresh k) 10 at p z (path_aliases space (Id (fresh k)) q ps z (suc k))))
       (just_later _ _ space (fresh j) (paths_has space (Id (fresh k)) q ps z (suc k) j (omega arith)))
@@ -401,7 +401,7 @@ module _ (here₀ here : Env) (outside₀ outside : Outside) (likes : LikeOutsid
   -- the first reference to an outer declaration: the base run found it at `at₀`
   first_go : (seen : List Served) (k k' space n z : ℕ) (e₀ : Expanded Operand) (at : Index) (w : Option (ℕ × ℕ)) → e₀.now ≡ ref space at [] z → is_in space FOUR ≡ true → is_just w ≡ true → k ≡ k'
       → (e : Expanded Operand) × (Rules.found_at space n z k w ≡ ok e) × Sim seen (mark_outer seen k' space n z none) e₀ e
-  unfolding Rules.found_at Rules.through mark_outer if◌then◌else◌
+  unfolding Rules.found_at Rules.through mark_outer when◌then◌else◌
   first_go seen k k' space n z e₀ at none b four f q = false_not f
   first_go seen k k' space n z e₀ at (some w) b four f q =
       let has : SubIn (heads_decls (outer_alias space (fresh k) w.0 w.1 z ∷ [])) → Has space (fresh k) = λ s. s space (fresh k) (subst (λ (x : List Declaration). is_just (find x space (fresh k)) ≡ true) (sym (outer_decl space (fresh k) w.0 w.1 z)) (just_here space (fresh k) z [])) in (
@@ -432,14 +432,14 @@ module _ (here₀ here : Env) (outside₀ outside : Outside) (likes : LikeOutsid
       )
     where
       stays : walk outside.scopes 1 space (fresh j) ≡ none
-          → (if is_just (find ds space (fresh j)) then ok (Rules.as_it_is (ref space (Id (fresh j)) [] z) k) else Rules.found_at space (fresh j) z k (walk outside.scopes 1 space (fresh j))) ≡ ok (Rules.as_it_is (ref space (Id (fresh j)) [] z) k)
-      stays unseen = unfold Rules.found_at if◌then◌else◌ in rw (unnamed space j, unseen)
+          → (when is_just (find ds space (fresh j)) then ok (Rules.as_it_is (ref space (Id (fresh j)) [] z) k) else Rules.found_at space (fresh j) z k (walk outside.scopes 1 space (fresh j))) ≡ ok (Rules.as_it_is (ref space (Id (fresh j)) [] z) k)
+      stays unseen = unfold Rules.found_at when◌then◌else◌ in rw (unnamed space j, unseen)
 
   outer_go : (seen : List Served) (k k' space n z : ℕ) (o : Option ℕ) (e₀ : Expanded Operand) (at : Index) → e₀.now ≡ ref space at [] z → is_in space FOUR ≡ true → is_just (walk outside.scopes 1 space n) ≡ true → find ds space n ≡ none
       → Rules.late_name ds outside space n ≡ false → served_by seen space n ≡ o → Late start seen → k ≡ k' → Goes seen k (mark_outer seen k' space n z o) e₀
   outer_go seen k k' space n z none e₀ at b four w e time f late q =
       let F = first_go seen k k' space n z e₀ at (walk outside.scopes 1 space n) b four w q in
-      (F.0, unfold mark_outer in (name_expands ds outside k space n z time ∙ (unfold if◌then◌else◌ in rw e F.1)), F.2)
+      (F.0, unfold mark_outer in (name_expands ds outside k space n z time ∙ (unfold when◌then◌else◌ in rw e F.1)), F.2)
   outer_go seen k k' space n z (some j) e₀ at b four w e time f late q = later_go seen k k' space n z j e₀ at b f late q
 
   found_go : (seen : List Served) (k₀ k k' space n z : ℕ) (o : Option (ℕ × ℕ)) → is_just o ≡ true → is_just (walk outside.scopes 1 space n) ≡ true → find ds space n ≡ none → Rules.late_name ds outside space n ≡ false → Late start seen → k ≡ k'
@@ -447,20 +447,20 @@ module _ (here₀ here : Env) (outside₀ outside : Outside) (likes : LikeOutsid
   found_go seen k₀ k k' space n z none f w e time late q = false_not f
   found_go seen k₀ k k' space n z (some at) f w e time late q = unfold Rules.found_at in go (is_in space FOUR) refl
     where
-      go : (b : Bool) → is_in space FOUR ≡ b → OkR (Goes seen k (mark_outer seen k' space n z (served_by seen space n))) (if b then ok (Rules.through space z k₀ (outer_alias space (fresh k₀) at.0 at.1 z ∷ [])) else Result.refused (Rules.not_outer space) z)
-      go true four = unfold if◌then◌else◌ in outer_go seen k k' space n z (served_by seen space n) (Rules.through space z k₀ (outer_alias space (fresh k₀) at.0 at.1 z ∷ [])) (Id (fresh k₀)) (unfold Rules.through in refl) four w e time refl late q
-      go false four = unfold if◌then◌else◌ in tt
+      go : (b : Bool) → is_in space FOUR ≡ b → OkR (Goes seen k (mark_outer seen k' space n z (served_by seen space n))) (when b then ok (Rules.through space z k₀ (outer_alias space (fresh k₀) at.0 at.1 z ∷ [])) else Result.refused (Rules.not_outer space) z)
+      go true four = unfold when◌then◌else◌ in outer_go seen k k' space n z (served_by seen space n) (Rules.through space z k₀ (outer_alias space (fresh k₀) at.0 at.1 z ∷ [])) (Id (fresh k₀)) (unfold Rules.through in refl) four w e time refl late q
+      go false four = unfold when◌then◌else◌ in tt
 
   name_go : (seen : List Served) (k₀ k k' space n z : ℕ) (o : Option ℕ) → LowOperand (ref space (Id n) [] z) → is_just (find ds space n) || is_just (walk outside₀.scopes 1 space n) ≡ true → find ds space n ≡ o
       → Rules.late_name ds outside space n ≡ false → Late start seen → k ≡ k'
-      → OkR (Goes seen k (if is_just o then record { now = ref space (Id n) [] z; seen = seen; k = k' } else mark_outer seen k' space n z (served_by seen space n)))
-      (if is_just o then ok (Rules.as_it_is (ref space (Id n) [] z) k₀) else Rules.found_at space n z k₀ (walk outside₀.scopes 1 space n))
-  unfolding if◌then◌else◌
+      → OkR (Goes seen k (when is_just o then record { now = ref space (Id n) [] z; seen = seen; k = k' } else mark_outer seen k' space n z (served_by seen space n)))
+      (when is_just o then ok (Rules.as_it_is (ref space (Id n) [] z) k₀) else Rules.found_at space n z k₀ (walk outside₀.scopes 1 space n))
+  unfolding when◌then◌else◌
   name_go seen k₀ k k' space n z none l r e time late q =
       let far₀ : is_just (walk outside₀.scopes 1 space n) ≡ true = rw e at r in
       found_go seen k₀ k k' space n z (walk outside₀.scopes 1 space n) far₀ (walk_like outside₀.scopes outside.scopes 1 space n likes.scopes l.1 ∙ far₀) e time late q
   name_go seen k₀ k k' space n z (some m) l r e time late q =
-      (Rules.as_it_is (ref space (Id n) [] z) k, name_expands ds outside k space n z time ∙ (unfold if◌then◌else◌ in rw e), kept (ref space (Id n) [] z) seen k₀ k k' l q)
+      (Rules.as_it_is (ref space (Id n) [] z) k, name_expands ds outside k space n z time ∙ (unfold when◌then◌else◌ in rw e), kept (ref space (Id n) [] z) seen k₀ k k' l q)
 
   operand_go : (seen : List Served) (k₀ k k' : ℕ) (o : Operand) → LowOperand o → PathsOk o → Reaches o → Late start seen → k ≡ k' → OkR (Goes seen k (mark_operand ds seen k' o)) (expand_operand ds outside₀ k₀ o)
   unfolding expand_operand mark_operand
@@ -469,9 +469,9 @@ module _ (here₀ here : Env) (outside₀ outside : Outside) (likes : LikeOutsid
       bind_eq _ _ _ (λ u p. name_go seen k₀ k k' space n z (find ds space n) l r refl (late_like ds outside₀ outside space n likes l.1 ∙ was_in_time _ z u p) late q)
   operand_go seen k₀ k k' (ref space at (p ∷ ps) z) l t r late q = go (is_in space (4 ∷ 6 ∷ [])) refl
     where
-      go : (b : Bool) → is_in space (4 ∷ 6 ∷ []) ≡ b → OkR (Goes seen k (record { now = ref space at (p ∷ ps) z; seen = seen; k = suc (k' + length ps) })) (if b then Result.refused Rules.not_exported z else ok (Rules.through space z (k₀ + length ps) (path_aliases space at p ps z k₀)))
-      go true e = unfold if◌then◌else◌ in tt
-      go false e = unfold if◌then◌else◌ expand_operand Rules.through in (
+      go : (b : Bool) → is_in space (4 ∷ 6 ∷ []) ≡ b → OkR (Goes seen k (record { now = ref space at (p ∷ ps) z; seen = seen; k = suc (k' + length ps) })) (when b then Result.refused Rules.not_exported z else ok (Rules.through space z (k₀ + length ps) (path_aliases space at p ps z k₀)))
+      go true e = unfold when◌then◌else◌ in tt
+      go false e = unfold when◌then◌else◌ expand_operand Rules.through in (
         Rules.through space z (k + length ps) (path_aliases space at p ps z k),
         rw e,
         record {
@@ -571,9 +571,9 @@ module _ (here₀ here : Env) (outside₀ outside : Outside) (likes : LikeOutsid
       ok_bind _ _ (resolve_outer_like outside.early outside₀.early (opened here₀ outside₀) (opened here outside) fz space up at z likes.early (opened_like here₀ here outside₀ outside like likes) l.1 (s₁.0, s₁.1)) (λ n p. ok_bind _ _ (pairs_go fz cases os₀ os ps (s₂.0, s₂.1)) (λ x q. is_ok _))
   pairs_go fz cases (case n z ∷ os₀) (o ∷ os) (and_pair (input l) ps) h = case_go (not (eqb n 0) && is_in n cases) (resolve_operands here₀ outside₀ fz (n ∷ cases) os₀) (resolve_operands here outside fz (n ∷ cases) os) h (λ x. pairs_go fz (n ∷ cases) os₀ os ps x)
     where
-      case_go : (b : Bool) (m₀ m : Result (List Operand)) → IsOk (if b then Result.refused Rules.case_twice z else (m₀ >>= λ os'. ok (case n z ∷ os'))) → (IsOk m₀ → IsOk m) → IsOk (if b then Result.refused Rules.case_twice z else (m >>= λ os'. ok (case n z ∷ os')))
-      case_go true m₀ m h f = unfold if◌then◌else◌ in h
-      case_go false m₀ m h f = unfold if◌then◌else◌ in (let s₁ = bind_inv m₀ _ h.0 h.1 in ok_bind m _ (f (s₁.0, s₁.1)) (λ x q. is_ok _))
+      case_go : (b : Bool) (m₀ m : Result (List Operand)) → IsOk (when b then Result.refused Rules.case_twice z else (m₀ >>= λ os'. ok (case n z ∷ os'))) → (IsOk m₀ → IsOk m) → IsOk (when b then Result.refused Rules.case_twice z else (m >>= λ os'. ok (case n z ∷ os')))
+      case_go true m₀ m h f = unfold when◌then◌else◌ in h
+      case_go false m₀ m h f = unfold when◌then◌else◌ in (let s₁ = bind_inv m₀ _ h.0 h.1 in ok_bind m _ (f (s₁.0, s₁.1)) (λ x q. is_ok _))
   pairs_go fz cases [] (o ∷ os) x4 h = elim x4 [ ]
   pairs_go fz cases (ref space at paths z ∷ os₀) [] x6 h = elim x6 [ ]
   pairs_go fz cases (outer space up at z ∷ os₀) [] x7 h = elim x7 [ ]
@@ -597,9 +597,9 @@ module _ (here₀ here : Env) (outside₀ outside : Outside) (likes : LikeOutsid
     where
       go : (b : Bool) → here_only h.code ≡ b
           → OkR (λ e₀. (e : Expanded Head) × (expand_head ds outside k (Planned.head_by b ds seen k' h).now ≡ ok e) × Sims HeadGoes seen (Planned.head_by b ds seen k' h) e₀ e) (expand_head ds outside₀ k₀ h)
-      go true e = unfold expand_head if◌then◌else◌ Rules.as_it_is in rw e
+      go true e = unfold expand_head when◌then◌else◌ Rules.as_it_is in rw e
           (record { inserted = []; rows = []; now = h; k = k }, refl, record { next = q; pairs = λ s g. head_pairs h h refl (low_pairs h.operands l); goes = λ s g. none_inserted; held = λ s g. g })
-      go false e = unfold expand_head if◌then◌else◌ with_operands in rw e (bind_ok _ _ _ _ (operands_go seen k₀ k k' h.operands l t (r e) late s q) (λ e₀ G. (
+      go false e = unfold expand_head when◌then◌else◌ with_operands in rw e (bind_ok _ _ _ _ (operands_go seen k₀ k k' h.operands l t (r e) late s q) (λ e₀ G. (
         record { inserted = G.0.inserted; rows = G.0.rows; now = with_operands (with_operands h (mark_operands ds seen k' h.operands).now) G.0.now; k = G.0.k },
         unfold ◌>>=◌ with_operands in rw G.1,
         record { next = G.2.next; pairs = λ s g. head_pairs (with_operands h e₀.now) (with_operands (with_operands h (mark_operands ds seen k' h.operands).now) G.0.now) (unfold with_operands in refl) (unfold with_operands in G.2.pairs s g); goes = G.2.goes; held = G.2.held },
@@ -635,9 +635,9 @@ module _ {fs : Fields} {outside : Outside} {here : Env} {out' : Fields} (E : Clo
   operand_reach fz k (ref space (Id n) [] z) l = bind_any _ _ _ (λ u. go (find table space n) refl)
     where
       go : (o : Option ℕ) → find table space n ≡ o
-          → OkR (λ e. Passed fz e.now → is_just o || is_just (walk outside.scopes 1 space n) ≡ true) (if is_just o then ok (Rules.as_it_is (ref space (Id n) [] z) k) else Rules.found_at space n z k (walk outside.scopes 1 space n))
-      go none e = unfold if◌then◌else◌ in found_reach fz space n z k (walk outside.scopes 1 space n) l.1 e
-      go (some m) e = unfold if◌then◌else◌ in λ x. refl
+          → OkR (λ e. Passed fz e.now → is_just o || is_just (walk outside.scopes 1 space n) ≡ true) (when is_just o then ok (Rules.as_it_is (ref space (Id n) [] z) k) else Rules.found_at space n z k (walk outside.scopes 1 space n))
+      go none e = unfold when◌then◌else◌ in found_reach fz space n z k (walk outside.scopes 1 space n) l.1 e
+      go (some m) e = unfold when◌then◌else◌ in λ x. refl
   operand_reach fz k (ref space (Num n) (p ∷ ps) z) l = if_both (OkR _) _ _ _ tt (λ x. tt)
   operand_reach fz k (ref space (Id n) (p ∷ ps) z) l = if_both (OkR _) _ _ _ tt (λ x. tt)
   operand_reach fz k (outer space up at z) l = λ x. tt
@@ -654,8 +654,8 @@ module _ {fs : Fields} {outside : Outside} {here : Env} {out' : Fields} (E : Clo
   head_reach k h l = go (here_only h.code) refl
     where
       go : (b : Bool) → here_only h.code ≡ b → OkR (λ e. (h' : Head) → resolve_head here there e.now ≡ ok h' → here_only h.code ≡ false → All (Reaching table outside.scopes) h.operands) (expand_head table there k h)
-      go true t = unfold expand_head if◌then◌else◌ in rw t (λ h' q f. false_not (sym f))
-      go false t = unfold expand_head if◌then◌else◌ with_operands in rw t (bind_ok _ _ _ _ (operands_reach h.z k h.operands l) (λ es f. λ h' q e. f [] h'.operands (OwnOperands.resolved_operands E past 0 _ h' q)))
+      go true t = unfold expand_head when◌then◌else◌ in rw t (λ h' q f. false_not (sym f))
+      go false t = unfold expand_head when◌then◌else◌ with_operands in rw t (bind_ok _ _ _ _ (operands_reach h.z k h.operands l) (λ es f. λ h' q e. f [] h'.operands (OwnOperands.resolved_operands E past 0 _ h' q)))
 
 module _ {fs : Fields} {outside : Outside} {here : Env} {out' : Fields} (E : Closed fs outside here out') where
   level_fine : (past : Before) (gs : Fields) (b k : ℕ) (res : Fields × ℕ) → LowFields gs → resolve_fields gs (declarations fs) here (seeing outside past) b k ≡ ok res → FineFields gs (declarations fs) outside.scopes

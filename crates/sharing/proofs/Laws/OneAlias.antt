@@ -10,7 +10,7 @@ use mathlib.Core.List.{List, [], ◌∷◌, ◌++◌, map, append_assoc}
 use Prim.Native.Nat.{ℕ, zero, suc, ◌≤◌}
 use native.Mathlib.Omega.{arith}
 use Rattle.std.proofs.Math.Dec.{eqb}
-use Rattle.rules.specs.Tools.{if◌then◌else◌, only, is_just, ◌or_else◌}
+use Rattle.rules.specs.Tools.{when◌then◌else◌, only, is_just, ◌or_else◌}
 use Rattle.rules.specs.Rows.{Index, Num, Id}
 use Rattle.rules.specs.Tree.{Declaration, Operand, ref, outer, case, Head, Scope, scope, Fields, end, ◌▸◌, Item, plain, holds, head_of, with_operands}
 use Rattle.rules.specs.Shapes.{here_only}
@@ -47,7 +47,7 @@ operand_keys (case name z ∷ os) = []
 
 -- that of an inserted outer alias
 unfoldable pub head_keys : Head → List Key
-head_keys h = if is_inserted h && eqb h.code 11 then operand_keys h.operands else []
+head_keys h = when is_inserted h && eqb h.code 11 then operand_keys h.operands else []
 
 -- those of a scope
 unfoldable pub outer_keys : Fields → List Key
@@ -95,15 +95,15 @@ find_same (d ∷ ds) space a b n e f = go (eqb d.space space) (eqb d.name a) (eq
     never_zero (some x) p = let q : suc x ≡ 0 = some_same (suc x) 0 p in absurd (omega arith)
 
     go : (s x y : Bool) (n : ℕ) → eqb d.name a ≡ x → eqb d.name b ≡ y
-        → (if s then if x then some 0 else Option.map suc (find ds space a) else find ds space a) ≡ some n
-        → (if s then if y then some 0 else Option.map suc (find ds space b) else find ds space b) ≡ some n
+        → (when s then when x then some 0 else Option.map suc (find ds space a) else find ds space a) ≡ some n
+        → (when s then when y then some 0 else Option.map suc (find ds space b) else find ds space b) ≡ some n
         → ((m : ℕ) → find ds space a ≡ some m → find ds space b ≡ some m → a ≡ b) → a ≡ b
-    go false x y n p q e f r = unfold if◌then◌else◌ in r n e f
+    go false x y n p q e f r = unfold when◌then◌else◌ in r n e f
     go true true true n p q e f r = sym (eqb-true d.name a p) ∙ eqb-true d.name b q
-    go true true false n p q e f r = unfold if◌then◌else◌ in never_zero (find ds space b) (f ∙ sym e)
-    go true false true n p q e f r = unfold if◌then◌else◌ in never_zero (find ds space a) (e ∙ sym f)
-    go true false false zero p q e f r = unfold if◌then◌else◌ in never_zero (find ds space a) e
-    go true false false (suc n) p q e f r = unfold if◌then◌else◌ in r n (suc_same n (find ds space a) e) (suc_same n (find ds space b) f)
+    go true true false n p q e f r = unfold when◌then◌else◌ in never_zero (find ds space b) (f ∙ sym e)
+    go true false true n p q e f r = unfold when◌then◌else◌ in never_zero (find ds space a) (e ∙ sym f)
+    go true false false zero p q e f r = unfold when◌then◌else◌ in never_zero (find ds space a) e
+    go true false false (suc n) p q e f r = unfold when◌then◌else◌ in r n (suc_same n (find ds space a) e) (suc_same n (find ds space b) f)
 
 walk_far : (es : List Env) (d space name : ℕ) → Ok (λ at. d ≤ at.0) (walk es d space name)
 unfolding walk ◌or_else◌
@@ -165,15 +165,15 @@ matches_self at space = rw (eqb_same at.0, eqb_same at.1)
 
 -- a name that nothing remembered serves: its key is new
 new_key : (outside : List Env) (seen : List Served) (space name : ℕ) (at : ℕ × ℕ) → served_by seen space name ≡ none → walk outside 1 space name ≡ some at → covered outside seen (space, at.0, at.1) ≡ false
-unfolding served_by covered covers if◌then◌else◌
+unfolding served_by covered covers when◌then◌else◌
 new_key outside [] space name at e w = refl
 new_key outside (m ∷ ms) space name at e w =
     go (eqb m.space space) (matches (walk outside 1 m.space m.name) (space, at.0, at.1)) (eqb m.name name) refl refl refl e (λ f. new_key outside ms space name at f w)
   where
     go : (a b n : Bool) → eqb m.space space ≡ a → matches (walk outside 1 m.space m.name) (space, at.0, at.1) ≡ b → eqb m.name name ≡ n
-        → (if a && n then some m.k else served_by ms space name) ≡ none → (served_by ms space name ≡ none → covered outside ms (space, at.0, at.1) ≡ false)
+        → (when a && n then some m.k else served_by ms space name) ≡ none → (served_by ms space name ≡ none → covered outside ms (space, at.0, at.1) ≡ false)
         → (a && b) || covered outside ms (space, at.0, at.1) ≡ false
-    go true true true p q r f g = unfold if◌then◌else◌ in no_option m.k (sym f)
+    go true true true p q r f g = unfold when◌then◌else◌ in no_option m.k (sym f)
     go true true false p q r f g =
         let same_space : m.space ≡ space = eqb-true m.space space p in
         let there : walk outside 1 m.space m.name ≡ some at = matches_at (walk outside 1 m.space m.name) (space, at.0, at.1) q in
@@ -181,10 +181,10 @@ new_key outside (m ∷ ms) space name at e w =
         false_not (sym r ∙ (ap (λ (x : ℕ). eqb x name) same_name ∙ eqb_same name))
     go true false n p q r f g = g (unserved n f)
       where
-        unserved : (n : Bool) → (if true && n then some m.k else served_by ms space name) ≡ none → served_by ms space name ≡ none
-        unserved true f = unfold if◌then◌else◌ in no_option m.k (sym f)
-        unserved false f = unfold if◌then◌else◌ in f
-    go false b n p q r f g = g (unfold if◌then◌else◌ in f)
+        unserved : (n : Bool) → (when true && n then some m.k else served_by ms space name) ≡ none → served_by ms space name ≡ none
+        unserved true f = unfold when◌then◌else◌ in no_option m.k (sym f)
+        unserved false f = unfold when◌then◌else◌ in f
+    go false b n p q r f g = g (unfold when◌then◌else◌ in f)
 
 -- ---- keys that are new, and are then remembered
 
@@ -254,19 +254,19 @@ data Sort : Head → Type 0 where
   other : {h : Head} → eqb h.code 11 ≡ false → Sort h
 
 outer_keys_lem : (space k d n z : ℕ) → head_keys (outer_alias space (fresh k) d n z) ≡ (space, d, n) ∷ []
-unfolding head_keys outer_alias operand_keys if◌then◌else◌
+unfolding head_keys outer_alias operand_keys when◌then◌else◌
 outer_keys_lem space k d n z =
     let t : is_inserted (outer_alias space (fresh k) d n z) ≡ true = Lookups.new_inserted k (suc k) (outer_alias space (fresh k) d n z)
     (record { decl = record { space = space; name = fresh k; z = z }; alone = unfold outer_alias in refl; number = k; named = refl; low = omega arith; high = omega arith }) in
     rw t
 
 other_keys : (h : Head) → eqb h.code 11 ≡ false → head_keys h ≡ []
-unfolding head_keys if◌then◌else◌
+unfolding head_keys when◌then◌else◌
 other_keys h e = rw e (go (is_inserted h))
   where
-    go : (b : Bool) → (if b && false then operand_keys h.operands else []) ≡ []
-    go true = unfold if◌then◌else◌ in refl
-    go false = unfold if◌then◌else◌ in refl
+    go : (b : Bool) → (when b && false then operand_keys h.operands else []) ≡ []
+    go true = unfold when◌then◌else◌ in refl
+    go false = unfold when◌then◌else◌ in refl
 
 paths_sort : (space : ℕ) (at : Index) (p : ℕ) (ps : List ℕ) (z k : ℕ) → All Sort (path_aliases space at p ps z k)
 unfolding path_aliases export_alias
@@ -350,13 +350,13 @@ module _ (outside : Outside) (start : ℕ) (under : Under start outside.scopes) 
   Keyed seen k m = OkR (Keys seen m) (expand_operand ds outside k m.now)
 
   outer_keyed : (seen : List Served) (k k' space name z : ℕ) (o : Option ℕ) → Late start seen → find ds space name ≡ none → served_by seen space name ≡ o → Keyed seen k (mark_outer seen k' space name z o)
-  unfolding expand_operand if◌then◌else◌ mark_outer
+  unfolding expand_operand when◌then◌else◌ mark_outer
   outer_keyed seen k k' space name z none late e f = bind_any _ _ _ (λ u. rw e (first_keys seen k k' space name z (walk outside.scopes 1 space name) f refl))
   outer_keyed seen k k' space name z (some j) late e f = later_keys seen k k' space name z j f late
 
   name_keyed : (seen : List Served) (k k' space name z : ℕ) (o : Option ℕ) → Late start seen → find ds space name ≡ o
-      → Keyed seen k (if is_just o then record { now = ref space (Id name) [] z; seen = seen; k = k' } else mark_outer seen k' space name z (served_by seen space name))
-  unfolding expand_operand if◌then◌else◌ Rules.as_it_is
+      → Keyed seen k (when is_just o then record { now = ref space (Id name) [] z; seen = seen; k = k' } else mark_outer seen k' space name z (served_by seen space name))
+  unfolding expand_operand when◌then◌else◌ Rules.as_it_is
   name_keyed seen k k' space name z none late e = outer_keyed seen k k' space name z (served_by seen space name) late e refl
   name_keyed seen k k' space name z (some n) late e = bind_any _ _ _ (λ u. rw e (nothing_new seen, done))
 
@@ -384,15 +384,15 @@ module _ (outside : Outside) (start : ℕ) (under : Under start outside.scopes) 
   head_keyed seen k k' h late s = subst (λ (m : Marked Head). OkR (Keys seen m) (expand_head ds outside k m.now)) (sym (Planned.head_by_lem ds seen k' h)) (go (here_only h.code) refl)
     where
       go : (b : Bool) → here_only h.code ≡ b → OkR (Keys seen (Planned.head_by b ds seen k' h)) (expand_head ds outside k (Planned.head_by b ds seen k' h).now)
-      go true e = unfold expand_head if◌then◌else◌ Rules.as_it_is in rw e (nothing_new seen, done)
-      go false e = unfold expand_head if◌then◌else◌ with_operands in rw e (bind_ok _ _ _ _ (operands_keyed seen k k' h.operands late s) (λ es f. f))
+      go true e = unfold expand_head when◌then◌else◌ Rules.as_it_is in rw e (nothing_new seen, done)
+      go false e = unfold expand_head when◌then◌else◌ with_operands in rw e (bind_ok _ _ _ _ (operands_keyed seen k k' h.operands late s) (λ es f. f))
 
 -- ---- and each is asked for
 
 -- the walked names of a scope that its own declarations do not have
 unfoldable pub asked_of : List Declaration → Option (ℕ × ℕ) → List Served
 asked_of ds none = []
-asked_of ds (some w) = if is_just (find ds w.0 w.1) then [] else record { space = w.0; name = w.1; k = 0 } ∷ []
+asked_of ds (some w) = when is_just (find ds w.0 w.1) then [] else record { space = w.0; name = w.1; k = 0 } ∷ []
 
 unfoldable pub asked_by : List Declaration → Head → List Operand → List Served
 asked_by ds h [] = []
@@ -453,9 +453,9 @@ module _ (outside : List Env) (ds : List Declaration) where
   operand_from h seen k (ref space (Num n) [] z) e = from_same outside seen _
   operand_from h seen k (ref space (Id name) [] z) e = unfold walked only in rw e (go (find ds space name) refl)
     where
-      go : (o : Option ℕ) → find ds space name ≡ o → From outside seen (asked_of ds (some (space, name))) (if is_just o then record { now = ref space (Id name) [] z; seen = seen; k = k } else mark_outer seen k space name z (served_by seen space name)).seen
-      go none q = unfold asked_of if◌then◌else◌ in rw q (outer_from seen k space name z (served_by seen space name))
-      go (some n) q = unfold if◌then◌else◌ in from_same outside seen _
+      go : (o : Option ℕ) → find ds space name ≡ o → From outside seen (asked_of ds (some (space, name))) (when is_just o then record { now = ref space (Id name) [] z; seen = seen; k = k } else mark_outer seen k space name z (served_by seen space name)).seen
+      go none q = unfold asked_of when◌then◌else◌ in rw q (outer_from seen k space name z (served_by seen space name))
+      go (some n) q = unfold when◌then◌else◌ in from_same outside seen _
   operand_from h seen k (ref space at (p ∷ ps) z) e = from_same outside seen _
   operand_from h seen k (outer space up at z) e = from_same outside seen _
   operand_from h seen k (case name z) e = from_same outside seen _
@@ -470,8 +470,8 @@ module _ (outside : List Env) (ds : List Declaration) where
   head_from seen k h = subst (λ (m : Marked Head). From outside seen (asked_by ds h h.operands) m.seen) (sym (Planned.head_by_lem ds seen k h)) (go (here_only h.code) refl)
     where
       go : (b : Bool) → here_only h.code ≡ b → From outside seen (asked_by ds h h.operands) (Planned.head_by b ds seen k h).seen
-      go true e = unfold if◌then◌else◌ in from_same outside seen _
-      go false e = unfold if◌then◌else◌ in operands_from h seen k h.operands e
+      go true e = unfold when◌then◌else◌ in from_same outside seen _
+      go false e = unfold when◌then◌else◌ in operands_from h seen k h.operands e
 
 -- ---- the fields of a scope
 
@@ -481,7 +481,7 @@ before_keys [] fs = refl
 before_keys (h ∷ hs) fs = ap (λ (l : List Key). head_keys h ++ l) (before_keys hs fs) ∙ sym (append_assoc (head_keys h) (keys_of hs) (outer_keys fs))
 
 own_keys : (i : Item) (fs : Fields) → is_inserted (head_of i) ≡ false → outer_keys (i ▸ fs) ≡ outer_keys fs
-unfolding outer_keys head_keys if◌then◌else◌
+unfolding outer_keys head_keys when◌then◌else◌
 own_keys i fs e = rw e
 
 end_keys : outer_keys end ≡ []

@@ -8,7 +8,7 @@ use Rattle.std.proofs.Math.Option.{Option, none, some, map}
 use mathlib.Core.List.{List, [], ◌∷◌}
 use Prim.Native.Nat.{ℕ, suc, ◌+◌, ◌≤◌}
 use Rattle.std.proofs.Math.ListN.{length}
-use Rattle.rules.specs.Tools.{if◌then◌else◌, is_just, ◌or_else◌}
+use Rattle.rules.specs.Tools.{when◌then◌else◌, is_just, ◌or_else◌}
 use Rattle.rules.specs.Versions.{RuleSet, top_name}
 use Rattle.rules.specs.Rows.{Num, Id}
 use Rattle.rules.specs.Tree.{Declaration, Operand, ref, outer, case, Head, Scope, scope, Fields, end, ◌▸◌, Item, plain, holds, head_of, with_operands, flatten}
@@ -39,8 +39,8 @@ Under b outside = (d space j : ℕ) → b ≤ j → walk outside d space (fresh 
 abbrev pub Absent : (name : ℕ) → List Declaration → Type 0
 Absent name ds = All (λ d. ¬ (d.name ≡ name)) ds
 
-not_found : (a : Bool) (o : Option ℕ) → o ≡ none → (if a then if false then some 0 else map suc o else o) ≡ none
-unfolding if◌then◌else◌
+not_found : (a : Bool) (o : Option ℕ) → o ≡ none → (when a then when false then some 0 else map suc o else o) ≡ none
+unfolding when◌then◌else◌
 not_found true o e = rw e
 not_found false o e = e
 
@@ -87,12 +87,12 @@ under_root d space j l = refl
 
 -- what holds of all that is remembered holds of what is found
 pub served_holds : (P : Served → Type 0) (seen : List Served) (space name : ℕ) → All P seen → Ok (λ j. P (record { space = space; name = name; k = j })) (served_by seen space name)
-unfolding served_by if◌then◌else◌
+unfolding served_by when◌then◌else◌
 served_holds P [] space name a = tt
 served_holds P (m ∷ ms) space name (h & a) = go (eqb m.space space && eqb m.name name) refl (served_holds P ms space name a)
   where
     go : (b : Bool) → eqb m.space space && eqb m.name name ≡ b → Ok (λ j. P (record { space = space; name = name; k = j })) (served_by ms space name)
-        → Ok (λ j. P (record { space = space; name = name; k = j })) (if b then some m.k else served_by ms space name)
+        → Ok (λ j. P (record { space = space; name = name; k = j })) (when b then some m.k else served_by ms space name)
     go false e r = r
     go true e r =
         let s : m.space ≡ space = eqb-true m.space space (and_left (eqb m.space space) (eqb m.name name) e) in
@@ -206,13 +206,13 @@ module _ {fs : Fields} {outside : Outside} {here : Env} {out' : Fields} (E : Clo
 
   name_outer : (fz : ℕ) (seen : List Served) (k k' space name z : ℕ) (o : Option ℕ) → LowOperand (ref space (Id name) [] z) → Late start seen → find ds space name ≡ none → served_by seen space name ≡ o
       → Justify fz seen k k' (ref space (Id name) [] z) (mark_outer seen k' space name z o)
-  unfolding expand_operand if◌then◌else◌ mark_outer
+  unfolding expand_operand when◌then◌else◌ mark_outer
   name_outer fz seen k k' space name z none l late e f = bind_any _ _ _ (λ u. rw e (first_outer fz seen k k' space name z (walk outside.scopes 1 space name) l e refl))
   name_outer fz seen k k' space name z (some j) l late e f = later_outer fz seen k k' space name z j l e f late
 
   name_justified : (fz : ℕ) (seen : List Served) (k k' space name z : ℕ) (o : Option ℕ) → LowOperand (ref space (Id name) [] z) → Late start seen → find ds space name ≡ o
-      → Justify fz seen k k' (ref space (Id name) [] z) (if is_just o then record { now = ref space (Id name) [] z; seen = seen; k = k' } else mark_outer seen k' space name z (served_by seen space name))
-  unfolding expand_operand if◌then◌else◌ Rules.as_it_is
+      → Justify fz seen k k' (ref space (Id name) [] z) (when is_just o then record { now = ref space (Id name) [] z; seen = seen; k = k' } else mark_outer seen k' space name z (served_by seen space name))
+  unfolding expand_operand when◌then◌else◌ Rules.as_it_is
   name_justified fz seen k k' space name z none l late e = name_outer fz seen k k' space name z (served_by seen space name) l late e refl
   name_justified fz seen k k' space name z (some n) l late e = bind_any _ _ _ (λ u. rw e (λ q x. subst (λ (y : ℕ). Justified (OwnOperands.As E (ref space (Id name) [] z)) seen (record { now = ref space (Id name) [] z; seen = seen; k = y }) k []) q (stays (ref space (Id name) [] z) seen k l)))
 
@@ -250,12 +250,12 @@ module _ {fs : Fields} {outside : Outside} {here : Env} {out' : Fields} (E : Clo
 
   abbrev by_code : Bool → List Served → (k : ℕ) → Head → Marked Head
   by_code b seen k h =
-      if b then record { now = h; seen = seen; k = k }
+      when b then record { now = h; seen = seen; k = k }
       else let m = mark_operands ds seen k h.operands in record { now = with_operands h m.now; seen = m.seen; k = m.k }
 
   pub head_justified : (seen : List Served) (k k' : ℕ) (h : Head) → LowOperands h.operands → Late start seen → start ≤ k'
       → OkR (λ e. k ≡ k' → (h' : Head) → resolve_head here there e.now ≡ ok h' → Justified (HeadAs h) seen (mark_head ds seen k' h) e.k e.inserted) (expand_head ds there k (mark_head ds seen k' h).now)
-  unfolding expand_head mark_head if◌then◌else◌ with_operands Rules.as_it_is
+  unfolding expand_head mark_head when◌then◌else◌ with_operands Rules.as_it_is
   head_justified seen k k' h l late s = go (here_only h.code) refl
     where
       go : (b : Bool) → here_only h.code ≡ b
@@ -269,7 +269,7 @@ module _ {fs : Fields} {outside : Outside} {here : Env} {out' : Fields} (E : Clo
 
 abbrev pub head_by : Bool → List Declaration → List Served → (k : ℕ) → Head → Marked Head
 head_by b ds seen k h =
-    if b then record { now = h; seen = seen; k = k }
+    when b then record { now = h; seen = seen; k = k }
     else let m = mark_operands ds seen k h.operands in record { now = with_operands h m.now; seen = m.seen; k = m.k }
 
 pub head_by_lem : (ds : List Declaration) (seen : List Served) (k : ℕ) (h : Head) → mark_head ds seen k h ≡ head_by (here_only h.code) ds seen k h
@@ -280,15 +280,15 @@ pub head_decls : (ds : List Declaration) (seen : List Served) (k : ℕ) (h : Hea
 head_decls ds seen k h = ap (λ (m : Marked Head). m.now.decls) (head_by_lem ds seen k h) ∙ go (here_only h.code)
   where
     go : (b : Bool) → (head_by b ds seen k h).now.decls ≡ h.decls
-    go true = unfold if◌then◌else◌ in refl
-    go false = unfold if◌then◌else◌ with_operands in refl
+    go true = unfold when◌then◌else◌ in refl
+    go false = unfold when◌then◌else◌ with_operands in refl
 
 pub here_only_same : (ds : List Declaration) (seen : List Served) (k : ℕ) (h : Head) → here_only (mark_head ds seen k h).now.code ≡ true → h.operands ≡ (mark_head ds seen k h).now.operands
 here_only_same ds seen k h = subst (λ (m : Marked Head). here_only m.now.code ≡ true → h.operands ≡ m.now.operands) (sym (head_by_lem ds seen k h)) (go (here_only h.code) refl)
   where
     go : (b : Bool) → here_only h.code ≡ b → here_only (head_by b ds seen k h).now.code ≡ true → h.operands ≡ (head_by b ds seen k h).now.operands
-    go true e t = unfold if◌then◌else◌ in refl
-    go false e t = false_not (sym e ∙ (unfold if◌then◌else◌ with_operands in t))
+    go true e t = unfold when◌then◌else◌ in refl
+    go false e t = false_not (sym e ∙ (unfold when◌then◌else◌ with_operands in t))
 
 module _ (i : Item) (gs : Fields) (ds : List Declaration) (seen : List Served) (b k : ℕ) where
   abbrev pub now : Marked Head

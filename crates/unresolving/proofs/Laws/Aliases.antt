@@ -4,7 +4,7 @@ use Rattle.std.proofs.Math.Path.{refl, ap, sym}
 use Rattle.std.proofs.Common.{◌∙◌, arith}
 use Rattle.std.proofs.Math.Option.{none, some}
 use mathlib.Core.List.{List, [], ◌∷◌}
-use Rattle.rules.specs.Tools.{if◌then◌else◌, is_in}
+use Rattle.rules.specs.Tools.{when◌then◌else◌, is_in}
 use Rattle.rules.specs.Versions.{top_name}
 use Rattle.rules.specs.Rows.{Index, Num, Id}
 use Rattle.rules.specs.Tree.{Declaration, Operand, ref, Head, with_operands}
@@ -19,10 +19,10 @@ use Rattle.rules.specs.Laws.Results.{bind_inv, ok_then, ok_same}
 -- ---- one alias of a path
 
 unfoldable pub code_of : ℕ → ℕ
-code_of space = if leb space 6 then 10 else 9
+code_of space = when leb space 6 then 10 else 9
 
 unfoldable pub from_of : ℕ → ℕ
-from_of space = if leb space 6 then 6 else 10
+from_of space = when leb space 6 then 6 else 10
 
 unfoldable pub path_alias : (space new : ℕ) (at : Index) (p z : ℕ) → Head
 path_alias space new at p z = export_alias (code_of space) space new (from_of space) at p z
@@ -38,11 +38,11 @@ others space [] z k = []
 others space (q ∷ ps) z k = path_aliases space (Id (fresh k)) q ps z (suc k)
 
 pub aliases_split : (space : ℕ) (at : Index) (p : ℕ) (ps : List ℕ) (z k : ℕ) → path_aliases space at p ps z k ≡ path_alias (first_space space ps) (fresh k) at p z ∷ others space ps z k
-unfolding path_aliases path_alias code_of from_of first_space others if◌then◌else◌
+unfolding path_aliases path_alias code_of from_of first_space others when◌then◌else◌
 aliases_split space at p [] z k = go (leb space 6)
   where
-    go : (b : Bool) → (if b then export_alias 10 space (fresh k) 6 at p z else export_alias 9 space (fresh k) 10 at p z) ∷ []
-        ≡ export_alias (if b then 10 else 9) space (fresh k) (if b then 6 else 10) at p z ∷ []
+    go : (b : Bool) → (when b then export_alias 10 space (fresh k) 6 at p z else export_alias 9 space (fresh k) 10 at p z) ∷ []
+        ≡ export_alias (when b then 10 else 9) space (fresh k) (when b then 6 else 10) at p z ∷ []
     go true = refl
     go false = refl
 aliases_split space at p (q ∷ ps) z k = refl
@@ -53,15 +53,15 @@ Short space [] = Unit {0}
 Short space (q ∷ ps) = leb space 6 ≡ false
 
 pub nine_high : (space : ℕ) → code_of space ≡ 9 → leb space 6 ≡ false
-unfolding code_of if◌then◌else◌
+unfolding code_of when◌then◌else◌
 nine_high space e = go (leb space 6) refl e
   where
-    go : (b : Bool) → leb space 6 ≡ b → ◌≡◌ {A = ℕ} (if b then 10 else 9) 9 → leb space 6 ≡ false
+    go : (b : Bool) → leb space 6 ≡ b → ◌≡◌ {A = ℕ} (when b then 10 else 9) 9 → leb space 6 ≡ false
     go true t e = absurd (omega arith)
     go false t e = t
 
 pub first_nine : (space q : ℕ) (ps : List ℕ) → Short space (q ∷ ps) → code_of (first_space space ps) ≡ 9
-unfolding code_of first_space if◌then◌else◌
+unfolding code_of first_space when◌then◌else◌
 first_nine space q [] s = rw s
 first_nine space q (r ∷ ps) s = refl
 
@@ -116,7 +116,7 @@ module _ (here : Env) (outside : Outside) where
   timely space new (Id x) p z t = rw t (and-false outside.early)
 
   in_time_lem : (late : Bool) (z : ℕ) → late ≡ false → in_time late z ≡ ok tt
-  unfolding in_time if◌then◌else◌
+  unfolding in_time when◌then◌else◌
   in_time_lem late z e = rw e
 
   pub first_makes : (space : ℕ) (at : Index) (p : ℕ) (ps : List ℕ) (z k : ℕ) (hs : List Head) → Timely at → First space at p ps z k hs → resolve_inserted here outside (path_aliases space at p ps z k) ≡ ok hs

@@ -5,7 +5,7 @@ use Rattle.std.proofs.Common.{◌∙◌, subst, arith}
 use Rattle.std.proofs.Math.Option.{Option, none, some}
 use mathlib.Core.List.{List, [], ◌∷◌, map, append-nil}
 use Rattle.std.proofs.Math.ListN.{length-append}
-use Rattle.rules.specs.Tools.{if◌then◌else◌, only, ◌then◌, ◌or_else◌, zeros}
+use Rattle.rules.specs.Tools.{when◌then◌else◌, only, ◌then◌, ◌or_else◌, zeros}
 use Rattle.rules.specs.Versions.{Setting, version1, version2, today, newer, base, all, top_name, as_claimed}
 use Rattle.rules.specs.Rows.{bytes, Raw, raw, raw_bytes, Row, encode, encode_row}
 use Rattle.rules.specs.Tree.{Scope, scope, flatten, form}
@@ -308,9 +308,9 @@ back_exactly settings L claim = (
 
 -- ---- an accepted input has its outcome, however long the output buffer was
 
-past_two : (a b : Bool) (x : AnswerOf Scope) (out : List Row) → map_answer flatten (if a then Answer.refused 2 0 [] else if b then Answer.refused 3 0 [] else x) ≡ accepted out
-    → map_answer flatten (if a then Answer.refused 2 0 [] else if false then Answer.refused 3 0 [] else x) ≡ accepted out
-unfolding if◌then◌else◌ map_answer
+past_two : (a b : Bool) (x : AnswerOf Scope) (out : List Row) → map_answer flatten (when a then Answer.refused 2 0 [] else when b then Answer.refused 3 0 [] else x) ≡ accepted out
+    → map_answer flatten (when a then Answer.refused 2 0 [] else when false then Answer.refused 3 0 [] else x) ≡ accepted out
+unfolding when◌then◌else◌ map_answer
 past_two true b x out e = e
 past_two false true x out e = let z : ◌≡◌ {A = ℕ} 0 1 = cc in absurd (omega arith)
 past_two false false x out e = e

@@ -7,7 +7,7 @@ use Rattle.std.proofs.Math.Option.{Option, none, some}
 use mathlib.Core.List.{List, [], ◌∷◌, ◌++◌}
 use native.Mathlib.Omega.{arith}
 use Rattle.std.proofs.Math.ListN.{length}
-use Rattle.rules.specs.Tools.{if◌then◌else◌, is_in}
+use Rattle.rules.specs.Tools.{when◌then◌else◌, is_in}
 use Rattle.rules.specs.Versions.{top_name}
 use Rattle.rules.specs.Rows.{Index, Num, Id}
 use Rattle.rules.specs.Tree.{Declaration, Operand, ref, outer, case, Head}
@@ -34,7 +34,7 @@ pub data Made (Q : ℕ → Type 0) (ds : List Declaration) (outside : Outside) (
       → e ≡ Rules.through space z (k + length ps) (path_aliases space at p ps z k) → Made Q ds outside k e
 
 not_late : (late : Bool) (z : ℕ) → in_time late z ≡ ok tt → late ≡ false
-unfolding in_time if◌then◌else◌
+unfolding in_time when◌then◌else◌
 not_late true z e = no_result Rules.not_earlier z tt e
 not_late false z e = refl
 
@@ -103,7 +103,7 @@ module _ (here : Env) (outside : Outside) where
     pub number : NumberOf o o'
 
   pub front : (fz : ℕ) (seen : List ℕ) (o : Operand) (ns os : List Operand) → resolve_operands here outside fz seen (o ∷ ns) ≡ ok os → Front fz o ns os
-  unfolding resolve_operands if◌then◌else◌
+  unfolding resolve_operands when◌then◌else◌
   front fz seen (ref space at paths z) ns os e =
       let s₁ = bind_inv (number_in here.entries space at z) _ os e in
       let s₂ = bind_inv (resolve_operands here outside fz seen ns) _ os s₁.2 in
@@ -114,7 +114,7 @@ module _ (here : Env) (outside : Outside) where
       record { o' = _; os' = s₂.0; seen' = seen; is = sym (ok_same _ os s₂.2); behind = s₂.1; number = tt }
   front fz seen (case name z) ns os e = go (not (eqb name 0) && is_in name seen) e
     where
-      go : (b : Bool) → (if b then refused Rules.case_twice z else (resolve_operands here outside fz (name ∷ seen) ns >>= λ os'. ok (case name z ∷ os'))) ≡ ok os → Front fz (case name z) ns os
+      go : (b : Bool) → (when b then refused Rules.case_twice z else (resolve_operands here outside fz (name ∷ seen) ns >>= λ os'. ok (case name z ∷ os'))) ≡ ok os → Front fz (case name z) ns os
       go true q = no_result Rules.case_twice z os q
       go false q =
           let s = bind_inv (resolve_operands here outside fz (name ∷ seen) ns) _ os q in
@@ -124,7 +124,7 @@ module _ (here : Env) (outside : Outside) where
 
 -- an outer alias stays as it is
 pub outer_inserted : (here : Env) (outside : Outside) (space new d n z : ℕ) → resolve_inserted here outside (outer_alias space new d n z ∷ []) ≡ ok (outer_alias space new d n z ∷ [])
-unfolding resolve_inserted late_instance in_time outer_alias if◌then◌else◌ ◌>>=◌
+unfolding resolve_inserted late_instance in_time outer_alias when◌then◌else◌ ◌>>=◌
 outer_inserted here outside space new d n z =
     ok_then _ (λ h. resolve_inserted here outside [] >>= λ hs'. ok (h ∷ hs')) _ _ (alias_resolved here outside space new d n z) refl
 
@@ -143,7 +143,7 @@ module _ (here : Env) (outside : Outside) where
   lone_one a o t = one_group (alone (table_of here) (tables outside) a) refl t
 
   lone_longer : (a b : Head) (hs : List Head) (o : Operand) → links (table_of here) (tables outside) a b ≡ true → Lone (b ∷ hs) o → Lone (a ∷ (b ∷ hs)) o
-  unfolding groups prepend if◌then◌else◌
+  unfolding groups prepend when◌then◌else◌
   lone_longer a b hs o l (no_group e) = no_group (rw (l, e))
   lone_longer a b hs o l (one_group g e t) = one_group (record { decl = g.decl; was = lengthened a g.was }) (rw (l, e)) t
 
@@ -160,7 +160,7 @@ module _ (Q : ℕ → Type 0) (ds : List Declaration) (here : Env) (outside : Ou
   for_it space x z n f = rw (eqb_same space, eqb_same z) (is_number_lem (find (table_of here) space x) n f)
 
   linked : (space x n p z y m q : ℕ) → code_of space ≡ 9 → find (table_of here) (from_of space) x ≡ some m → links (table_of here) (tables outside) (path_alias 10 x (Num n) p z) (path_alias space y (Num m) q z) ≡ true
-  unfolding links stands_on path_alias export_alias code_of first_decl first_operand digits if◌then◌else◌
+  unfolding links stands_on path_alias export_alias code_of first_decl first_operand digits when◌then◌else◌
   linked space x n p z y m q c f = rw (c, eqb_same z) (is_number_lem (find (table_of here) (from_of space) x) m f)
 
   alias_part : (space n p z k x : ℕ) → Q space → is_in space (4 ∷ 6 ∷ []) ≡ false → find (table_of here) space (fresh k) ≡ some x

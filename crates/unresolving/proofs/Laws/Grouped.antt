@@ -7,7 +7,7 @@ use mathlib.Core.List.{List, [], ◌∷◌, ◌++◌}
 use Prim.Native.Nat.{ℕ, suc, ◌+◌}
 use native.Mathlib.Omega.{arith}
 use Rattle.std.proofs.Math.ListN.{length}
-use Rattle.rules.specs.Tools.{if◌then◌else◌, is_in}
+use Rattle.rules.specs.Tools.{when◌then◌else◌, is_in}
 use Rattle.rules.specs.Versions.{top_name}
 use Rattle.rules.specs.Rows.{Index, Num, Id}
 use Rattle.rules.specs.Tree.{Declaration, Operand, ref, Head}
@@ -180,7 +180,7 @@ module _ (Q : ℕ → Type 0) (ds : List Declaration) (here : Env) (outside : Ou
       next a (b ∷ hs₁) more _ gs₁ (longer k a b hs₁ g A (linked a b l) G) (subst (λ (x : ℕ). Split x more gs₁) (omega arith) S)
 
   pub split : (k : ℕ) (hs : List Head) → Aliases Q ds outside k hs → Split k hs (groups (table_of here) (tables outside) hs)
-  unfolding groups if◌then◌else◌
+  unfolding groups when◌then◌else◌
   split k [] A = no_more
   split k (a ∷ []) A = split_alone k a [] [] A.0 no_more
   split k (a ∷ (b ∷ hs)) A = go (links (table_of here) (tables outside) a b) refl (split (suc k) (b ∷ hs) A.1)
@@ -188,7 +188,7 @@ module _ (Q : ℕ → Type 0) (ds : List Declaration) (here : Env) (outside : Ou
       gs : List Group
       gs = groups (table_of here) (tables outside) (b ∷ hs)
 
-      go : (t : Bool) → links (table_of here) (tables outside) a b ≡ t → Split (suc k) (b ∷ hs) gs → Split k (a ∷ (b ∷ hs)) (if t then prepend a gs else alone (table_of here) (tables outside) a ∷ gs)
+      go : (t : Bool) → links (table_of here) (tables outside) a b ≡ t → Split (suc k) (b ∷ hs) gs → Split k (a ∷ (b ∷ hs)) (when t then prepend a gs else alone (table_of here) (tables outside) a ∷ gs)
       go true l S = split_longer k a b hs gs A.0 l S
       go false l S = split_alone k a (b ∷ hs) gs A.0 S
 
@@ -203,7 +203,7 @@ module _ (Q : ℕ → Type 0) (ds : List Declaration) (here : Env) (outside : Ou
 
   took_name : (k space name z : ℕ) (at : ℕ × ℕ) → is_in space FOUR ≡ true → late_name ds outside space name ≡ false → find ds space name ≡ none → walk outside.scopes 1 space name ≡ some at
       → Took k (outer_alias space (fresh k) at.0 at.1 z ∷ []) (group (decl space (fresh k) z) (ref space (Id name) [] z))
-  unfolding expand_operand Rules.found_at Rules.through in_time if◌then◌else◌ ◌>>=◌
+  unfolding expand_operand Rules.found_at Rules.through in_time when◌then◌else◌ ◌>>=◌
   took_name k space name z at four t f w =
       record {
         e = Rules.through space z k (outer_alias space (fresh k) at.0 at.1 z ∷ []);
@@ -215,7 +215,7 @@ module _ (Q : ℕ → Type 0) (ds : List Declaration) (here : Env) (outside : Ou
 
   took_path : (k space n p : ℕ) (ps : List ℕ) (z : ℕ) (hs : List Head) → is_in space (4 ∷ 6 ∷ []) ≡ false → resolve_inserted here outside (path_aliases space (Num n) p ps z k) ≡ ok hs
       → Took k hs (group (decl space (fresh (k + length ps)) z) (ref space (Num n) (p ∷ ps) z))
-  unfolding expand_operand Rules.through if◌then◌else◌
+  unfolding expand_operand Rules.through when◌then◌else◌
   took_path k space n p ps z hs s c =
       let long : length hs ≡ suc (length ps) = holds_of (λ (x : List Head). length x ≡ _) _ hs (inserted_length here outside (path_aliases space (Num n) p ps z k)) c ∙ paths_length space (Num n) p ps z k in
       record {

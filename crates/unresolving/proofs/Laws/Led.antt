@@ -4,7 +4,7 @@ use Rattle.std.specs.Prelude.{◌≡◌, Bool, true, false, ℕ}
 use Rattle.std.proofs.Math.Path.{refl, ap, subst}
 use Rattle.std.proofs.Common.{sym, ◌∙◌}
 use mathlib.Core.List.{List, [], ◌∷◌, ◌++◌, append-nil, reverse}
-use Rattle.rules.specs.Tools.{if◌then◌else◌}
+use Rattle.rules.specs.Tools.{when◌then◌else◌}
 use Rattle.rules.specs.Rows.{Num, Id}
 use Rattle.rules.specs.Tree.{Declaration, Operand, ref, outer, case, Head}
 use Rattle.rules.specs.Rules
@@ -38,27 +38,27 @@ module _ (here : List Declaration) (outside : List (List Declaration)) (o o' : O
   led_none b = record { x = o; x' = o'; is = refl; bare = b }
 
   led_last : (g : Group) → Bare o → is_for here outside g.decl o' ≡ true → Led (g ∷ [])
-  unfolding restored first_fit if◌then◌else◌
+  unfolding restored first_fit when◌then◌else◌
   led_last g b t = record { x = o; x' = g.was; is = rw t; bare = b }
 
   led_both : (g g' : Group) → Bare o → Bare g.was → is_for here outside g'.decl o' ≡ true → Led (g ∷ (g' ∷ []))
-  unfolding restored first_fit if◌then◌else◌
+  unfolding restored first_fit when◌then◌else◌
   led_both g g' b w t =
       record {
-        x = if is_for here outside g.decl o then g.was else o;
+        x = when is_for here outside g.decl o then g.was else o;
         x' = g'.was;
         is = rw t (go (is_for here outside g.decl o));
         bare = if_both Bare (is_for here outside g.decl o) g.was o w b;
       }
     where
-      go : (b : Bool) → reverse (g'.was ∷ ((if b then g.was else o) ∷ [])) ≡ (if b then g.was else o) ∷ (g'.was ∷ [])
+      go : (b : Bool) → reverse (g'.was ∷ ((when b then g.was else o) ∷ [])) ≡ (when b then g.was else o) ∷ (g'.was ∷ [])
       go b = refl
 
   led_one : (g : Group) → Bare o → Bare g.was → Led (g ∷ [])
   led_one g b w = go (is_for here outside g.decl o') refl
     where
-      first : is_for here outside g.decl o' ≡ false → restored here outside (o ∷ (o' ∷ [])) (g ∷ []) ≡ (if is_for here outside g.decl o then g.was else o) ∷ (o' ∷ [])
-      first f = unfold restored first_fit if◌then◌else◌ in (rw f)
+      first : is_for here outside g.decl o' ≡ false → restored here outside (o ∷ (o' ∷ [])) (g ∷ []) ≡ (when is_for here outside g.decl o then g.was else o) ∷ (o' ∷ [])
+      first f = unfold restored first_fit when◌then◌else◌ in (rw f)
 
       go : (t : Bool) → is_for here outside g.decl o' ≡ t → Led (g ∷ [])
       go true t = led_last g b t
@@ -89,7 +89,7 @@ module _ (ds : List Declaration) (here : Env) (outside : Outside) where
 
   outer_alone : (space new d n z : ℕ) (hs : List Head)
       → groups (table_of here) (tables outside) (outer_alias space new d n z ∷ hs) ≡ alone (table_of here) (tables outside) (outer_alias space new d n z) ∷ groups (table_of here) (tables outside) hs
-  unfolding groups links outer_alias if◌then◌else◌
+  unfolding groups links outer_alias when◌then◌else◌
   outer_alone space new d n z [] = refl
   outer_alone space new d n z (b ∷ hs) = refl
 

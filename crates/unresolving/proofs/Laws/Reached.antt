@@ -3,7 +3,7 @@ use Rattle.std.specs.Prelude.{◌≡◌, refl, Bool, true, false, List, [], ◌�
 use Rattle.std.proofs.Common.{ap, sym, ◌∙◌, arith}
 use Rattle.std.proofs.Math.Option.{Option, none, some, map}
 use Rattle.std.proofs.Math.ListN.{get_elem?}
-use Rattle.rules.specs.Tools.{if◌then◌else◌, ◌then◌, ◌or_else◌}
+use Rattle.rules.specs.Tools.{when◌then◌else◌, ◌then◌, ◌or_else◌}
 use Rattle.rules.specs.Tree.{Declaration}
 use Rattle.rules.specs.Rules.{Env, table_of, Outside, find, walk}
 use Rattle.unresolving.specs.Back.{or_zero, is_number, names_in, name_out}
@@ -28,13 +28,13 @@ map_some none n e = no_option n e
 map_some (some m) n e = (m, refl, some_same (suc m) n e)
 
 pub found_name : (ds : List Declaration) (space name n : ℕ) → find ds space name ≡ some n → get_elem? (names_in ds space) n ≡ some name
-unfolding find names_in if◌then◌else◌
+unfolding find names_in when◌then◌else◌
 found_name [] space name n e = no_option n e
 found_name (d ∷ ds) space name n e = go (eqb d.space space) (eqb d.name name) refl e (λ m q. found_name ds space name m q)
   where
-    go : (a b : Bool) → eqb d.name name ≡ b → (if a then if b then some 0 else map suc (find ds space name) else find ds space name) ≡ some n
+    go : (a b : Bool) → eqb d.name name ≡ b → (when a then when b then some 0 else map suc (find ds space name) else find ds space name) ≡ some n
         → ((m : ℕ) → find ds space name ≡ some m → get_elem? (names_in ds space) m ≡ some name)
-        → get_elem? (if a then d.name ∷ names_in ds space else names_in ds space) n ≡ some name
+        → get_elem? (when a then d.name ∷ names_in ds space else names_in ds space) n ≡ some name
     go true true t e below = rw (← some_same 0 n e) (ap {B = Option ℕ} some (eqb-true d.name name t))
     go true false t e below = let M = map_some (find ds space name) n e in rw (← M.2) (below M.0 M.1)
     go false b t e below = below n e

@@ -7,7 +7,7 @@ use Rattle.std.proofs.Math.Option.{Option, none, some}
 use mathlib.Core.List.{List, [], ◌∷◌, ◌++◌, map, reverse, reverse-reverse}
 use native.Mathlib.Omega.{arith}
 use Rattle.std.proofs.Math.ListN.{length, length-append}
-use Rattle.rules.specs.Tools.{if◌then◌else◌, is_in}
+use Rattle.rules.specs.Tools.{when◌then◌else◌, is_in}
 use Rattle.rules.specs.Versions.{top_name}
 use Rattle.rules.specs.Rows.{Index, Num, Id}
 use Rattle.rules.specs.Tree.{Declaration, Operand, ref, outer, case, Head, with_operands, operand_row}
@@ -75,7 +75,7 @@ module _ (here : Env) (outside : Outside) (fz : ℕ) where
   outer_fixed' seen space d n z os q = rw q
 
   case_fixed : (seen : List ℕ) (name z : ℕ) (os : List Operand) → (not (eqb name 0) && is_in name seen) ≡ false → Fixed (name ∷ seen) os → Fixed seen (case name z ∷ os)
-  unfolding resolve_operands if◌then◌else◌ ◌>>=◌
+  unfolding resolve_operands when◌then◌else◌ ◌>>=◌
   case_fixed seen name z os f q = rw (f, q)
 
   pub resolved_again : (seen : List ℕ) (os : List Operand) → OkR (λ os'. resolve_operands here outside fz seen os' ≡ ok os') (resolve_operands here outside fz seen os)
@@ -89,7 +89,7 @@ module _ (here : Env) (outside : Outside) (fz : ℕ) where
       if_ok_lem (OkR (Fixed seen)) _ _ _ (λ _. tt) (λ f. bind_ok _ _ _ _ (resolved_again (name ∷ seen) os) (λ os' q. case_fixed seen name z os' f q))
 
   again : (seen : List ℕ) (o : Operand) (os : List Operand) → Numbered o → resolve_operands here outside fz seen (o ∷ os) ≡ ok (o ∷ os) → Again seen o os
-  unfolding resolve_operands number_in Rules.resolve_outer after if◌then◌else◌ ◌>>=◌
+  unfolding resolve_operands number_in Rules.resolve_outer after when◌then◌else◌ ◌>>=◌
   again seen (ref space (Num n) [] z) os p e =
       let s = bind_inv (resolve_operands here outside fz seen os) _ _ e in
       record { behind = s.1 ∙ ap {B = Result (List Operand)} ok (tail_same _ _ s.0 os (ok_same _ _ s.2)); before = λ ns q. rw q }
@@ -103,7 +103,7 @@ module _ (here : Env) (outside : Outside) (fz : ℕ) where
   again seen (case name z) os p e = go (not (eqb name 0) && is_in name seen) refl e
     where
       go : (b : Bool) → (not (eqb name 0) && is_in name seen) ≡ b
-          → (if b then refused Rules.case_twice z else (resolve_operands here outside fz (name ∷ seen) os >>= λ os'. ok (case name z ∷ os'))) ≡ ok (case name z ∷ os) → Again seen (case name z) os
+          → (when b then refused Rules.case_twice z else (resolve_operands here outside fz (name ∷ seen) os >>= λ os'. ok (case name z ∷ os'))) ≡ ok (case name z ∷ os) → Again seen (case name z) os
       go true t q = no_result Rules.case_twice z _ q
       go false t q =
           let s = bind_inv (resolve_operands here outside fz (name ∷ seen) os) _ _ q in
@@ -212,7 +212,7 @@ module _ (Q : ℕ → Type 0) (ds : List Declaration) (here : Env) (outside : Ou
 
   -- operands of its own scope alone: nothing was inserted for them
   here_back : (b : ℕ) (h : Head) (os : List Operand) → here_only h.code ≡ true → resolve_operands here outside h.z [] os ≡ ok os → HeadBack b [] (with_operands h os) b
-  unfolding restored_head groups expand_head resolve_head resolve_inserted with_operands Rules.as_it_is if◌then◌else◌
+  unfolding restored_head groups expand_head resolve_head resolve_inserted with_operands Rules.as_it_is when◌then◌else◌
   here_back b h os c e =
       record {
         e = Rules.as_it_is (with_operands h os) b;
@@ -224,7 +224,7 @@ module _ (Q : ℕ → Type 0) (ds : List Declaration) (here : Env) (outside : Ou
 
   walked_back : (b : ℕ) (h : Head) (os : List Operand) (hs : List Head) (k : ℕ) → here_only h.code ≡ false
       → (R : Returned here outside h.z Q ds b (restored (table_of here) (tables outside) os (groups (table_of here) (tables outside) hs)) hs os []) → R.e.k ≡ k → HeadBack b hs (with_operands h os) k
-  unfolding restored_head expand_head resolve_head with_operands if◌then◌else◌
+  unfolding restored_head expand_head resolve_head with_operands when◌then◌else◌
   walked_back b h os hs k c R ends =
       record {
         e = record { inserted = R.e.inserted; rows = R.e.rows; now = with_operands h R.e.now; k = R.e.k };
@@ -292,11 +292,11 @@ module _ (Q : ℕ → Type 0) (ds : List Declaration) (here : Env) (outside : Ou
 
   pub head_made : (b : ℕ) (h : Head) (e : Expanded Head) (hs : List Head) (h' : Head) → AllMay Q h.operands → LowOperands h.operands → expand_head ds outside b h ≡ ok e
       → resolve_inserted here outside e.inserted ≡ ok hs → resolve_head here outside e.now ≡ ok h' → HeadMade b e.k h hs h'
-  unfolding expand_head resolve_head resolve_inserted with_operands Rules.as_it_is if◌then◌else◌
+  unfolding expand_head resolve_head resolve_inserted with_operands Rules.as_it_is when◌then◌else◌
   head_made b h e hs h' may low x a r = go (here_only h.code) refl x
     where
       go : (t : Bool) → here_only h.code ≡ t
-          → (if t then ok (Rules.as_it_is h b) else (expand_operands ds outside b h.operands >>= λ e. ok (record { inserted = e.inserted; rows = e.rows; now = with_operands h e.now; k = e.k }))) ≡ ok e
+          → (when t then ok (Rules.as_it_is h b) else (expand_operands ds outside b h.operands >>= λ e. ok (record { inserted = e.inserted; rows = e.rows; now = with_operands h e.now; k = e.k }))) ≡ ok e
           → HeadMade b e.k h hs h'
       go true c x =
           let same = ok_same _ e x in

@@ -5,7 +5,7 @@ use Rattle.std.proofs.Math.Path.{refl, ap, sym}
 use Rattle.std.proofs.Common.{◌∙◌, subst}
 use mathlib.Core.List.{List, [], ◌∷◌, ◌++◌, append-nil}
 use Prim.Native.Nat.{ℕ, suc, ◌+◌}
-use Rattle.rules.specs.Tools.{if◌then◌else◌}
+use Rattle.rules.specs.Tools.{when◌then◌else◌}
 use Rattle.rules.specs.Tree.{Declaration, Head, Scope, scope, Fields, end, ◌▸◌, Item, plain, holds, head_of, with_operands}
 use Rattle.rules.specs.Versions.{RuleSet}
 use Rattle.rules.specs.Good.{GoodScope, GoodFields, GoodItem}
@@ -31,12 +31,12 @@ use Rattle.unresolving.proofs.Laws.Restored.{HeadBack, HeadMade, head_made, head
 module _ (here : List Declaration) (outside : List (List Declaration)) where
   pub unresolve_own : (j : Item) (fs : Fields) (waiting : List Head) → is_inserted (head_of j) ≡ false
       → unresolve_fields (j ▸ fs) here outside waiting ≡ unresolve_item j here outside waiting ▸ unresolve_fields fs here outside []
-  unfolding unresolve_scope if◌then◌else◌
+  unfolding unresolve_scope when◌then◌else◌
   unresolve_own j fs waiting e = rw e
 
   pub unresolve_inserted : (h : Head) (fs : Fields) (waiting : List Head) → is_inserted h ≡ true
       → unresolve_fields (plain h ▸ fs) here outside waiting ≡ unresolve_fields fs here outside (waiting ++ (h ∷ []))
-  unfolding unresolve_scope head_of if◌then◌else◌
+  unfolding unresolve_scope head_of when◌then◌else◌
   unresolve_inserted h fs waiting e = rw e
 
   pub unresolve_before : (lo hi : ℕ) (hs : List Head) (j : Item) (fs : Fields) (waiting : List Head) → AllNew lo hi hs → is_inserted (head_of j) ≡ false

@@ -5,7 +5,7 @@ use Rattle.std.proofs.Math.Path.{refl}
 use Rattle.std.proofs.Common.{sym, ◌∙◌}
 use Rattle.std.proofs.Math.Bool.{true, false}
 use mathlib.Core.List.{List, [], ◌∷◌, reverse_aux, reverse, reverse-reverse}
-use Rattle.rules.specs.Tools.{if◌then◌else◌}
+use Rattle.rules.specs.Tools.{when◌then◌else◌}
 use Rattle.rules.specs.Tree.{Declaration, Operand, Head}
 use Rattle.unresolving.specs.Back.{Group, first_decl, prepend, links, alone, groups, is_for, first_fit, restored}
 use Rattle.rules.specs.Laws.ToolLaws.{false_not}
@@ -58,7 +58,7 @@ module _ (here : List Declaration) (outside : List (List Declaration)) where
   placed_last (used {os = os} t s) = here_it_is t (none_placed os)
 
   pub placed : (hs : List Head) {os : List Operand} → Serves hs os → Placed (groups here outside hs) os
-  unfolding groups if◌then◌else◌
+  unfolding groups when◌then◌else◌
   placed [] {os} s = none_placed os
   placed (a ∷ []) s = placed_last s
   placed (a ∷ (b ∷ hs)) {os} s = go (links here outside a b) refl (λ os' s'. placed (b ∷ hs) s')
@@ -67,7 +67,7 @@ module _ (here : List Declaration) (outside : List (List Declaration)) where
       gs = groups here outside (b ∷ hs)
 
       go : (t : Bool) → links here outside a b ≡ t → ((os' : List Operand) → Serves (b ∷ hs) os' → Placed gs os')
-          → Placed (if t then prepend a gs else alone here outside a ∷ gs) os
+          → Placed (when t then prepend a gs else alone here outside a ∷ gs) os
       go true l below = placed_longer a (below os (fewer s))
       go false l below = placed_alone gs l below s
 
@@ -108,13 +108,13 @@ module _ (here : List Declaration) (outside : List (List Declaration)) where
 
   -- the first that fits will do, whichever had it
   first_assigned : (os : List Operand) (gs : List Group) → Placed gs os → Assigned gs os (first_fit here outside os gs)
-  unfolding first_fit if◌then◌else◌
+  unfolding first_fit when◌then◌else◌
   first_assigned [] gs p = no_operands p
   first_assigned (o ∷ os) [] p = none_assigned (o ∷ os)
   first_assigned (o ∷ os) (g ∷ gs) p = go (is_for here outside g.decl o) refl (λ gs' q. first_assigned os gs' q)
     where
       go : (t : Bool) → is_for here outside g.decl o ≡ t → ((gs' : List Group) → Placed gs' os → Assigned gs' os (first_fit here outside os gs'))
-          → Assigned (g ∷ gs) (o ∷ os) ((if t then g.was else o) ∷ first_fit here outside os (if t then gs else g ∷ gs))
+          → Assigned (g ∷ gs) (o ∷ os) ((when t then g.was else o) ∷ first_fit here outside os (when t then gs else g ∷ gs))
       go true t below = put t (below gs (placed_here p))
       go false t below = kept (below (g ∷ gs) (placed_later t p))
 

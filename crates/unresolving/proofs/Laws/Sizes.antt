@@ -5,7 +5,7 @@ use Rattle.std.proofs.Common.{sym, ◌∙◌, subst, arith}
 use Rattle.std.proofs.Math.Option.{Option, none, some}
 use mathlib.Core.List.{List, [], ◌∷◌, ◌++◌}
 use Rattle.std.proofs.Math.ListN.{length-append}
-use Rattle.rules.specs.Tools.{if◌then◌else◌}
+use Rattle.rules.specs.Tools.{when◌then◌else◌}
 use Rattle.rules.specs.Versions.{RuleSet}
 use Rattle.rules.specs.Rows.{Index, Num, Id}
 use Rattle.rules.specs.Tree.{Declaration, Operand, ref, outer, case, Head, Scope, scope, Fields, end, ◌▸◌, Item, plain, holds, head_of, with_operands, path_rows, operand_row, operand_rows, export_rows, head_rows, flatten, fields_rows}
@@ -27,7 +27,7 @@ paths [] = 0
 paths (h ∷ hs) = length (export_rows h.export) + paths hs
 
 own_size : Head → ℕ
-own_size h = if is_inserted h then length (export_rows h.export) else length (head_rows h)
+own_size h = when is_inserted h then length (export_rows h.export) else length (head_rows h)
 
 mutual
   pub input_size : Scope → ℕ
@@ -100,7 +100,7 @@ module _ (here : Env) (outside : Outside) where
 -- ---- the walk
 
 before_told : (lo hi : ℕ) (hs : List Head) (fs : Fields) → AllNew lo hi hs → input_sizes (◌before◌ hs fs) ≡ paths hs + input_sizes fs
-unfolding ◌before◌ paths input_size own_size if◌then◌else◌
+unfolding ◌before◌ paths input_size own_size when◌then◌else◌
 before_told lo hi [] fs n = omega arith
 before_told lo hi (h ∷ hs) fs n = rw (Lookups.new_inserted lo hi h n.0, before_told lo hi hs fs n.1) (omega arith)
 
@@ -109,7 +109,7 @@ unfolding input_size
 fields_told j fs = refl
 
 own_told : (h : Head) → is_inserted h ≡ false → own_size h ≡ length (head_rows h)
-unfolding own_size if◌then◌else◌
+unfolding own_size when◌then◌else◌
 own_told h e = rw e
 
 scope_told : (kind name : ℕ) (fs out : Fields) → length (fields_rows fs) ≡ input_sizes out → length (flatten (scope kind name fs)) ≡ input_size (scope kind name out)

@@ -6,7 +6,7 @@ use Rattle.std.proofs.Math.Path.{refl, ap}
 use Rattle.std.proofs.Common.{sym, ◌∙◌, subst, arith}
 use Rattle.std.proofs.Math.Option.{Option, none, some}
 use mathlib.Core.List.{List, [], ◌∷◌}
-use Rattle.rules.specs.Tools.{if◌then◌else◌, only, ◌then◌, is_in}
+use Rattle.rules.specs.Tools.{when◌then◌else◌, only, ◌then◌, is_in}
 use Rattle.rules.specs.Versions.{RuleSet}
 use Rattle.rules.specs.Rows.{Num, Id}
 use Rattle.rules.specs.Tree.{Declaration, Operand, ref, outer, case, Head}
@@ -327,8 +327,8 @@ none_left os left o e =
     let T = then_some (after_operand [] o) (λ q. after_operands q os) left e in
     no_option T.0 (sym (after_is [] o) ∙ T.1)
 
-own_inv : (s : ℕ) (b c : Bool) (left : List Part) → (if b then some ((if c then opt (r (s ∷ [])) else one (r (s ∷ []))) ∷ []) else only c []) ≡ some left → complete left ≡ true → c ≡ true
-unfolding if◌then◌else◌ only complete
+own_inv : (s : ℕ) (b c : Bool) (left : List Part) → (when b then some ((when c then opt (r (s ∷ [])) else one (r (s ∷ []))) ∷ []) else only c []) ≡ some left → complete left ≡ true → c ≡ true
+unfolding when◌then◌else◌ only complete
 own_inv s true true left e f = refl
 own_inv s true false left e f = false_not (rw (← some_same _ left e) at f)
 own_inv s false true left e f = refl
@@ -348,18 +348,18 @@ last_inv s o' os left q e f = go (fits_in o' (r (s ∷ []))) refl os e f
     go true t (x ∷ os) e f = none_left os left x (rw (← some_same [] q e) at f)
     go false t os e f = no_option q e
 
-either_last : (s : ℕ) (c : Bool) (o' : Operand) → next (fits_in o') ((if c then opt (r (s ∷ [])) else one (r (s ∷ []))) ∷ []) ≡ only (fits_in o' (r (s ∷ []))) []
-unfolding next if◌then◌else◌ only
+either_last : (s : ℕ) (c : Bool) (o' : Operand) → next (fits_in o') ((when c then opt (r (s ∷ [])) else one (r (s ∷ []))) ∷ []) ≡ only (fits_in o' (r (s ∷ []))) []
+unfolding next when◌then◌else◌ only
 either_last s true o' = go (fits_in o' (r (s ∷ [])))
   where
-    go : (d : Bool) → ◌≡◌ {A = Option (List Part)} (if d then some [] else none) (only d [])
+    go : (d : Bool) → ◌≡◌ {A = Option (List Part)} (when d then some [] else none) (only d [])
     go true = refl
     go false = refl
 either_last s false o' = refl
 
 two_inv : (s : ℕ) (b c : Bool) (o' : Operand) (os : List Operand) (left q : List Part)
-    → (if b then some ((if c then opt (r (s ∷ [])) else one (r (s ∷ []))) ∷ []) else only c []) ≡ some q → after_operands q (o' ∷ os) ≡ some left → Two s b o' os
-unfolding if◌then◌else◌ after_operands only
+    → (when b then some ((when c then opt (r (s ∷ [])) else one (r (s ∷ []))) ∷ []) else only c []) ≡ some q → after_operands q (o' ∷ os) ≡ some left → Two s b o' os
+unfolding when◌then◌else◌ after_operands only
 two_inv s true c o' os left q e f =
     let T = then_some (after_operand q o') (λ x. after_operands x os) left f in
     last_inv s o' os left T.0 (sym (either_last s c o') ∙ (ap (next (fits_in o')) (some_same _ q e) ∙ (sym (after_is q o') ∙ T.1))) T.2
@@ -379,15 +379,15 @@ ascribed_inv s (o ∷ (o' ∷ os)) left e f =
 
 -- what is left of the tables by such operands
 pub ascribed_fits : (s : ℕ) (os : List Operand) → Ascribed s os → (left : List Part) × (after_operands (typed s ∷ []) os ≡ some left) × (complete left ≡ true)
-unfolding after_operands next ◌then◌ if◌then◌else◌ only complete
+unfolding after_operands next ◌then◌ when◌then◌else◌ only complete
 ascribed_fits s (o ∷ []) (own f) = rw (after_is (typed s ∷ []) o, f) (go (fits_in o (p (9 ∷ []))))
   where
-    go : (b : Bool) → (left : List Part) × (((if b then some (opt (r (s ∷ [])) ∷ []) else some []) then λ q. some q) ≡ some left) × (complete left ≡ true)
+    go : (b : Bool) → (left : List Part) × (((when b then some (opt (r (s ∷ [])) ∷ []) else some []) then λ q. some q) ≡ some left) × (complete left ≡ true)
     go true = (_, refl, refl)
     go false = (_, refl, refl)
 ascribed_fits s (o ∷ (o' ∷ [])) (pair f g) = rw (after_is (typed s ∷ []) o, f) (go (fits_in o (r (s ∷ []))))
   where
-    go : (c : Bool) → (left : List Part) × ((after_operand ((if c then opt (r (s ∷ [])) else one (r (s ∷ []))) ∷ []) o' then λ q. some q) ≡ some left) × (complete left ≡ true)
-    go c = rw (after_is ((if c then opt (r (s ∷ [])) else one (r (s ∷ []))) ∷ []) o', either_last s c o', g) ([], refl, refl)
+    go : (c : Bool) → (left : List Part) × ((after_operand ((when c then opt (r (s ∷ [])) else one (r (s ∷ []))) ∷ []) o' then λ q. some q) ≡ some left) × (complete left ≡ true)
+    go c = rw (after_is ((when c then opt (r (s ∷ [])) else one (r (s ∷ []))) ∷ []) o', either_last s c o', g) ([], refl, refl)
 ascribed_fits s [] x' = elim x' [ ]
 ascribed_fits s (o ∷ (o' ∷ (_ ∷ _))) x8 = elim x8 [ ]

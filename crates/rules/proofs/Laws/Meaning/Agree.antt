@@ -7,7 +7,7 @@ use Rattle.std.proofs.Math.Path.{refl}
 use Rattle.std.proofs.Common.{ap, sym, ◌∙◌, subst, add-one, arith}
 use Rattle.std.proofs.Math.Option.{Option, none, some}
 use Rattle.std.proofs.Math.ListN.{get_elem?}
-use Rattle.rules.specs.Tools.{if◌then◌else◌, ◌then◌, ◌or_else◌}
+use Rattle.rules.specs.Tools.{when◌then◌else◌, ◌then◌, ◌or_else◌}
 use Rattle.rules.specs.Versions.{RuleSet, top_name}
 use Rattle.rules.specs.Rows.{Num, Id}
 use Rattle.rules.specs.Tree.{Declaration, Operand, ref, Head, Scope, scope, Fields, end, ◌▸◌, Item, plain, holds, head_of}
@@ -244,7 +244,7 @@ through_alias : (l : Level) (ls : List Level) (space x z i n : ℕ) (at : ℕ ×
     → (get_elem? ls i then λ l. counted l space at.1 then place l) ≡ some p
     → counted l space n ≡ some (inserted (Rules.outer_alias space x at.0 at.1 z))
     → counting (l ∷ ls) (ref space (Num n) [] z) ≡ some p
-unfolding counting meant Readings.counted_out Rules.outer_alias ◌then◌ if◌then◌else◌
+unfolding counting meant Readings.counted_out Rules.outer_alias ◌then◌ when◌then◌else◌
 through_alias l ls space x z i n at p far there e = rw (e, far ∙ add-one i) there
 
 -- both readings of a reference, here the number `n` in the output

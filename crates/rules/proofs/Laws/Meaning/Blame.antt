@@ -8,7 +8,7 @@ use Rattle.std.proofs.Math.Option.{Option, none, some}
 use mathlib.Core.List.{List, [], ◌∷◌, ◌++◌, append_assoc, append-nil}
 use Prim.Native.Nat.{ℕ, zero, suc, ◌≤◌}
 use Rattle.std.proofs.Math.ListN.{get_elem?}
-use Rattle.rules.specs.Tools.{if◌then◌else◌, ◌then◌, is_in}
+use Rattle.rules.specs.Tools.{when◌then◌else◌, ◌then◌, is_in}
 use Rattle.rules.specs.Versions.{RuleSet, top_name}
 use Rattle.rules.specs.Rows.{Index, Num, Id}
 use Rattle.rules.specs.Tree.{Declaration, Operand, ref, outer, case, Head, Scope, scope, Fields, end, ◌▸◌, Item, plain, holds, head_of, with_operands}
@@ -151,7 +151,7 @@ module _ (m : Refusal) (M : Blamable m) where
 
     outer_time : (P : Refusal → ℕ → Type 0) (space new d n z : ℕ)
         → RefR P (Rules.in_time (Rules.late_instance here outside (Rules.outer_alias space new d n z).operands) (Rules.outer_alias space new d n z).z)
-    unfolding Rules.outer_alias Rules.late_instance Rules.in_time if◌then◌else◌
+    unfolding Rules.outer_alias Rules.late_instance Rules.in_time when◌then◌else◌
     outer_time P space new d n z = tt
 
     -- an inserted field is refused only at an operand with PATHs
@@ -202,7 +202,7 @@ module _ (m : Refusal) (M : Blamable m) where
       cause : Cause now z
 
     operands_stop : (fz : ℕ) (seen : List ℕ) (os : List Operand) → RefR (Is m (Stopped fz seen os)) (resolve_operands here outside fz seen os)
-    unfolding resolve_operands if◌then◌else◌
+    unfolding resolve_operands when◌then◌else◌
     operands_stop fz seen [] = tt
     operands_stop fz seen (ref space at paths z ∷ os) =
         bind_ref _ _ _
@@ -237,7 +237,7 @@ module _ (m : Refusal) (M : Blamable m) where
     operands_stop fz seen (case name z ∷ os) = go (not (eqb name 0) && is_in name seen) refl (operands_stop fz (name ∷ seen) os)
       where
         go : (b : Bool) → not (eqb name 0) && is_in name seen ≡ b → RefR (Is m (Stopped fz (name ∷ seen) os)) (resolve_operands here outside fz (name ∷ seen) os)
-            → RefR (Is m (Stopped fz seen (case name z ∷ os))) (if b then refused case_twice z else (resolve_operands here outside fz (name ∷ seen) os >>= λ os'. ok (case name z ∷ os')))
+            → RefR (Is m (Stopped fz seen (case name z ∷ os))) (when b then refused case_twice z else (resolve_operands here outside fz (name ∷ seen) os >>= λ os'. ok (case name z ∷ os')))
         go true eb f = λ nine. absurd (not_case M nine)
         go false eb f = bind_ref _ _ _
             (ref_weaker _ (Is m (Stopped fz seen (case name z ∷ os))) (resolve_operands here outside fz (name ∷ seen) os) f (λ m p _ f nine.
@@ -477,8 +477,8 @@ module _ (m : Refusal) (M : Blamable m) where
         bind_ref _ _ _ (go (Rules.late_name ds outside space name) refl) (λ u _. if_ref_lem (Is m _) _ _ _ tt (found_late _ space name z k _))
       where
         go : (b : Bool) → Rules.late_name ds outside space name ≡ b → RefR (Is m (LateOperand ds outside (ref space (Id name) [] z))) (Rules.in_time b z)
-        go true q = unfold Rules.in_time if◌then◌else◌ in (λ e. record { thirteen = sym e; at = refl; space = space; name = name; z' = z; is = refl; late = q })
-        go false q = unfold Rules.in_time if◌then◌else◌ in tt
+        go true q = unfold Rules.in_time when◌then◌else◌ in (λ e. record { thirteen = sym e; at = refl; space = space; name = name; z' = z; is = refl; late = q })
+        go false q = unfold Rules.in_time when◌then◌else◌ in tt
     operand_late k (ref space at (p ∷ ps) z) = if_ref_lem (Is m _) _ _ _ (λ e. absurd (not_seven M e)) tt
     operand_late k (outer space up at z) = tt
     operand_late k (case name z) = tt

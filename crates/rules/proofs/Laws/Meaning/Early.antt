@@ -7,7 +7,7 @@ use Rattle.std.proofs.Math.Option.{Option, none, some}
 use mathlib.Core.List.{List, [], ◌∷◌, ◌++◌, append_assoc, append-nil}
 use Prim.Native.Nat.{ℕ, zero, suc, ◌+◌, ◌≤◌, ◌<◌}
 use Rattle.std.proofs.Math.ListN.{get_elem?}
-use Rattle.rules.specs.Tools.{if◌then◌else◌, is_just, ◌then◌, ◌or_else◌}
+use Rattle.rules.specs.Tools.{when◌then◌else◌, is_just, ◌then◌, ◌or_else◌}
 use Rattle.rules.specs.Versions.{top_name}
 use Rattle.rules.specs.Tree.{Declaration, Head, Scope, scope, Fields, end, ◌▸◌, Item, holds, head_of}
 use Rattle.rules.specs.Rules
@@ -51,18 +51,18 @@ own_first k m [] space name e = false_not e
 own_first k m (d ∷ ds) space name e = go (eqb d.space space && eqb d.name name) e (λ e. own_first k (suc m) ds space name e)
   where
     go : (b : Bool) → b || has ds space name ≡ true → (has ds space name ≡ true → (at : ℕ) × (first_named (in_original k (suc m) ds) space name ≡ some (original k at)))
-        → (at : ℕ) × ((if b then some (original k m) else first_named (in_original k (suc m) ds) space name) ≡ some (original k at))
-    go true e f = unfold if◌then◌else◌ in (m, refl)
-    go false e f = unfold if◌then◌else◌ in f e
+        → (at : ℕ) × ((when b then some (original k m) else first_named (in_original k (suc m) ds) space name) ≡ some (original k at))
+    go true e f = unfold when◌then◌else◌ in (m, refl)
+    go false e f = unfold when◌then◌else◌ in f e
 
 own_none : (k m : ℕ) (ds : List Declaration) (space name : ℕ) → has ds space name ≡ false → first_named (in_original k m ds) space name ≡ none
 unfolding has first_named in_original
 own_none k m [] space name e = refl
 own_none k m (d ∷ ds) space name e = go (eqb d.space space && eqb d.name name) e (λ e. own_none k (suc m) ds space name e)
   where
-    go : (b : Bool) → b || has ds space name ≡ false → (has ds space name ≡ false → first_named (in_original k (suc m) ds) space name ≡ none) → (if b then some (original k m) else first_named (in_original k (suc m) ds) space name) ≡ none
+    go : (b : Bool) → b || has ds space name ≡ false → (has ds space name ≡ false → first_named (in_original k (suc m) ds) space name ≡ none) → (when b then some (original k m) else first_named (in_original k (suc m) ds) space name) ≡ none
     go true e f = false_not (sym e)
-    go false e f = unfold if◌then◌else◌ in f e
+    go false e f = unfold when◌then◌else◌ in f e
 
 -- What is found at `o` in fields before which `k` stand: it is among the first `n` exactly if its field is.
 abbrev Among : (k n : ℕ) → Fields → (space name : ℕ) → Option Spot → Type 0
@@ -143,8 +143,8 @@ spot_late steps l n rest space name (some (original field at)) t i a e =
 spot_late steps l n rest space name (some (inserted h)) t i a e = absurd i
 
 late_step : (steps : List ℕ) (b c : Bool) (d : Option Place) (o : Option Place) (rest : Bool) → is_just d ≡ b → (b ≡ true → late_by steps d ≡ not c) → rest ≡ late_by steps o
-    → (if b then b && not c else rest) ≡ late_by steps (d or_else o)
-unfolding if◌then◌else◌ ◌or_else◌
+    → (when b then b && not c else rest) ≡ late_by steps (d or_else o)
+unfolding when◌then◌else◌ ◌or_else◌
 late_step steps true c none o rest e f r = false_not e
 late_step steps true c (some d) o rest e f r = sym (f refl)
 late_step steps false c none o rest e f r = r
@@ -153,7 +153,7 @@ late_step steps false c (some d) o rest e f r = false_not (sym e)
 -- one scope with these declarations, and what is late further out
 late_first : (steps rest : List ℕ) (l : Level) (n : ℕ) (decls before : List Declaration) (space name : ℕ) (late : Bool) (o : Option Place) → steps ≡ l.way ++ (n ∷ rest) → LowFields l.fields
     → has decls space name ≡ has (declarations l.fields) space name → has before space name ≡ has (firsts n l.fields) space name → late ≡ late_by steps o
-    → (if is_just (find decls space name) then Rules.comes_later decls before space name else late) ≡ late_by steps (declared l space name or_else o)
+    → (when is_just (find decls space name) then Rules.comes_later decls before space name else late) ≡ late_by steps (declared l space name or_else o)
 unfolding Rules.comes_later
 late_first steps rest l n decls before space name late o towards low same earlier far =
     rw (Unknown.find_has decls space name, same, Unknown.find_has before space name, earlier)

@@ -7,7 +7,7 @@ use mathlib.Core.List.{List, [], ◌∷◌, ◌++◌}
 use Rattle.std.proofs.Math.ListN.{get_elem?}
 use native.Mathlib.Omega.{arith}
 use Rattle.rules.specs.Tools
-use Rattle.rules.specs.Tools.{if◌then◌else◌, is_in}
+use Rattle.rules.specs.Tools.{when◌then◌else◌, is_in}
 use Rattle.rules.specs.Versions.{RuleSet, today}
 use Rattle.rules.specs.Rows.{Id}
 use Rattle.rules.specs.Tree
@@ -80,7 +80,7 @@ head_stays ds outside k h o op e = if_both (OkR _) _ _ _ (op, e) (bind_ok _ _ _ 
 -- the operands before it pass
 passed : (here : Env) (outside : Outside) (fz : ℕ) (seen : List ℕ) (os : List Operand) (o : ℕ)
     → OkR (λ os'. (x : List Operand) × (resolve_operands here outside fz seen (take o os) ≡ ok x)) (resolve_operands here outside fz seen os)
-unfolding resolve_operands if◌then◌else◌
+unfolding resolve_operands when◌then◌else◌
 passed here outside fz seen os zero = always (resolve_operands here outside fz seen os) ([], refl)
 passed here outside fz seen [] (suc o) = ([], refl)
 passed here outside fz seen (ref space at paths z ∷ os) (suc o) =
@@ -92,7 +92,7 @@ passed here outside fz seen (outer space up at z ∷ os) (suc o) =
 passed here outside fz seen (case name z ∷ os) (suc o) = go (not (eqb name 0) && is_in name seen) refl (passed here outside fz (name ∷ seen) os o)
   where
     go : (b : Bool) → not (eqb name 0) && is_in name seen ≡ b → OkR (λ os'. (x : List Operand) × (resolve_operands here outside fz (name ∷ seen) (take o os) ≡ ok x)) (resolve_operands here outside fz (name ∷ seen) os)
-        → OkR (λ os'. (x : List Operand) × (resolve_operands here outside fz seen (take (suc o) (case name z ∷ os)) ≡ ok x)) (if b then refused Rules.case_twice z else (resolve_operands here outside fz (name ∷ seen) os >>= λ os'. ok (case name z ∷ os')))
+        → OkR (λ os'. (x : List Operand) × (resolve_operands here outside fz seen (take (suc o) (case name z ∷ os)) ≡ ok x)) (when b then refused Rules.case_twice z else (resolve_operands here outside fz (name ∷ seen) os >>= λ os'. ok (case name z ∷ os')))
     go true eb f = tt
     go false eb f = bind_ok _ _ _ _ f (λ os' s. (case name z ∷ s.0, rw eb (ok_then (resolve_operands here outside fz (name ∷ seen) (take o os)) _ s.0 _ s.1 refl)))
 

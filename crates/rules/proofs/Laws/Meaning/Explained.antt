@@ -8,7 +8,7 @@ use Rattle.std.proofs.Common.{sym, ◌∙◌, add-one, arith}
 use Rattle.std.proofs.Math.Option.{Option, none, some}
 use mathlib.Core.List.{List, [], ◌∷◌, ◌++◌, append_assoc, append-nil}
 use Rattle.std.proofs.Math.ListN.{get_elem?}
-use Rattle.rules.specs.Tools.{if◌then◌else◌, only, ◌then◌, ◌or_else◌, is_in}
+use Rattle.rules.specs.Tools.{when◌then◌else◌, only, ◌then◌, ◌or_else◌, is_in}
 use Rattle.rules.specs.Versions.{RuleSet, top_name}
 use Rattle.rules.specs.Rows.{Num, Id}
 use Rattle.rules.specs.Tree.{Operand, ref, Head, Scope, scope, Fields, Item, plain, holds, head_of}
@@ -90,7 +90,7 @@ unfolding Readings.walked only
 walked_is h space name z e = rw e
 
 explained_is : (ls : List Level) (space new count index z : ℕ) → explained (record { around = ls; head = outer_alias space new count index z }) ≡ Explainer.denotes ls space count index
-unfolding explained Explainer.outer_denotes outer_alias if◌then◌else◌
+unfolding explained Explainer.outer_denotes outer_alias when◌then◌else◌
 explained_is ls space new count index z = refl
 
 further : (l : Level) (ls : List Level) (space name : ℕ) (p : Place) → declared l space name ≡ none → outward ls space name ≡ some p → outward (l ∷ ls) space name ≡ some p

@@ -3,7 +3,7 @@ use Rattle.std.specs.Prelude.{◌≡◌, Bool, true, false, ◌&&◌, List, [], 
 use Rattle.std.proofs.Math.Option.{Option, none, some, map}
 use Rattle.std.proofs.Common.{arith}
 use Rattle.std.proofs.Math.ListN.{get_elem?}
-use Rattle.rules.specs.Tools.{if◌then◌else◌, ◌then◌, ◌or_else◌}
+use Rattle.rules.specs.Tools.{when◌then◌else◌, ◌then◌, ◌or_else◌}
 use Rattle.rules.specs.Versions.{top_name}
 use Rattle.rules.specs.Tree.{Declaration, Fields, end, ◌▸◌, head_of}
 use Rattle.rules.specs.Rules.{table_of, Env, find, walk, declarations}
@@ -38,8 +38,8 @@ or_else_original none b p q = q
 or_else_original (some (original field at)) b p q = tt
 or_else_original (some (inserted h)) b p q = p
 
-one_original : (b : Bool) (n m : ℕ) (o : Option Spot) → InOriginal o → InOriginal (if b then some (original n m) else o)
-unfolding if◌then◌else◌
+one_original : (b : Bool) (n m : ℕ) (o : Option Spot) → InOriginal o → InOriginal (when b then some (original n m) else o)
+unfolding when◌then◌else◌
 one_original true n m o p = tt
 one_original false n m o p = p
 

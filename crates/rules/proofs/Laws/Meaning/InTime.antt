@@ -5,7 +5,7 @@ use Rattle.std.proofs.Math.Option.{Option, some}
 use mathlib.Core.List.{List, [], ◌∷◌, ◌++◌, append_assoc}
 use Prim.Native.Nat.{ℕ, zero, suc}
 use Rattle.std.proofs.Math.ListN.{get_elem?}
-use Rattle.rules.specs.Tools.{if◌then◌else◌, is_just}
+use Rattle.rules.specs.Tools.{when◌then◌else◌, is_just}
 use Rattle.rules.specs.Versions.{RuleSet}
 use Rattle.rules.specs.Rows.{Id}
 use Rattle.rules.specs.Tree.{Declaration, Operand, ref, Head, Scope, scope, Item, head_of}
@@ -29,7 +29,7 @@ use Rattle.rules.proofs.Laws.Meaning.EveryTurn.{every_turn}
 -- ---- step B passes only what is in time
 
 in_time_lem : (b : Bool) (z : ℕ) (u : Unit {0}) → Rules.in_time b z ≡ ok u → b ≡ false
-unfolding Rules.in_time if◌then◌else◌
+unfolding Rules.in_time when◌then◌else◌
 in_time_lem true z u e = no_result Rules.not_earlier z u e
 in_time_lem false z u e = refl
 
@@ -40,7 +40,7 @@ module _ (ds : List Declaration) (outside : Outside) (space name z : ℕ) where
   operand_in_time : (k : ℕ) → OkR (λ e. InTime) (expand_operand ds outside k (ref space (Id name) [] z))
   unfolding expand_operand
   operand_in_time k = bind_eq _ _ _ (λ u e. always
-      (if is_just (Rules.find ds space name) then ok (Rules.as_it_is (ref space (Id name) [] z) k) else Rules.found_at space name z k (Rules.walk outside.scopes 1 space name))
+      (when is_just (Rules.find ds space name) then ok (Rules.as_it_is (ref space (Id name) [] z) k) else Rules.found_at space name z k (Rules.walk outside.scopes 1 space name))
       (in_time_lem _ z u e))
 
   operands_in_time : (k : ℕ) (os : List Operand) (o : ℕ) → get_elem? os o ≡ some (ref space (Id name) [] z) → OkR (λ e. InTime) (expand_operands ds outside k os)
@@ -50,7 +50,7 @@ module _ (ds : List Declaration) (outside : Outside) (space name z : ℕ) where
   operands_in_time k (x ∷ os) (suc o) e = bind_any _ _ _ (λ x'. bind_ok _ _ _ _ (operands_in_time x'.k os o e) (λ xs t. t))
 
   head_in_time : (k : ℕ) (h : Head) (o : ℕ) → here_only h.code ≡ false → get_elem? h.operands o ≡ some (ref space (Id name) [] z) → OkR (λ e. InTime) (expand_head ds outside k h)
-  unfolding expand_head if◌then◌else◌
+  unfolding expand_head when◌then◌else◌
   head_in_time k h o c e = rw c (bind_ok _ _ _ _ (operands_in_time k h.operands o e) (λ es t. t))
 
 -- ---- the scope of an operand at its turn

@@ -4,7 +4,7 @@ use Rattle.std.proofs.Common.{ap, sym, ◌∙◌, append_assoc, arith}
 use Rattle.std.proofs.Math.Option
 use Rattle.std.proofs.Math.Option.{Option, none, some}
 use Rattle.std.proofs.Math.ListN.{get_elem?}
-use Rattle.rules.specs.Tools.{if◌then◌else◌, ◌or_else◌}
+use Rattle.rules.specs.Tools.{when◌then◌else◌, ◌or_else◌}
 use Rattle.rules.specs.Tree.{Declaration, Head, Fields, end, ◌▸◌, Item, head_of}
 use Rattle.rules.specs.Rules.{find, fresh, declarations, ◌before◌}
 use Rattle.rules.specs.Readings.{is_fresh, any_fresh, is_inserted, originals, Spot, original, inserted, Standing, in_original, in_inserted, standings, first_named, of_space}
@@ -34,20 +34,20 @@ in_heads [] = []
 in_heads (h ∷ hs) = in_inserted h h.decls ++ in_heads hs
 
 pub standings_original : (n : ℕ) (i : Item) (fs : Fields) → is_inserted (head_of i) ≡ false → standings n (i ▸ fs) ≡ in_original n 0 (head_of i).decls ++ standings (suc n) fs
-unfolding standings if◌then◌else◌
+unfolding standings when◌then◌else◌
 standings_original n i fs e = rw e
 
 pub standings_before : (lo hi n : ℕ) (hs : List Head) (fs : Fields) → AllNew lo hi hs → standings n (◌before◌ hs fs) ≡ in_heads hs ++ standings n fs
-unfolding ◌before◌ standings if◌then◌else◌ in_heads head_of
+unfolding ◌before◌ standings when◌then◌else◌ in_heads head_of
 standings_before lo hi n [] fs a = refl
 standings_before lo hi n (h ∷ hs) fs a = rw (new_inserted lo hi h a.0, standings_before lo hi n hs fs a.1, append_assoc)
 
 pub originals_original : (i : Item) (fs : Fields) → is_inserted (head_of i) ≡ false → originals (i ▸ fs) ≡ i ∷ originals fs
-unfolding originals if◌then◌else◌
+unfolding originals when◌then◌else◌
 originals_original i fs e = rw e
 
 pub originals_before : (lo hi : ℕ) (hs : List Head) (fs : Fields) → AllNew lo hi hs → originals (◌before◌ hs fs) ≡ originals fs
-unfolding ◌before◌ originals if◌then◌else◌ head_of
+unfolding ◌before◌ originals when◌then◌else◌ head_of
 originals_before lo hi [] fs a = refl
 originals_before lo hi (h ∷ hs) fs a = rw (new_inserted lo hi h a.0) (originals_before lo hi hs fs a.1)
 
@@ -68,8 +68,8 @@ map-append : (xs ys : List Standing) → decls_of (xs ++ ys) ≡ decls_of xs ++ 
 map-append [] ys = refl
 map-append (x ∷ xs) ys = ap (λ (l : List Declaration). x.decl ∷ l) (map-append xs ys)
 
-own_decls : (b : Bool) (n : ℕ) (h : Head) → decls_of (if b then in_inserted h h.decls else in_original n 0 h.decls) ≡ h.decls
-unfolding if◌then◌else◌
+own_decls : (b : Bool) (n : ℕ) (h : Head) → decls_of (when b then in_inserted h h.decls else in_original n 0 h.decls) ≡ h.decls
+unfolding when◌then◌else◌
 own_decls true n h = in_inserted_decls h h.decls
 own_decls false n h = in_original_decls n 0 h.decls
 
@@ -78,20 +78,20 @@ unfolding standings declarations
 standings_decls n end = refl
 standings_decls n (i ▸ fs) =
     rw (
-      map-append (if is_inserted (head_of i) then in_inserted (head_of i) (head_of i).decls else in_original n 0 (head_of i).decls) (standings (if is_inserted (head_of i) then n else suc n) fs),
+      map-append (when is_inserted (head_of i) then in_inserted (head_of i) (head_of i).decls else in_original n 0 (head_of i).decls) (standings (when is_inserted (head_of i) then n else suc n) fs),
       own_decls (is_inserted (head_of i)) n (head_of i),
-      standings_decls (if is_inserted (head_of i) then n else suc n) fs,
+      standings_decls (when is_inserted (head_of i) then n else suc n) fs,
     )
 
 -- ---- the first of a name
 
-if_or_else : {A : Type 0} (b : Bool) (a : A) (x y z : Option A) → y ≡ x or_else z → (if b then some a else y) ≡ (if b then some a else x) or_else z
-unfolding if◌then◌else◌ ◌or_else◌
+if_or_else : {A : Type 0} (b : Bool) (a : A) (x y z : Option A) → y ≡ x or_else z → (when b then some a else y) ≡ (when b then some a else x) or_else z
+unfolding when◌then◌else◌ ◌or_else◌
 if_or_else true a x y z e = refl
 if_or_else false a x y z e = e
 
-if_or : {A : Type 0} (b : Bool) (a : A) (o : Option A) → ((if b then some a else none) or_else o) ≡ (if b then some a else o)
-unfolding if◌then◌else◌ ◌or_else◌
+if_or : {A : Type 0} (b : Bool) (a : A) (o : Option A) → ((when b then some a else none) or_else o) ≡ (when b then some a else o)
+unfolding when◌then◌else◌ ◌or_else◌
 if_or true a o = refl
 if_or false a o = refl
 
@@ -110,7 +110,7 @@ unfolding ◌or_else◌
 first_within xs ys space name s e = rw (first_append xs ys space name, e)
 
 pub first_other : (s : Standing) (ss : List Standing) (space name : ℕ) → ¬ (s.decl.name ≡ name) → first_named (s ∷ ss) space name ≡ first_named ss space name
-unfolding first_named if◌then◌else◌
+unfolding first_named when◌then◌else◌
 first_other s ss space name h = rw (eqb-false s.decl.name name h, and-false (eqb s.decl.space space))
 
 -- fresh names are never found by others
@@ -138,18 +138,18 @@ unfoldable pub has : List Declaration → (space name : ℕ) → Bool
 has [] space name = false
 has (d ∷ ds) space name = (eqb d.space space && eqb d.name name) || has ds space name
 
-has_step : (a b : Bool) (s : Spot) (o : Option Spot) → o ≡ (if b then some s else none) → (if a then some s else o) ≡ (if a || b then some s else none)
-unfolding if◌then◌else◌
+has_step : (a b : Bool) (s : Spot) (o : Option Spot) → o ≡ (when b then some s else none) → (when a then some s else o) ≡ (when a || b then some s else none)
+unfolding when◌then◌else◌
 has_step true b s o e = refl
 has_step false b s o e = e
 
-first_of_head : (h : Head) (ds : List Declaration) (space name : ℕ) → first_named (in_inserted h ds) space name ≡ (if has ds space name then some (inserted h) else none)
-unfolding has first_named in_inserted if◌then◌else◌
+first_of_head : (h : Head) (ds : List Declaration) (space name : ℕ) → first_named (in_inserted h ds) space name ≡ (when has ds space name then some (inserted h) else none)
+unfolding has first_named in_inserted when◌then◌else◌
 first_of_head h [] space name = refl
 first_of_head h (d ∷ ds) space name = has_step (eqb d.space space && eqb d.name name) (has ds space name) (inserted h) _ (first_of_head h ds space name)
 
 pub first_of_heads : (h : Head) (hs : List Head) (space name : ℕ)
-    → first_named (in_heads (h ∷ hs)) space name ≡ (if has h.decls space name then some (inserted h) else first_named (in_heads hs) space name)
+    → first_named (in_heads (h ∷ hs)) space name ≡ (when has h.decls space name then some (inserted h) else first_named (in_heads hs) space name)
 unfolding in_heads
 first_of_heads h hs space name = rw (first_append (in_inserted h h.decls) (in_heads hs) space name, first_of_head h h.decls space name) (if_or (has h.decls space name) (inserted h) (first_named (in_heads hs) space name))
 
@@ -168,8 +168,8 @@ found_next s ss (some n) none f = f
 found_next s ss (some n) (some t) f = f
 
 found_one : (a b : Bool) (s : Spot) (ss : List Spot) (o : Option ℕ) (q : Option Spot) → Found ss o q
-    → Found (if a then s ∷ ss else ss) (if a then if b then some 0 else Option.map suc o else o) (if a && b then some s else q)
-unfolding if◌then◌else◌
+    → Found (when a then s ∷ ss else ss) (when a then when b then some 0 else Option.map suc o else o) (when a && b then some s else q)
+unfolding when◌then◌else◌
 found_one true true s ss o q f = refl
 found_one true false s ss o q f = found_next s ss o q f
 found_one false b s ss o q f = f

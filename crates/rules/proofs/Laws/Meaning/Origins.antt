@@ -6,7 +6,7 @@ use Rattle.std.proofs.Math.Option.{Option, none, some, map}
 use mathlib.Core.List.{List, [], ◌∷◌}
 use Prim.Native.Nat.{ℕ, zero, suc}
 use Rattle.std.proofs.Math.ListN.{get_elem?}
-use Rattle.rules.specs.Tools.{if◌then◌else◌, only, is_in}
+use Rattle.rules.specs.Tools.{when◌then◌else◌, only, is_in}
 use Rattle.rules.specs.Rows.{Index, Num, Id}
 use Rattle.rules.specs.Tree.{Declaration, Operand, ref, outer, case, Head, Fields, end, ◌▸◌, Item, plain, head_of, with_operands}
 use Rattle.rules.specs.Shapes.{FOUR, here_only}
@@ -38,7 +38,7 @@ data Split (hs : List Head) (i : Item) (gs : Fields) (j : ℕ) (i' : Item) : Typ
 
 split : (lo hi : ℕ) (hs : List Head) (i : Item) (gs : Fields) (j : ℕ) (i' : Item) → AllNew lo hi hs → is_inserted (head_of i) ≡ false
     → get_elem? (items (◌before◌ hs (i ▸ gs))) j ≡ some i' → Split hs i gs j i'
-unfolding items ◌before◌ renumbered only if◌then◌else◌
+unfolding items ◌before◌ renumbered only when◌then◌else◌
 split lo hi [] i gs zero i' a o e = itself (sym (some_same i i' e)) (rw o)
 split lo hi [] i gs (suc j) i' a o e = later j e (rw o)
 split lo hi (h ∷ hs) i gs zero i' a o e = of_new h first (sym (some_same (plain h) i' e))

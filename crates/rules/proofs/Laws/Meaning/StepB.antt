@@ -6,7 +6,7 @@ use Rattle.std.proofs.Math.Option.{Option, none, some}
 use mathlib.Core.List.{List, [], ◌∷◌, ◌++◌}
 use Prim.Native.Nat.{ℕ, zero, suc, ◌≤◌}
 use Rattle.std.proofs.Math.ListN.{get_elem?}
-use Rattle.rules.specs.Tools.{if◌then◌else◌, only, is_just}
+use Rattle.rules.specs.Tools.{when◌then◌else◌, only, is_just}
 use Rattle.rules.specs.Rows.{Num, Id}
 use Rattle.rules.specs.Tree.{Declaration, Operand, ref, outer, case, Head, with_operands}
 use Rattle.rules.specs.Shapes.{here_only}
@@ -53,7 +53,7 @@ pub data Made (ds : List Declaration) (outside : Outside) (space name z b : ℕ)
       → Made ds outside space name z b now new
 
 alias_first : (space k d n z : ℕ) → first_named (in_heads (Rules.outer_alias space (fresh k) d n z ∷ [])) space (fresh k) ≡ some (inserted (Rules.outer_alias space (fresh k) d n z))
-unfolding Lookups.has Rules.outer_alias if◌then◌else◌
+unfolding Lookups.has Rules.outer_alias when◌then◌else◌
 alias_first space k d n z = rw (Lookups.first_of_heads (Rules.outer_alias space (fresh k) d n z) [] space (fresh k), eqb_same space, eqb_same (fresh k))
 
 module _ (ds : List Declaration) (outside : Outside) (space name z : ℕ) where
@@ -64,11 +64,11 @@ module _ (ds : List Declaration) (outside : Outside) (space name z : ℕ) where
   found_made k (some at) f w = if_both (OkR (λ (e : Expanded Operand). Made ds outside space name z k e.now e.inserted)) _ _ _ (aliased k at f w (omega arith) refl (alias_first space k at.0 at.1 z)) tt
 
   operand_made : (k : ℕ) → OkR (λ e. Made ds outside space name z k e.now e.inserted) (expand_operand ds outside k (ref space (Id name) [] z))
-  unfolding expand_operand Rules.as_it_is if◌then◌else◌
+  unfolding expand_operand Rules.as_it_is when◌then◌else◌
   operand_made k = bind_any _ _ _ (λ u. go (find ds space name) refl)
     where
       go : (o : Option ℕ) → find ds space name ≡ o
-          → OkR (λ e. Made ds outside space name z k e.now e.inserted) (if is_just o then ok (Rules.as_it_is (ref space (Id name) [] z) k) else Rules.found_at space name z k (walk outside.scopes 1 space name))
+          → OkR (λ e. Made ds outside space name z k e.now e.inserted) (when is_just o then ok (Rules.as_it_is (ref space (Id name) [] z) k) else Rules.found_at space name z k (walk outside.scopes 1 space name))
       go none e = found_made k (walk outside.scopes 1 space name) e refl
       go (some n) e = left refl (rw e)
 
@@ -99,5 +99,5 @@ module _ (ds : List Declaration) (outside : Outside) (space name z : ℕ) where
 pub head_made : (ds : List Declaration) (outside : Outside) (space name z k : ℕ) (h : Head) (o : ℕ)
     → here_only h.code ≡ false → get_elem? h.operands o ≡ some (ref space (Id name) [] z)
     → OkR (λ e. (now : Operand) × (get_elem? e.now.operands o ≡ some now) × Made ds outside space name z k now e.inserted) (expand_head ds outside k h)
-unfolding expand_head with_operands if◌then◌else◌
+unfolding expand_head with_operands when◌then◌else◌
 head_made ds outside space name z k h o c e = rw c (bind_ok _ _ _ _ (operands_made ds outside space name z k h.operands o e) (λ es m. m))

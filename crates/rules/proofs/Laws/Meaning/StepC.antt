@@ -7,7 +7,7 @@ use Rattle.std.proofs.Math.Option.{Option, none, some}
 use mathlib.Core.List.{List, [], ◌∷◌}
 use Prim.Native.Nat.{ℕ, zero, suc}
 use Rattle.std.proofs.Math.ListN.{get_elem?}
-use Rattle.rules.specs.Tools.{if◌then◌else◌, ◌then◌}
+use Rattle.rules.specs.Tools.{when◌then◌else◌, ◌then◌}
 use Rattle.rules.specs.Rows.{Index, Num, Id}
 use Rattle.rules.specs.Tree.{Declaration, Operand, ref, outer, case, Head, with_operands}
 use Rattle.rules.specs.Rules
@@ -56,10 +56,10 @@ module _ (here : Env) (outside : Outside) (space name : ℕ) (h h' : Head) (stay
   has_same : (x x' : Head) → resolve_head here outside x ≡ ok x' → Lookups.has x'.decls space name ≡ Lookups.has x.decls space name
   has_same x x' p = ap (λ (ds : List Declaration). Lookups.has ds space name) (holds_of (Runs.SameDecls x) _ x' (Runs.head_same here outside x) p).0
 
-  inserted_step : (x : Head) (hs : List Head) (b : Bool) → Lookups.has x.decls space name ≡ b → (if b then some (inserted x) else first_named (in_heads hs) space name) ≡ some (inserted h)
+  inserted_step : (x : Head) (hs : List Head) (b : Bool) → Lookups.has x.decls space name ≡ b → (when b then some (inserted x) else first_named (in_heads hs) space name) ≡ some (inserted h)
       → (first_named (in_heads hs) space name ≡ some (inserted h) → OkR First (resolve_inserted here outside hs))
       → OkR First (resolve_inserted here outside (x ∷ hs))
-  unfolding resolve_inserted if◌then◌else◌
+  unfolding resolve_inserted when◌then◌else◌
   inserted_step x hs true d f below =
       bind_any First _ _ (λ u. bind_eq First _ _ (λ x' p. bind_any First (resolve_inserted here outside hs) (λ hs'. ok (x' ∷ hs')) (λ hs'.
       let same : x ≡ h = cc in

@@ -5,7 +5,7 @@ use Rattle.std.proofs.Common.{ap, sym, ◌∙◌}
 use Rattle.std.proofs.Math.Option.{Option, none, some}
 use mathlib.Core.List.{List, [], ◌∷◌, ◌++◌}
 use Rattle.std.proofs.Math.ListN.{length}
-use Rattle.rules.specs.Tools.{if◌then◌else◌, is_just, is_in}
+use Rattle.rules.specs.Tools.{when◌then◌else◌, is_just, is_in}
 use Rattle.rules.specs.Versions.{RuleSet}
 use Rattle.rules.specs.Rows.{Index, Num, Id}
 use Rattle.rules.specs.Tree.{Declaration, Operand, ref, outer, case, Head, Scope, scope, Fields, end, ◌▸◌, Item, plain, holds, head_of}
@@ -36,14 +36,14 @@ both {A = A} {B = B} m m' f f' p q = bind_ok (λ a. m' ≡ ok a) (λ b. (m' >>= 
     step a e (refused why z) r = tt
     step a e (ok b) r = ok_then m' f' a b e r
 
-if_same : {A : Type 0} (c : Bool) (x : Result A) (m m' : Result A) → OkR (λ a. m' ≡ ok a) m → OkR (λ a. (if c then x else m') ≡ ok a) (if c then x else m)
-unfolding if◌then◌else◌
+if_same : {A : Type 0} (c : Bool) (x : Result A) (m m' : Result A) → OkR (λ a. m' ≡ ok a) m → OkR (λ a. (when c then x else m') ≡ ok a) (when c then x else m)
+unfolding when◌then◌else◌
 if_same true x m m' p = self x
 if_same false x m m' p = p
 
 -- what is in time either way
 timely : (b b' : Bool) (z : ℕ) → b' ≡ false → OkR (λ (u : Unit {0}). Rules.in_time b' z ≡ ok u) (Rules.in_time b z)
-unfolding Rules.in_time if◌then◌else◌
+unfolding Rules.in_time when◌then◌else◌
 timely true b' z e = tt
 timely false b' z e = rw e
 
@@ -58,9 +58,9 @@ module _ (ds : List Declaration) (o : Outside) where
   unfolding expand_operand
   operand_same k (ref space (Num n) [] z) = refl
   operand_same k (ref space (Id name) [] z) = both _ _ _ _ (timely _ _ z (not_late space name)) (λ u.
-      self (if is_just (Rules.find ds space name) then ok (Rules.as_it_is (ref space (Id name) [] z) k) else Rules.found_at space name z k (Rules.walk o.scopes 1 space name)))
+      self (when is_just (Rules.find ds space name) then ok (Rules.as_it_is (ref space (Id name) [] z) k) else Rules.found_at space name z k (Rules.walk o.scopes 1 space name)))
   operand_same k (ref space at (p ∷ ps) z) =
-      self (if is_in space (4 ∷ 6 ∷ []) then refused Rules.not_exported z else ok (Rules.through space z (k + length ps) (Rules.path_aliases space at p ps z k)))
+      self (when is_in space (4 ∷ 6 ∷ []) then refused Rules.not_exported z else ok (Rules.through space z (k + length ps) (Rules.path_aliases space at p ps z k)))
   operand_same k (outer space up at z) = refl
   operand_same k (case name z) = refl
 
@@ -165,7 +165,7 @@ abbrev Other : {A : Type 0} → Result A → Type 0
 Other m = RefR NotLate m
 
 free_time : (late : Bool) (z : ℕ) → late ≡ false → Other (Rules.in_time late z)
-unfolding Rules.in_time if◌then◌else◌
+unfolding Rules.in_time when◌then◌else◌
 free_time true z e = false_not (sym e)
 free_time false z e = tt
 

@@ -7,7 +7,7 @@ use Rattle.std.proofs.Math.Option.{Option, none, some, map}
 use mathlib.Core.List.{List, [], ◌∷◌, ◌++◌}
 use Prim.Native.Nat.{ℕ, zero, suc, ◌≤◌}
 use Rattle.std.proofs.Math.ListN.{get_elem?}
-use Rattle.rules.specs.Tools.{if◌then◌else◌, is_just, ◌then◌, is_in, ◌or_else◌}
+use Rattle.rules.specs.Tools.{when◌then◌else◌, is_just, ◌then◌, is_in, ◌or_else◌}
 use Rattle.rules.specs.Versions.{RuleSet, top_name}
 use Rattle.rules.specs.Rows.{Id}
 use Rattle.rules.specs.Tree.{Declaration, Operand, ref, outer, case, Head, Scope, scope, Fields, end, ◌▸◌, Item, holds, head_of}
@@ -32,8 +32,8 @@ use Rattle.rules.specs.Laws.Results.{just_none, not_refused, bind_known, refused
 
 -- ---- is a name declared?
 
-find_step : (a b : Bool) (o : Option ℕ) (t : Bool) → is_just o ≡ t → is_just (if a then if b then some 0 else map suc o else o) ≡ (a && b) || t
-unfolding if◌then◌else◌
+find_step : (a b : Bool) (o : Option ℕ) (t : Bool) → is_just o ≡ t → is_just (when a then when b then some 0 else map suc o else o) ≡ (a && b) || t
+unfolding when◌then◌else◌
 find_step true true o t e = refl
 find_step true false none t e = e
 find_step true false (some n) t e = e
@@ -186,8 +186,8 @@ walk_just (inside {l = v} {e = e} {ls = ls} {es = es} T Ts) c space name l =
       declared_has v space name T.low,
     )
 
-if_just : {A : Type 0} (b : Bool) (a : A) (o : Option A) (t : Bool) → is_just o ≡ t → is_just (if b then some a else o) ≡ b || t
-unfolding if◌then◌else◌
+if_just : {A : Type 0} (b : Bool) (a : A) (o : Option A) (t : Bool) → is_just o ≡ t → is_just (when b then some a else o) ≡ b || t
+unfolding when◌then◌else◌
 if_just true a o t e = refl
 if_just false a o t e = e
 
@@ -304,7 +304,7 @@ turn_has (further {name = name} {fs = fs} {outside = outside} {k = k} {n = n} {w
 module _ (here : Env) (outside : Outside) (m : Refusal) (p : ℕ) where
   operands_refuse : (fz : ℕ) (seen : List ℕ) (os : List Operand) (o : ℕ) (os₁ : List Operand) (now : Operand) → resolve_operands here outside fz seen (take o os) ≡ ok os₁
       → get_elem? os o ≡ some now → lookup here now ≡ refused m p → resolve_operands here outside fz seen os ≡ refused m p
-  unfolding resolve_operands if◌then◌else◌
+  unfolding resolve_operands when◌then◌else◌
   operands_refuse fz seen [] o os₁ now e g l = no_option now g
   operands_refuse fz seen (x ∷ os) zero os₁ now e g l = at_first x (ap (lookup here) (some_same x now g) ∙ l)
     where
@@ -325,9 +325,9 @@ module _ (here : Env) (outside : Outside) (m : Refusal) (p : ℕ) where
   operands_refuse fz seen (case name z ∷ os) (suc o) os₁ now e g l =
       passed (not (eqb name 0) && is_in name seen) e (λ os₂ e₂. operands_refuse fz (name ∷ seen) os o os₂ now e₂ g l)
     where
-      passed : (b : Bool) → (if b then refused Rules.case_twice z else (resolve_operands here outside fz (name ∷ seen) (take o os) >>= λ os'. ok (case name z ∷ os'))) ≡ ok os₁
+      passed : (b : Bool) → (when b then refused Rules.case_twice z else (resolve_operands here outside fz (name ∷ seen) (take o os) >>= λ os'. ok (case name z ∷ os'))) ≡ ok os₁
           → ((os₂ : List Operand) → resolve_operands here outside fz (name ∷ seen) (take o os) ≡ ok os₂ → resolve_operands here outside fz (name ∷ seen) os ≡ refused m p)
-          → (if b then refused Rules.case_twice z else (resolve_operands here outside fz (name ∷ seen) os >>= λ os'. ok (case name z ∷ os'))) ≡ refused m p
+          → (when b then refused Rules.case_twice z else (resolve_operands here outside fz (name ∷ seen) os >>= λ os'. ok (case name z ∷ os'))) ≡ refused m p
       passed true e below = no_result Rules.case_twice z os₁ e
       passed false e below =
           let s₁ = bind_inv (resolve_operands here outside fz (name ∷ seen) (take o os)) _ os₁ e in

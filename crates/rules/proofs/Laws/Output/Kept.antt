@@ -5,7 +5,7 @@ use Rattle.std.proofs.Math.Path.{refl, ap, ap₂}
 use Rattle.std.proofs.Common.{sym, ◌∙◌, subst}
 use Rattle.std.proofs.Math.Option.{Option, none, some}
 use mathlib.Core.List.{List, [], ◌∷◌, map}
-use Rattle.rules.specs.Tools.{if◌then◌else◌, is_in}
+use Rattle.rules.specs.Tools.{when◌then◌else◌, is_in}
 use Rattle.rules.specs.Versions.{RuleSet}
 use Rattle.rules.specs.Rows.{Index, Num, Id}
 use Rattle.rules.specs.Tree.{Declaration, Operand, ref, outer, case, Head, Scope, scope, Fields, end, ◌▸◌, Item, plain, holds, head_of, with_operands}
@@ -50,7 +50,7 @@ unfoldable mutual
 
   pub without_fields : Fields → Fields
   without_fields end = end
-  without_fields (i ▸ fs) = if is_inserted (head_of i) then without_fields fs else without_item i ▸ without_fields fs
+  without_fields (i ▸ fs) = when is_inserted (head_of i) then without_fields fs else without_item i ▸ without_fields fs
 
   pub without_item : Item → Item
   without_item (plain h) = plain h
@@ -174,7 +174,7 @@ inserted_coded here outside (h ∷ hs) (c & a) =
 -- ---- what is inserted before a field
 
 before_without : (lo hi : ℕ) (hs : List Head) (fs : Fields) → AllNew lo hi hs → without_fields (◌before◌ hs fs) ≡ without_fields fs
-unfolding ◌before◌ without if◌then◌else◌ head_of
+unfolding ◌before◌ without when◌then◌else◌ head_of
 before_without lo hi [] fs a = refl
 before_without lo hi (h ∷ hs) fs a = rw (Lookups.new_inserted lo hi h a.0) (before_without lo hi hs fs a.1)
 
@@ -188,7 +188,7 @@ before_aliases lo hi (h ∷ hs) fs a (c & cs) r = (
 )
 
 own_without : (i : Item) (fs : Fields) → is_inserted (head_of i) ≡ false → without_fields (i ▸ fs) ≡ without_item i ▸ without_fields fs
-unfolding without if◌then◌else◌
+unfolding without when◌then◌else◌
 own_without i fs e = rw e
 
 blank_next : (i j : Item) (fs gs : Fields) → blank_item j ≡ blank_item i → blank_fields gs ≡ blank_fields fs → blank_fields (j ▸ gs) ≡ blank_fields (i ▸ fs)

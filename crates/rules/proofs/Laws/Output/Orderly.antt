@@ -6,7 +6,7 @@ use Rattle.std.proofs.Common.{sym, ◌∙◌, arith}
 use Rattle.std.proofs.Math.Bool.{true, false}
 use Rattle.std.proofs.Math.Option.{Option, none, some}
 use mathlib.Core.List.{List, [], ◌∷◌}
-use Rattle.rules.specs.Tools.{if◌then◌else◌, only, is_in}
+use Rattle.rules.specs.Tools.{when◌then◌else◌, only, is_in}
 use Rattle.rules.specs.Versions.{RuleSet}
 use Rattle.rules.specs.Tree.{Declaration}
 use Rattle.rules.specs.Shapes
@@ -131,7 +131,7 @@ Nowhere fits (variants ∷ ps) = (fits cas ≡ false) × ((fits (p (9 ∷ [])) �
 Nowhere fits (typed s ∷ ps) = (fits (p (9 ∷ [])) ≡ false) × (fits (r (s ∷ [])) ≡ false)
 
 pub none_fits : (fits : Want → Bool) (ps : List Part) → Nowhere fits ps → next fits ps ≡ none
-unfolding next only if◌then◌else◌
+unfolding next only when◌then◌else◌
 none_fits fits [] n = refl
 none_fits fits (one w ∷ ps) n = rw n.0
 none_fits fits (opt w ∷ ps) n = rw n.0 (none_fits fits ps n.1)
@@ -230,8 +230,8 @@ module _ (space n : ℕ) where
   fits_only_bare cas ps f e b = false_not b
 
   same_choice : (b b₀ : Bool) (x m m₀ : Option (List Part)) (q : List Part) → (b ≡ true → b₀ ≡ true) → (b ≡ false → b₀ ≡ true → m ≡ none) → (m ≡ some q → Covered q m₀)
-      → (if b then x else m) ≡ some q → Covered q (if b₀ then x else m₀)
-  unfolding if◌then◌else◌
+      → (when b then x else m) ≡ some q → Covered q (when b₀ then x else m₀)
+  unfolding when◌then◌else◌
   same_choice true true x m m₀ q f g h e = (q, e, same)
   same_choice true false x m m₀ q f g h e = false_not (f refl)
   same_choice false true x m m₀ q f g h e = no_option q (sym (g refl refl) ∙ e)
@@ -243,15 +243,15 @@ module _ (space n : ℕ) where
   only_same true false x q f e = false_not (f refl)
   only_same false b₀ x q f e = no_option q e
 
-  no_case : (x m m₀ : Option (List Part)) (q : List Part) → (m ≡ some q → Covered q m₀) → (if pathed cas then x else m) ≡ some q → Covered q (if bare cas then x else m₀)
-  unfolding fits_ref if◌then◌else◌
+  no_case : (x m m₀ : Option (List Part)) (q : List Part) → (m ≡ some q → Covered q m₀) → (when pathed cas then x else m) ≡ some q → Covered q (when bare cas then x else m₀)
+  unfolding fits_ref when◌then◌else◌
   no_case x m m₀ q h a = h a
 
   -- an r s with PATHs stands alone; without, it may be a p 9 that another may follow
   typed_same : (s : ℕ) (q : List Part) (b b₀ c c₀ : Bool) → b ≡ false → (c ≡ true → c₀ ≡ true)
-      → (if b then some ((if c then opt (r (s ∷ [])) else one (r (s ∷ []))) ∷ []) else only c []) ≡ some q
-      → Covered q (if b₀ then some ((if c₀ then opt (r (s ∷ [])) else one (r (s ∷ []))) ∷ []) else only c₀ [])
-  unfolding if◌then◌else◌ only complete
+      → (when b then some ((when c then opt (r (s ∷ [])) else one (r (s ∷ []))) ∷ []) else only c []) ≡ some q
+      → Covered q (when b₀ then some ((when c₀ then opt (r (s ∷ [])) else one (r (s ∷ []))) ∷ []) else only c₀ [])
+  unfolding when◌then◌else◌ only complete
   typed_same s q true b₀ c c₀ e f a = false_not (sym e)
   typed_same s q false true true true e f a = (opt (r (s ∷ [])) ∷ [], refl, rw (sym (some_same [] q a)) (ended refl))
   typed_same s q false false true true e f a = (q, a, same)

@@ -7,7 +7,7 @@ use Rattle.std.proofs.Math.Option.{Option, none, some}
 use mathlib.Core.List.{List, [], ◌∷◌, ◌++◌, map}
 use Prim.Native.Nat.{ℕ, zero, suc, ◌≤◌}
 use Rattle.rules.specs.Tools
-use Rattle.rules.specs.Tools.{if◌then◌else◌, ◌then◌, is_in}
+use Rattle.rules.specs.Tools.{when◌then◌else◌, ◌then◌, is_in}
 use Rattle.rules.specs.Versions.{RuleSet}
 use Rattle.rules.specs.Rows.{Index, Num, Id}
 use Rattle.rules.specs.Tree.{Declaration, Operand, ref, outer, case, Head, Scope, scope, Fields, end, ◌▸◌, Item, plain, holds, head_of, with_operands, flatten, form}
@@ -44,8 +44,8 @@ unfolding ◌then◌
 then_both m f a b e g = rw e g
 
 -- what can be exported is of FIVE or of SIX
-alias_space : (space : ℕ) → leb space 12 ≡ true → is_in space (4 ∷ 6 ∷ []) ≡ false → (if leb space 6 then is_in space Shapes.FIVE else is_in space Shapes.SIX) ≡ true
-unfolding if◌then◌else◌
+alias_space : (space : ℕ) → leb space 12 ≡ true → is_in space (4 ∷ 6 ∷ []) ≡ false → (when leb space 6 then is_in space Shapes.FIVE else is_in space Shapes.SIX) ≡ true
+unfolding when◌then◌else◌
 alias_space zero low e = refl
 alias_space (suc zero) low e = refl
 alias_space (suc (suc zero)) low e = refl
@@ -108,10 +108,10 @@ module _ (rules : RuleSet) where
   aliases_good kind space at p [] z k a low kept =
       (go (leb space 6) (alias_space space low kept), tt)
     where
-      go : (b : Bool) → (if b then is_in space Shapes.FIVE else is_in space Shapes.SIX) ≡ true
-          → GoodPlain kind (if b then export_alias 10 space (fresh k) 6 at p z else export_alias 9 space (fresh k) 10 at p z)
-      go true e = unfold if◌then◌else◌ in ten_good kind space (fresh k) at p z a e
-      go false e = unfold if◌then◌else◌ in nine_good kind space (fresh k) at p z a e
+      go : (b : Bool) → (when b then is_in space Shapes.FIVE else is_in space Shapes.SIX) ≡ true
+          → GoodPlain kind (when b then export_alias 10 space (fresh k) 6 at p z else export_alias 9 space (fresh k) 10 at p z)
+      go true e = unfold when◌then◌else◌ in ten_good kind space (fresh k) at p z a e
+      go false e = unfold when◌then◌else◌ in nine_good kind space (fresh k) at p z a e
   aliases_good kind space at p (q ∷ ps) z k a low kept =
       (nine_good kind 10 (fresh k) at p z a refl, aliases_good kind space (Id (fresh k)) q ps z (suc k) a low kept)
 

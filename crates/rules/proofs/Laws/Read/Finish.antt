@@ -7,7 +7,7 @@ use Rattle.std.proofs.Math.Option.{Option, none, some}
 use mathlib.Core.List.{List, [], ◌∷◌, ◌++◌, append_assoc, append-nil}
 use Rattle.std.proofs.Math.ListN.{length, replicate}
 use Rattle.std.proofs.lemmas.List.{length-replicate}
-use Rattle.rules.specs.Tools.{if◌then◌else◌, only, ◌then◌, is_in, is_just}
+use Rattle.rules.specs.Tools.{when◌then◌else◌, only, ◌then◌, is_in, is_just}
 use Rattle.rules.specs.Versions.{RuleSet}
 use Rattle.rules.specs.Rows
 use Rattle.rules.specs.Rows.{Num, Row, Field, Decl, Ref, Path, Outer, Case, Open, Close, Export, encode}
@@ -119,10 +119,10 @@ fill (typed s ∷ ps) = sample (r (s ∷ [])) ∷ []
 
 -- after an r s alone an export with an ascribed type may end
 typed_fits : (s : ℕ) → (left : List Part) × (after_operand (typed s ∷ []) (sample (r (s ∷ []))) ≡ some left) × (complete left ≡ true)
-unfolding sample after_operand next only if◌then◌else◌ Shapes.fits_ref Shapes.paths_ok
+unfolding sample after_operand next only when◌then◌else◌ Shapes.fits_ref Shapes.paths_ok
 typed_fits s = rw (eqb_same s, or-true) (go (eqb s 9))
   where
-    go : (b : Bool) → (left : List Part) × ((if (b || false) && true then some (opt (r (s ∷ [])) ∷ []) else some []) ≡ some left) × (complete left ≡ true)
+    go : (b : Bool) → (left : List Part) × ((when (b || false) && true then some (opt (r (s ∷ [])) ∷ []) else some []) ≡ some left) × (complete left ≡ true)
     go true = unfold complete in (opt (r (s ∷ [])) ∷ [], refl, refl)
     go false = unfold complete in ([], refl, refl)
 

@@ -6,7 +6,7 @@ use Rattle.std.proofs.Math.Bool.{true}
 use Rattle.std.proofs.Math.Option.{Option, none, some}
 use mathlib.Core.List.{List, [], ◌∷◌, ◌++◌, append-nil}
 use Rattle.std.proofs.Math.Dec.{eqb}
-use Rattle.rules.specs.Tools.{if◌then◌else◌, only, ◌then◌, is_just}
+use Rattle.rules.specs.Tools.{when◌then◌else◌, only, ◌then◌, is_just}
 use Rattle.rules.specs.Versions.{RuleSet}
 use Rattle.rules.specs.Rows.{Index, Row, Open, Close}
 use Rattle.rules.specs.Tree.{Declaration, Operand, ref, outer, case, Head, Scope, scope, Fields, end, ◌▸◌, Item, plain, holds, decl_rows, path_rows, operand_row, operand_rows, export_rows, head_rows, flatten, fields_rows, item_rows, with_operands}
@@ -119,7 +119,7 @@ module _ (rules : RuleSet) where
 
   head_run : (a : Around) (kind name : ℕ) (before₀ before : Fields) (c : Current) (h : Head) → GoodHead rules kind h
       → up_to rules before₀ c ≡ some before → ReadHead a kind name before h (state a kind name before₀ c)
-  unfolding head_rows step Reader.starts Reader.new_head if◌then◌else◌
+  unfolding head_rows step Reader.starts Reader.new_head when◌then◌else◌
   head_run a kind name before₀ before c h g u =
       let b = body_run rules a kind name before h.code h.builtin h.z h.decls h.operands h.export g.left g.declared g.enough_declared g.uses g.ends g.exporting in
       record { stage = b.stage; done = b.done; runs = runs_cons rules (rw (u, g.may, g.built)) b.runs }
@@ -139,7 +139,7 @@ module _ (rules : RuleSet) where
     runs : Runs rules rows from (state a kind name before now)
 
   mutual
-    unfolding flatten step up_to Reader.opened Reader.closes Reader.same_kind Reader.is_none ◌⊕◌ only if◌then◌else◌
+    unfolding flatten step up_to Reader.opened Reader.closes Reader.same_kind Reader.is_none ◌⊕◌ only when◌then◌else◌
 
     scope_run : (s : Scope) (a : Around) (kind name : ℕ) (before : Fields) (h : Head) (stage : Stage)
         → GoodScope rules s → settled rules h stage ≡ true → opens h.code ≡ some (kind_of s) → name_of s ≡ first_name h.decls
@@ -176,7 +176,7 @@ module _ (rules : RuleSet) where
 
   -- the rows of a well-formed tree lead to that tree
   pub read_back : (s : Scope) → kind_of s ≡ 0 → GoodScope rules s → after rules (on start) (flatten s) ≡ whole s
-  unfolding after step flatten Reader.first_row Reader.closes up_to ◌⊕◌ if◌then◌else◌
+  unfolding after step flatten Reader.first_row Reader.closes up_to ◌⊕◌ when◌then◌else◌
   read_back (scope kind name fs) k g =
       let r = fields_run fs root kind name end end between_fields g refl in
       let zero-kind : eqb kind 0 ≡ true = rw k in

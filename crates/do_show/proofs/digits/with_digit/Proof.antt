@@ -1,8 +1,8 @@
--- `do_show::numbers::with_digit` meets its contract.
+-- `do_show::digits::with_digit` meets its contract.
 use borrow.Author.Rules.{rules}
 use Rattle.do_show.proofs.Laws.{ways}
-use Rattle.do_show.proofs.numbers.with_digit.Statement.{statement}
-use Rattle.do_show.proofs.numbers.with_digit.Tie as tie
+use Rattle.do_show.proofs.digits.with_digit.Statement.{statement}
+use Rattle.do_show.proofs.digits.with_digit.Tie as tie
 
 pub with_digit_spec : {M : Type 1} → statement M
 with_digit_spec =

@@ -1,8 +1,8 @@
--- `runs_vectors::areas::slots_in` answers a number that counts elements at the area's start: both ways are no more than its length.
+-- `runs_vectors::area_tests::slots_in` answers a number that counts elements at the area's start: both ways are no more than its length.
 use Rattle.std.proofs.Common.{rules}
 use Rattle.runs_vectors.proofs.Counted.{counted}
-use Rattle.runs_vectors.proofs.areas.slots_in.Statement.{statement}
-use Rattle.runs_vectors.proofs.areas.slots_in.Tie as tie
+use Rattle.runs_vectors.proofs.area_tests.slots_in.Statement.{statement}
+use Rattle.runs_vectors.proofs.area_tests.slots_in.Tie as tie
 
 returns : tie.Need-returns
 returns c = (search rules, counted _ _ (search rules))

@@ -1,12 +1,12 @@
--- `do_show::numbers::number_in` meets its contract. The invariant: the digits from here on make of the number so far what all of them make.
+-- `do_show::digits::number_in` meets its contract. The invariant: the digits from here on make of the number so far what all of them make.
 use mathlib.Core.Path.{◌≡◌}
 use Prim.Native.Nat.{◌-◌}
 use lib.ListN.{length, drop}
 use Rattle.do_show.specs.Numbers.{with_digits, number_in}
 use borrow.Author.Rules.{rules}
 use Rattle.do_show.proofs.Laws.{text_ways}
-use Rattle.do_show.proofs.numbers.number_in.Statement.{statement}
-use Rattle.do_show.proofs.numbers.number_in.Tie as tie
+use Rattle.do_show.proofs.digits.number_in.Statement.{statement}
+use Rattle.do_show.proofs.digits.number_in.Tie as tie
 
 abbrev invariant-loop : tie.invariant-loop
 invariant-loop text number₀ i₀ number i = with_digits (drop i text) number ≡ number_in text

@@ -1,7 +1,7 @@
--- `runs_vectors::areas::are_left` is safe and ends: the elements that are left fall.
+-- `runs_vectors::area_tests::are_left` is safe and ends: the elements that are left fall.
 use Rattle.std.proofs.Common.{◌-◌, rules}
-use Rattle.runs_vectors.proofs.areas.are_left.Statement.{statement}
-use Rattle.runs_vectors.proofs.areas.are_left.Tie as tie
+use Rattle.runs_vectors.proofs.area_tests.are_left.Statement.{statement}
+use Rattle.runs_vectors.proofs.area_tests.are_left.Tie as tie
 
 abbrev invariant-loop : tie.invariant-loop
 invariant-loop slots links numbers cleared i₀ i = Unit {0}
