@@ -1,0 +1,40 @@
+-- `resolver_with::run::asked_for` meets its contract.
+use Prim.Native.Nat.{◌-◌}
+use Rattle.resolver_with.proofs.Asked.{ways}
+use Rattle.resolver_with.proofs.run.asked_for.Goals as goal
+
+pub loop-next-init : goal.loop-next-init
+loop-next-init c = search ways
+
+pub overflow_add-next : goal.overflow_add-next
+overflow_add-next c = search ways
+
+pub of_input-requires : goal.of_input-requires
+of_input-requires c = search ways
+
+pub header_to-requires : goal.header_to-requires
+header_to-requires c = search ways
+
+pub enum_told-1 : goal.enum_told-1
+enum_told-1 c = search ways
+
+pub returns-in-Rows : goal.returns-in-Rows
+returns-in-Rows c = search ways
+
+pub enum_told-in-Count : goal.enum_told-in-Count
+enum_told-in-Count c = search ways
+
+pub returns-in-Count : goal.returns-in-Count
+returns-in-Count c = search ways
+
+pub enum_told-in-Wrong : goal.enum_told-in-Wrong
+enum_told-in-Wrong c = search ways
+
+pub loop-next-smaller : goal.loop-next-smaller
+loop-next-smaller c = search ways
+
+pub loop-next-preserved : goal.loop-next-preserved
+loop-next-preserved c = search ways
+
+pub returns : goal.returns
+returns c = search ways
