@@ -96,6 +96,8 @@ module _ (settings : List Setting) (usual : AllUsual settings) (within : AllWith
       go : (r : Option Run) (a : AnswerOf (List Row)) → answer settings form (length o) ≡ a → Agree settings form r a → rows ≡ rows_written (ruled a).plain → Known rows r
       go none (refused n z c) e g w = let t : eqb n 0 ≡ false = omega (tests, g) in rw t at w
       go (some run) (accepted rs) e g w = subst (Wrote run) (sym w) (wrote run rs e g)
+      go none (accepted rs) e g w = elim g [ ]
+      go (some run) (refused n z c) e g w = elim g [ ]
 
 -- ---- the comparison
 

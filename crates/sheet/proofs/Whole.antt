@@ -84,6 +84,7 @@ module _ (settings : List Setting) (usual : AllUsual settings) (within : AllWith
           let found = slots_agree (body v (form_bytes v rs)) T.before T.after v.rules (OnBytes.good_after settings usual within form area bs rs q) (OnBytes.rows_of_file settings usual within form area bs rs q)
           (OnBytes.rows_of_file_are settings usual within form area bs rs q) T.keeps T.numbered ss in
           ap (λ (x : List ℕ). map (answer_to x) ss) (sym bytes_are_lem) ∙ (found ∙ ap₂ (λ (b a : Scope). bindings b a ss) trees afters)
+      go (refused number place carried) q M = elim M [ ]
 
 -- ---- the answer
 
