@@ -1,5 +1,6 @@
 -- `sheet::check` meets its contract.
-use mathlib.Core.Path.{sym}
+use mathlib.Core.Path.{sym, ap}
+use mathlib.Core.Bool.{not}
 use native.Mathlib.Omega.{arith}
 use lib.Seq.{length-take-le}
 use lib.ListN.{length}
@@ -27,19 +28,19 @@ is_output-requires c = let long = length-take-le 65480 c.args.work.now c.if-work
     omega (arith, long)
 
 pub returns-then-not-is_output : goal.returns-then-not-is_output
-returns-then-not-is_output c = let form = c.args.form.now in
+returns-then-not-is_output c =
     record {
-      result_value = search (other_says base form 65480 (area_is form), rules);
-      answers_after = search (other_leaves base form 65480 (area_is form), rules);
-      work_after = search (area_cleared base form 65480 (area_is form), rules);
+      result_value = other_says base _ 65480 (area_is _) _ _ c.args.answers.now (length c.args.work.now) _ c.is_sound.ensures (ap not c.if-not-is_sound.false) c.if-work-lt-AREA.false _ c.is_output.ensures.0 (ap not c.if-not-is_output.true) _ c.refused-then-not-is_output.ensures;
+      answers_after = other_leaves base _ 65480 (area_is _) _ _ c.args.answers.now (length c.args.work.now) _ c.is_sound.ensures (ap not c.if-not-is_sound.false) c.if-work-lt-AREA.false _ c.is_output.ensures.0 (ap not c.if-not-is_output.true);
+      work_after = area_cleared base _ 65480 (area_is _) c.args.work.now _ c.is_output.ensures.1;
     }
 
 pub returns-then-answers-answers_size : goal.returns-then-answers-answers_size
-returns-then-answers-answers_size c = let form = c.args.form.now in
+returns-then-answers-answers_size c =
     record {
-      result_value = search (no_room_says base form 65480 (area_is form), rules);
-      answers_after = search (no_room_leaves base form 65480 (area_is form), rules);
-      work_after = search (area_cleared base form 65480 (area_is form), rules);
+      result_value = no_room_says base _ 65480 (area_is _) _ _ c.args.answers.now (length c.args.work.now) _ c.is_sound.ensures (ap not c.if-not-is_sound.false) c.if-work-lt-AREA.false _ c.is_output.ensures.0 (ap not c.if-not-is_output.false) _ c.answers_size.ensures c.if-answers-answers_size.true _ c.refused-then-answers-answers_size.ensures;
+      answers_after = no_room_leaves base _ 65480 (area_is _) _ _ c.args.answers.now (length c.args.work.now) _ c.is_sound.ensures (ap not c.if-not-is_sound.false) c.if-work-lt-AREA.false _ c.is_output.ensures.0 (ap not c.if-not-is_output.false) _ c.answers_size.ensures c.if-answers-answers_size.true;
+      work_after = area_cleared base _ 65480 (area_is _) c.args.work.now _ c.is_output.ensures.1;
     }
 
 pub returns : goal.returns
@@ -47,7 +48,7 @@ returns c = let answers = c.args.answers.now in
     let work = c.args.work.now in
     let fits = c.shared_slice_known-1.given in
     record {
-      result_value = answered_says base _ 65480 (area_is _) _ _ answers (length work) _ c.is_sound.ensures c.if-not-is_sound.false c.if-work-lt-AREA.false _ c.is_output.ensures.0 c.if-not-is_output.false _ c.answers_size.ensures c.if-answers-answers_size.false base_usual base_within 8 (one_header _) fits _ _ c.answer_slots.ensures.0;
-      answers_after = answered_leaves base _ 65480 (area_is _) _ _ answers (length work) _ c.is_sound.ensures c.if-not-is_sound.false c.if-work-lt-AREA.false _ c.is_output.ensures.0 c.if-not-is_output.false _ c.answers_size.ensures c.if-answers-answers_size.false base_usual base_within 8 (one_header _) fits _ _ c.answer_slots.ensures.0;
+      result_value = answered_says base _ 65480 (area_is _) _ _ answers (length work) _ c.is_sound.ensures (ap not c.if-not-is_sound.false) c.if-work-lt-AREA.false _ c.is_output.ensures.0 (ap not c.if-not-is_output.false) _ c.answers_size.ensures c.if-answers-answers_size.false base_usual base_within 8 (one_header _) fits _ _ c.answer_slots.ensures.answers_after;
+      answers_after = answered_leaves base _ 65480 (area_is _) _ _ answers (length work) _ c.is_sound.ensures (ap not c.if-not-is_sound.false) c.if-work-lt-AREA.false _ c.is_output.ensures.0 (ap not c.if-not-is_output.false) _ c.answers_size.ensures c.if-answers-answers_size.false base_usual base_within 8 (one_header _) fits _ _ c.answer_slots.ensures.answers_after;
       work_after = area_cleared base _ 65480 (area_is _) work _ c.is_output.ensures.1;
     }

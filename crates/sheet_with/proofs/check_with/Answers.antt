@@ -1,5 +1,6 @@
 -- `sheet_with::check_with` meets its contract.
-use mathlib.Core.Path.{sym}
+use mathlib.Core.Path.{sym, ap}
+use mathlib.Core.Bool.{not}
 use native.Mathlib.Omega.{arith}
 use lib.ListN.{length}
 use lib.Seq.{length-take-le}
@@ -54,7 +55,7 @@ returns-then-not-is_output c = let args = c.args in
     let sized = c.area_for-size.ensures.0 in
     let fits = c.are_roomy-lent.ensures in
     let is = c.refused_early-early.ensures in
-    let said = other_returns args.form.now args.resolved.now args.sheet.now args.answers.now (length args.work.now) (lent_of args.entered.now args.names.now args.known.now args.chains.now args.ends.now) c.asked_for-i.result asks _ sized _ fits _ is c.if-early-ne0.false _ c.is_output.ensures.value.0 c.if-not-is_output.true _ c.refused-then-not-is_output.ensures in
+    let said = other_returns args.form.now args.resolved.now args.sheet.now args.answers.now (length args.work.now) (lent_of args.entered.now args.names.now args.known.now args.chains.now args.ends.now) c.asked_for-i.result asks _ sized _ fits _ is c.if-early-ne0.false _ c.is_output.ensures.value.0 (ap not c.if-not-is_output.true) _ c.refused-then-not-is_output.ensures in
     record {
       result_value = said.0;
       answers_after = said.1;
@@ -68,7 +69,7 @@ returns-then-answers-answers_size c = let args = c.args in
     let sized = c.area_for-size.ensures.0 in
     let fits = c.are_roomy-lent.ensures in
     let is = c.refused_early-early.ensures in
-    let said = no_room_returns args.form.now args.resolved.now args.sheet.now args.answers.now (length args.work.now) (lent_of args.entered.now args.names.now args.known.now args.chains.now args.ends.now) c.asked_for-i.result asks _ sized _ fits _ is c.if-early-ne0.false _ c.is_output.ensures.value.0 c.if-not-is_output.false _ c.answers_size.ensures c.if-answers-answers_size.true _ c.refused-then-answers-answers_size.ensures in
+    let said = no_room_returns args.form.now args.resolved.now args.sheet.now args.answers.now (length args.work.now) (lent_of args.entered.now args.names.now args.known.now args.chains.now args.ends.now) c.asked_for-i.result asks _ sized _ fits _ is c.if-early-ne0.false _ c.is_output.ensures.value.0 (ap not c.if-not-is_output.false) _ c.answers_size.ensures c.if-answers-answers_size.true _ c.refused-then-answers-answers_size.ensures in
     record {
       result_value = said.0;
       answers_after = said.1;
@@ -82,7 +83,7 @@ returns c = let args = c.args in
     let sized = c.area_for-size.ensures.0 in
     let fits = c.are_roomy-lent.ensures in
     let is = c.refused_early-early.ensures in
-    let said = answered_returns args.form.now args.resolved.now args.sheet.now args.answers.now (length args.work.now) (lent_of args.entered.now args.names.now args.known.now args.chains.now args.ends.now) c.asked_for-i.result asks _ sized _ fits _ is c.if-early-ne0.false _ c.is_output.ensures.value.0 c.if-not-is_output.false _ c.answers_size.ensures c.if-answers-answers_size.false c.shared_slice_known-1.given _ _ c.answer_behind.ensures in
+    let said = answered_returns args.form.now args.resolved.now args.sheet.now args.answers.now (length args.work.now) (lent_of args.entered.now args.names.now args.known.now args.chains.now args.ends.now) c.asked_for-i.result asks _ sized _ fits _ is c.if-early-ne0.false _ c.is_output.ensures.value.0 (ap not c.if-not-is_output.false) _ c.answers_size.ensures c.if-answers-answers_size.false c.shared_slice_known-1.given _ _ c.answer_behind.ensures in
     record {
       result_value = said.0;
       answers_after = said.1;

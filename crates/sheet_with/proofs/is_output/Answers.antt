@@ -5,6 +5,6 @@ use Rattle.sheet_with.proofs.is_output.Goals as goal
 
 pub returns : goal.returns
 returns c = record {
-      value = (c.resolves_to-same.ensures.value, search (all_zero, rules));
-      cleared = c.resolves_to-same.ensures.cleared;
-    }
+  value = (c.resolves_to-same.ensures.value, search (all_zero, rules));
+  cleared = c.resolves_to-same.ensures.cleared;
+}
