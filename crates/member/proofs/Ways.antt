@@ -282,4 +282,4 @@ module _ (settings : List Setting) (prelude member old work : List ℕ) (room si
 pub as_cleared : (work area work' : List ℕ) (room size : ℕ) → room ≤ length work → room ≤ size → length area ≡ length (take room work) → work' ≡ cleared 0 size (area ++ drop room work) → work' ≡ cleared 0 size work
 as_cleared work area work' room size less fits long e = e ∙ cleared_same size work area room less fits (long ∙ length-take-le room work less)
 
-pub ruleset returns = (as_answered, as_left, as_cleared, rules)
+pub ruleset member_returns = (as_answered, as_left, as_cleared, rules)
