@@ -21,7 +21,7 @@ give_in_tables-requires c = (fronts_sized _ _ _ _ c.requires.0 _ _ _ c.input_siz
 
 pub returns : goal.returns
 returns c = record {
-      result_value = c.give_in_tables.ensures.result_value;
-      kept = (search (kept_front, restored_long _ _ _ _ c.requires.0 _ _ _ c.input_size-input.ensures.0 c.output_size-output.ensures.0 c.notes_size-notes.ensures.0, c.input_size-input.ensures.0, c.give_in_tables.auto.restored, rules), search (kept_front, again_long _ _ _ _ c.requires.0 _ _ _ c.input_size-input.ensures.0 c.output_size-output.ensures.0 c.notes_size-notes.ensures.0, c.output_size-output.ensures.0, c.give_in_tables.auto.again, rules), search (kept_front, noted_long _ _ _ _ c.requires.0 _ _ _ c.input_size-input.ensures.0 c.output_size-output.ensures.0 c.notes_size-notes.ensures.0, c.notes_size-notes.ensures.0, c.give_in_tables.auto.noted, rules));
-      kept_2 = c.give_in_tables.ensures.kept;
-    }
+  result_value = c.give_in_tables.ensures.result_value;
+  kept = (search (kept_front, restored_long _ _ _ _ c.requires.0 _ _ _ c.input_size-input.ensures.0 c.output_size-output.ensures.0 c.notes_size-notes.ensures.0, c.input_size-input.ensures.0, c.give_in_tables.auto.restored, rules), search (kept_front, again_long _ _ _ _ c.requires.0 _ _ _ c.input_size-input.ensures.0 c.output_size-output.ensures.0 c.notes_size-notes.ensures.0, c.output_size-output.ensures.0, c.give_in_tables.auto.again, rules), search (kept_front, noted_long _ _ _ _ c.requires.0 _ _ _ c.input_size-input.ensures.0 c.output_size-output.ensures.0 c.notes_size-notes.ensures.0, c.notes_size-notes.ensures.0, c.give_in_tables.auto.noted, rules));
+  kept_2 = c.give_in_tables.ensures.kept;
+}

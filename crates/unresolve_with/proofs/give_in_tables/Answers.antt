@@ -27,6 +27,6 @@ give_found-requires c = (c.requires.0, fronts_suit _ _ _ _ _ _ c.requires.1 _ c.
 
 pub returns : goal.returns
 returns c = record {
-      result_value = c.give_found.ensures;
-      kept = (search (kept_front, entered_long, c.requires.1, c.slots_for-most.ensures.0, c.give_found.auto.entered, rules), search (kept_front, names_long, c.requires.1, c.slots_for-most.ensures.0, c.give_found.auto.names, rules), search (kept_front, known_long, c.requires.1, c.slots_for-most.ensures.0, c.links_for-all.ensures.0, c.give_found.auto.known, rules), search (kept_front, chains_long, c.requires.1, c.slots_for-most.ensures.0, c.links_for-all.ensures.0, c.give_found.auto.chains, rules), search (kept_front, ends_long, c.requires.1, c.slots_for-most.ensures.0, c.give_found.auto.ends, rules));
-    }
+  result_value = c.give_found.ensures;
+  kept = (search (kept_front, entered_long, c.requires.1, c.slots_for-most.ensures.0, c.give_found.auto.entered, rules), search (kept_front, names_long, c.requires.1, c.slots_for-most.ensures.0, c.give_found.auto.names, rules), search (kept_front, known_long, c.requires.1, c.slots_for-most.ensures.0, c.links_for-all.ensures.0, c.give_found.auto.known, rules), search (kept_front, chains_long, c.requires.1, c.slots_for-most.ensures.0, c.links_for-all.ensures.0, c.give_found.auto.chains, rules), search (kept_front, ends_long, c.requires.1, c.slots_for-most.ensures.0, c.give_found.auto.ends, rules));
+}

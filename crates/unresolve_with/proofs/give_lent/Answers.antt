@@ -7,10 +7,10 @@ use Rattle.unresolve_with.proofs.give_lent.Goals as goal
 
 pub returns-in-Accepted : goal.returns-in-Accepted
 returns-in-Accepted c = record {
-      result_value = (search (said_as, c.give_in_fronts.ensures.result_value.0, c.in-Accepted.is, rules), c.give_in_fronts.ensures.result_value.1);
-      cleared_back = back_left c.args.i _ _ _ _ _ _ _ _ _ c.give_in_fronts.ensures.kept c.clear_back.ensures;
-      cleared = areas_left _ _ _ _ _ _ _ _ _ _ _ _ _ _ _ _ c.give_in_fronts.ensures.kept_2 c.clear_areas.ensures;
-    }
+  result_value = (search (said_as, c.give_in_fronts.ensures.result_value.0, c.in-Accepted.is, rules), c.give_in_fronts.ensures.result_value.1);
+  cleared_back = back_left c.args.i _ _ _ _ _ _ _ _ _ c.give_in_fronts.ensures.kept c.clear_back.ensures;
+  cleared = areas_left _ _ _ _ _ _ _ _ _ _ _ _ _ _ _ _ c.give_in_fronts.ensures.kept_2 c.clear_areas.ensures;
+}
 
 pub shape_of-out-in-Refused : goal.shape_of-out-in-Refused
 shape_of-out-in-Refused c = omega (arith, c.out-1.given, c.restored-1.given, c.restored-in-Refused-1.given)
@@ -20,7 +20,7 @@ shape_of-restored-in-Refused c = omega (arith, c.out-1.given, c.restored-1.given
 
 pub returns-in-Refused : goal.returns-in-Refused
 returns-in-Refused c = record {
-      result_value = (search (said_as, c.give_in_fronts.ensures.result_value.0, c.in-Refused.is, rules), c.give_in_fronts.ensures.result_value.1);
-      cleared_back = back_left c.args.i _ _ _ _ _ _ _ _ _ c.give_in_fronts.ensures.kept c.clear_back-in-Refused.ensures;
-      cleared = areas_left _ _ _ _ _ _ _ _ _ _ _ _ _ _ _ _ c.give_in_fronts.ensures.kept_2 c.clear_areas-in-Refused.ensures;
-    }
+  result_value = (search (said_as, c.give_in_fronts.ensures.result_value.0, c.in-Refused.is, rules), c.give_in_fronts.ensures.result_value.1);
+  cleared_back = back_left c.args.i _ _ _ _ _ _ _ _ _ c.give_in_fronts.ensures.kept c.clear_back-in-Refused.ensures;
+  cleared = areas_left _ _ _ _ _ _ _ _ _ _ _ _ _ _ _ _ c.give_in_fronts.ensures.kept_2 c.clear_areas-in-Refused.ensures;
+}
