@@ -43,11 +43,14 @@ returns c = let links_are = c.links_for-all in
     let slots_are = c.slots_for-most in
     let bytes_are_lem = c.bytes_for-bytes in
     let args = c.args in
-    let pre = c.requires in record { out_after = search (proposed_with, c.header_size-header.ensures.0, bytes_are_lem.ensures.0, slots_are.ensures.0, c.walk_marked.ensures); kept = (
+    let pre = c.requires in record {
+      out_after = search (proposed_with, c.header_size-header.ensures.0, bytes_are_lem.ensures.0, slots_are.ensures.0, c.walk_marked.ensures);
+      kept = (
         search (kept_front, bytes_are_lem.ensures.0, marked_long args.i _ args.marked.now bytes_are_lem.ensures.0 pre.2, c.marked-1.given),
         search (kept_front, slots_are.ensures.0, entered_long _ _ _ _ _ _ pre.1 _ slots_are.ensures.0, c.entered-1.given),
         search (kept_front, slots_are.ensures.0, names_long _ _ _ _ _ _ pre.1 _ slots_are.ensures.0, c.names-1.given),
         search (kept_front, links_are.ensures.0, known_long _ _ _ _ _ _ pre.1 _ slots_are.ensures.0 _ links_are.ensures.0, c.known-1.given),
         search (kept_front, links_are.ensures.0, chains_long _ _ _ _ _ _ pre.1 _ slots_are.ensures.0 _ links_are.ensures.0, c.chains-1.given),
         search (kept_front, slots_are.ensures.0, ends_long _ _ _ _ _ _ pre.1 _ slots_are.ensures.0, c.ends-1.given),
-      ) }
+      );
+    }
