@@ -1,2 +1,0 @@
--- What the contracts of the loop cite.
-pub mod Shares

@@ -1,2 +1,0 @@
--- The ways through the code.
-pub mod Ways

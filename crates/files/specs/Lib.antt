@@ -1,3 +1,0 @@
-pub mod Paths
-pub mod Modes
-pub mod Loaded

@@ -1,3 +1,0 @@
--- An accepted prelude, and its root in bytes.
-pub mod Prelude
-pub mod Ways

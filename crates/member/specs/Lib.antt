@@ -1,1 +1,0 @@
--- The contracts cite the rules of batches alone.

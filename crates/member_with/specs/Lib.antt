@@ -1,2 +1,0 @@
--- What the contracts cite: the working areas.
-pub mod Areas

@@ -1,4 +1,0 @@
--- What the contract cites,
-pub mod Meaning
--- and the run as the code takes it.
-pub mod Run

@@ -1,4 +1,0 @@
-// The written numbers that inserted aliases have moved.
-#![tactic(auto)]
-
-pub mod run;

@@ -1,2 +1,0 @@
-pub mod Arcs
-pub mod Lanes

@@ -1,3 +1,0 @@
-pub mod NumberLaws
-pub mod LineLaws
-pub mod TextLaws
