@@ -1,0 +1,2 @@
+-- What the contracts of the loop cite.
+pub mod Shares

@@ -1,0 +1,7 @@
+-- `check_with::is_small` meets its contract.
+use Rattle.check_with.proofs.Whole.{small_tests}
+use borrow.Author.Rules.{rules}
+use Rattle.check_with.proofs.is_small.Goals as goal
+
+pub returns : goal.returns
+returns c = search (small_tests, rules)

@@ -1,0 +1,7 @@
+-- `ferhevok::bindings::wnt_sheet` meets its contract.
+use borrow.Author.Rules.{rules}
+use Rattle.ferhevok.proofs.Slots.{packs_sheet}
+use Rattle.ferhevok.proofs.bindings.wnt_sheet.Goals as goal
+
+pub returns : goal.returns
+returns c = search (packs_sheet, rules)

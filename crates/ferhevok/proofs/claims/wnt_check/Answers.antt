@@ -1,0 +1,7 @@
+-- `ferhevok::claims::wnt_check` meets its contract.
+use borrow.Author.Rules.{rules}
+use Rattle.ferhevok.proofs.Verdicts.{packs_verdict}
+use Rattle.ferhevok.proofs.claims.wnt_check.Goals as goal
+
+pub returns : goal.returns
+returns c = (search (packs_verdict, rules), search rules, search rules)

@@ -1,0 +1,40 @@
+// The C functions that list the numbers that have moved.
+ghost use Rattle.std.specs.Prelude.{◌≡◌};
+ghost use Rattle.rules.specs.Versions.{base};
+ghost use Rattle.moving.specs.MovedAnswer.{moved_answer, rooms_of, buffers};
+ghost use Rattle.moved.specs.Meaning.{ruled, held};
+ghost use Rattle.moved_with.specs.With.{moved_with, buffers_with};
+ghost use Rattle.resolver_with.specs.Asked.{asked};
+ghost use Rattle.resolver_with.specs.Areas.{lent_of, Cleared};
+ghost use Rattle.ferhevok.specs.Packed.{packed};
+
+use names::Slot;
+
+// Resolves the form into `out`, and lists its written numbers that have moved and, apart from them, those that count to nothing.
+#[unsafe(no_mangle)]
+pub extern "C" fn wnt_moved(form: &[u8], out: &mut [u8], moved: &mut [u8], apart: &mut [u8]) -> u64
+    ensures value { result ≡ packed (ruled (moved_answer base form.now (rooms_of (held out.old moved.old apart.old)))) }
+    ensures apart_after { held out.new moved.new apart.new ≡ buffers base form.now (held out.old moved.old apart.old) }
+{
+    ferhevok::moves::wnt_moved(form, out, moved, apart)
+}
+
+// The same for a form of any version. After every return the areas are zero up to the sizes of the form's version.
+#[unsafe(no_mangle)]
+pub extern "C" fn wnt_moved_with(
+    form: &[u8],
+    out: &mut [u8],
+    moved: &mut [u8],
+    apart: &mut [u8],
+    entered: &mut [Slot],
+    names: &mut [Slot],
+    known: &mut [u16],
+    chains: &mut [u16],
+    ends: &mut [u32],
+) -> u64
+    ensures value { result ≡ packed (ruled (moved_with form.now (rooms_of (held out.old moved.old apart.old)) (lent_of entered.old names.old known.old chains.old ends.old))) }
+    ensures apart_after { held out.new moved.new apart.new ≡ buffers_with form.now (held out.old moved.old apart.old) (lent_of entered.old names.old known.old chains.old ends.old) }
+    ensures cleared { Cleared (asked form.now).version entered.old entered.new names.old names.new known.old known.new chains.old chains.new ends.old ends.new }
+{
+    ferhevok::moves::wnt_moved_with(form, out, moved, apart, entered, names, known, chains, ends)
+}

@@ -1,0 +1,13 @@
+-- `inside::run::fill_inside` meets its contract.
+use Rattle.resolver.proofs.Laws.{fill_done, ways}
+use borrow.Author.Rules.{rules}
+use Rattle.inside.proofs.run.fill_inside.Goals as goal
+
+pub returns-then-front-header : goal.returns-then-front-header
+returns-then-front-header c = search ways
+
+pub returns-in-Refused : goal.returns-in-Refused
+returns-in-Refused c = search ways
+
+pub returns-in-Done : goal.returns-in-Done
+returns-in-Done c = search (fill_done, c.header_size-header.ensures.0, c.if-front-header.false, c.walk_inside.ensures, rules)

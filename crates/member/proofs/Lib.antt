@@ -1,0 +1,3 @@
+-- An accepted prelude, and its root in bytes.
+pub mod Prelude
+pub mod Ways

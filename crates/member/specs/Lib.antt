@@ -1,0 +1,1 @@
+-- The contracts cite the rules of batches alone.

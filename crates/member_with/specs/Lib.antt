@@ -1,0 +1,2 @@
+-- What the contracts cite: the working areas.
+pub mod Areas

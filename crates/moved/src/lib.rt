@@ -1,0 +1,4 @@
+// The written numbers that inserted aliases have moved.
+#![tactic(auto)]
+
+pub mod run;

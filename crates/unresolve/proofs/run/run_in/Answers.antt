@@ -1,0 +1,18 @@
+-- `unresolve::run::run_in` meets its contract.
+use Rattle.unresolve.proofs.Agrees.{running}
+use Rattle.unresolve.proofs.run.run_in.Goals as goal
+
+pub slice_bounds-give-count : goal.slice_bounds-give-count
+slice_bounds-give-count c = search running
+
+pub slice_bounds-give-start : goal.slice_bounds-give-start
+slice_bounds-give-start c = search running
+
+pub give-requires : goal.give-requires
+give-requires c = (search running, search running)
+
+pub returns-in-Nothing : goal.returns-in-Nothing
+returns-in-Nothing c = (search running, search running)
+
+pub returns-in-From : goal.returns-in-From
+returns-in-From c = (search running, search running)
