@@ -1,4 +1,4 @@
--- `json::say_bytes` is safe and ends. The measure is the bytes that are left.
+-- `json_parts::say_bytes` is safe and ends. The measure is the bytes that are left.
 use Prim.Native.Nat.{◌-◌}
 use lib.ListN.{length}
 use Rattle.json_parts.proofs.say_bytes.Given as goal
