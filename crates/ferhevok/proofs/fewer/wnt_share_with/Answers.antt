@@ -4,4 +4,4 @@ use Rattle.ferhevok.proofs.Packs.{packs_ruled}
 use Rattle.ferhevok.proofs.fewer.wnt_share_with.Goals as goal
 
 pub returns : goal.returns
-returns c = ((search (packs_ruled, rules), search rules), ((search rules, search rules, search rules), search rules))
+returns c = record { value = (search (packs_ruled, rules), search rules); marked_after = (search rules, search rules, search rules); cleared = search rules }

@@ -4,4 +4,4 @@ use borrow.Author.Rules.{rules}
 use Rattle.ferhevok.proofs.members.wnt_member.Goals as goal
 
 pub returns : goal.returns
-returns c = (search members, (search members, search rules))
+returns c = record { value = search members; out_after = search members; work_after = search rules }

@@ -4,4 +4,4 @@ use Rattle.ferhevok.proofs.Packs.{packs_moved}
 use Rattle.ferhevok.proofs.moves.wnt_moved_with.Goals as goal
 
 pub returns : goal.returns
-returns c = (search (packs_moved, rules), search rules)
+returns c = record { value = search (packs_moved, rules); apart_after = search rules; cleared = search rules }
