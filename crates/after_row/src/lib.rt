@@ -39,6 +39,7 @@ fn row_of(left: usize) -> usize
 }
 
 // What is left after a row of this column.
+#[tactic(auto, using(crate::proofs::Laws::entry_not, crate::proofs::Laws::entry_past, crate::proofs::Laws::entry_found))]
 pub fn after(table: &[[u8; 41]; 67], left: usize, column: usize) -> usize
     ensures { result ≡ entry table.now left column }
 {

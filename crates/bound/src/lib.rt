@@ -81,6 +81,7 @@ pub fn reference_at(form: &[u8], place: u32) -> Reference
 }
 
 // What a reference is bound to: what it means in the end, which is a declaration of that name or not.
+#[tactic(auto, using(crate::proofs::Ways::binding_ways))]
 fn bound_at(form: &[u8], row: u16, name: u32) -> Binding
     ensures { result ≡ bound_at form.now row name }
 {

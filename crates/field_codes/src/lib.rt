@@ -15,6 +15,7 @@ pub enum Inner {
 }
 
 // What e of a FIELD may be: a builtin code in field 19, in field 22 whether there is an ascribed type, and zero elsewhere.
+#[tactic(auto, using(crate::proofs::Laws::if_yes, crate::proofs::Laws::if_no, kit::proofs::Laws::tests), unfolding(rules::specs::Shapes::builtin_ok))]
 pub fn builtin_ok(code: usize, e: usize) -> bool
     ensures { result ≡ builtin_ok code e }
 {

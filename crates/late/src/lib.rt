@@ -38,6 +38,7 @@ pub fn scope_around(scopes: &[Scope], depth: usize, out: usize) -> Scope
 
 // How many slots stand before the field of that scope that holds us, where in the innermost it is `before`. Further out it
 // stands with the scope that the field holds.
+#[tactic(auto, using(crate::proofs::Laws::ways))]
 pub fn before_around(scopes: &[Scope], depth: usize, before: usize, out: usize) -> usize
     ensures { result ≡ before_around scopes.now depth before out }
 {

@@ -70,6 +70,7 @@ fn number_at(form: &[u8], row: u16) -> Number
 }
 
 // The scope that it is counted in: of a REF its own, of an OUTER the one that it names.
+#[tactic(auto, using(crate::proofs::Ways::ways))]
 fn scope_wanted(form: &[u8], row: u16) -> Wanted
     ensures { result ≡ scope_wanted form.now row }
 {

@@ -10,6 +10,7 @@ use rows::row::REF;
 use scopes::{Key, Wanted};
 
 // The space in which a REF's operand is looked up: with PATHs, that of the instance where they start.
+#[tactic(auto, using(crate::proofs::Laws::operand_ways))]
 pub fn space_sought(form: &[u8], row: u16) -> u8
     ensures { result ≡ space_sought form.now row }
 {

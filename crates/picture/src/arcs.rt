@@ -27,6 +27,7 @@ fn row_meant(meaning: Meaning, row: u16) -> u16
 
 // The row of the declaration to which an arc leads from a row: what the reference means, with no alias followed. Of a row from which none
 // goes it is the row itself.
+#[tactic(auto, using(crate::proofs::Laws::arc_ways))]
 pub fn target_of(form: &[u8], entries: &[Entry], row: u16) -> u16
     ensures { result ≡ target_of form.now entries.now row }
 {

@@ -30,6 +30,7 @@ fn behind(depth: usize, code: u8) -> usize
 }
 
 // Enters row i where this many scopes are open, if it is a DECL of the root.
+#[tactic(auto, using(crate::proofs::Ways::entering))]
 fn enter_row(
     p: Parts,
     i: usize,

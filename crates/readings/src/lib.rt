@@ -36,6 +36,7 @@ pub enum Reading {
 }
 
 // How a REF or an OUTER is read.
+#[tactic(auto, using(crate::proofs::MeaningLaws::meaning_ways))]
 pub fn reading_of(form: &[u8], row: u16) -> Reading
     ensures { result ≡ reading_of form.now row }
 {

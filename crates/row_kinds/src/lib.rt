@@ -9,6 +9,7 @@ use row_bytes::{code_at, x_at};
 use rows::row::{DECL, OUTER, REF};
 
 // The row behind a row; the last that can be is its own.
+#[tactic(auto, using(crate::proofs::KindLaws::kind_ways))]
 pub fn next(row: u16) -> u16
     ensures { result ≡ next_of row }
 {
@@ -31,6 +32,7 @@ pub fn is_reference(form: &[u8], row: u16) -> bool
 }
 
 // One more, if there is one more to count; the highest count stays.
+#[tactic(auto, using(crate::proofs::KindLaws::kind_ways))]
 pub fn counted(count: u32, more: bool) -> u32
     ensures { (result ≡ count_on count more) × (result ≤ count + 1) }
 {

@@ -18,6 +18,7 @@ fn one_less(level: u32) -> u32
 }
 
 // How many scopes are open behind a row, of those that opened since the start.
+#[tactic(auto, using(crate::proofs::LevelLaws::level_ways))]
 pub fn level_behind(level: u32, code: u8) -> u32
     ensures { (result ≡ level_on level code) × (result ≤ level + 1) }
 {

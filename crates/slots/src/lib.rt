@@ -52,6 +52,7 @@ fn all_named(sheet: &[u8]) -> bool
 }
 
 // Whether bytes are a sheet: whole slots, at most 200, each with a name.
+#[tactic(auto, using(crate::proofs::Ways::sound_ways))]
 pub fn is_sound(sheet: &[u8]) -> bool
     ensures { result ≡ sound_sheet sheet.now }
 {

@@ -25,7 +25,7 @@ returns-then-own-ne0 c = let own = c.resolve_own-own.ensures in
 pub settle-requires : goal.settle-requires
 settle-requires c = let own = c.resolve_own-own.ensures in
     let args = c.args in (
-      search (own_resolved, own.ran, c.if-own-ne0.false),
+      search (own_resolved, own.ran, rules),
       fit_still _ args.entered.now _ args.names.now _ args.known.now _ args.chains.now _ args.ends.now _ own.cleared _ _ _ _ _ c.requires,
     )
 
@@ -34,11 +34,10 @@ returns c = let own = c.resolve_own-own.ensures in
     let settled = c.settle.ensures in
     let args = c.args in
     let all = c.shared_slice_known-1.given in
-    let none = c.if-own-ne0.false in
     let asks = c.requires.asks in record {
       result_value = (
-        proposal_answers _ _ _ _ own.ran none all _ _ _ _ args.entered.now _ args.names.now _ args.known.now _ args.chains.now _ args.ends.now _ _ own.cleared c.requires args.marked.now refl _ _ settled.out_after,
-        proposal_leaves _ _ _ _ own.ran none all _ _ _ _ args.entered.now _ args.names.now _ args.known.now _ args.chains.now _ args.ends.now _ _ own.cleared c.requires args.marked.now refl _ _ settled.out_after,
+        proposal_answers _ _ _ _ own.ran (search rules) all _ _ _ _ args.entered.now _ args.names.now _ args.known.now _ args.chains.now _ args.ends.now _ _ own.cleared c.requires args.marked.now refl _ _ settled.out_after,
+        proposal_leaves _ _ _ _ own.ran (search rules) all _ _ _ _ args.entered.now _ args.names.now _ args.known.now _ args.chains.now _ args.ends.now _ _ own.cleared c.requires args.marked.now refl _ _ settled.out_after,
       );
       marked_after = (marked_after args.form.now args.i asks _ _ settled.marked_after.0, settled.marked_after.1, settled.marked_after.2);
       cleared = cleared_again _ _ _ _ _ _ _ _ _ _ _ own.cleared args.form.now args.i refl asks _ _ _ _ _ settled.cleared;

@@ -7,7 +7,7 @@ use Rattle.walk.proofs.Opens.{stacked_on, begun_done, scope_done, field_done, sc
 use Rattle.walk.proofs.scopes.+field_walk_fields_walk_scope_walk.Goals as goal
 
 pub field_walk-returns-then-code_at-ne-OPEN : goal.field_walk-returns-then-code_at-ne-OPEN
-field_walk-returns-then-code_at-ne-OPEN t c = (field_flat _ _ _ _ _ _ _ _ _ c.field_rows.ensures _ _ _ c.write_head-walked.ensures.0 _ c.in-Done.is _ c.code_at.ensures c.if-code_at-ne-OPEN.true, (served_head _ _ _ _ _ _ _ _ _ c.in-Done.is c.write_head-walked.ensures.1 c.requires.0, head_kept _ _ _ _ _ _ _ _ _ c.write_head-walked.ensures.0 _ c.in-Done.is, refl))
+field_walk-returns-then-code_at-ne-OPEN t c = (field_flat _ _ _ _ _ _ _ _ _ c.field_rows.ensures _ _ _ c.write_head-walked.ensures.0 _ c.in-Done.is _ c.code_at.ensures (search rules), (served_head _ _ _ _ _ _ _ _ _ c.in-Done.is c.write_head-walked.ensures.1 c.requires.0, head_kept _ _ _ _ _ _ _ _ _ c.write_head-walked.ensures.0 _ c.in-Done.is, refl))
 
 pub field_walk-scope_walk-inside-requires : goal.field_walk-scope_walk-inside-requires
 field_walk-scope_walk-inside-requires t c = let p = c.decreases in let d = c.at_depth.ensures.1 in (omega arith, (served_at _ _ _ _ _ _ (ap (λ x. x.used) c.at_depth.ensures.0 ∙ head_kept _ _ _ _ _ _ _ _ _ c.write_head-walked.ensures.0 _ c.in-Done.is) (served_head _ _ _ _ _ _ _ _ _ c.in-Done.is c.write_head-walked.ensures.1 c.requires.0), stacked_same _ _ refl c.args.s _ (ap (λ x. x.used) c.at_depth.ensures.0 ∙ head_kept _ _ _ _ _ _ _ _ _ c.write_head-walked.ensures.0 _ c.in-Done.is) c.at_depth.ensures.1 c.requires.1))
@@ -16,10 +16,10 @@ pub field_walk-returns-in-Refused : goal.field_walk-returns-in-Refused
 field_walk-returns-in-Refused t c = (field_stop _ _ _ _ _ _ _ _ _ c.field_rows.ensures _ _ _ c.write_head-walked.ensures.0 _ _ c.in-Refused.is, field_stopped _ _ _ _ _ _ _ _ _ _ c.in-Refused.is)
 
 pub field_walk-returns-in-Refused-inside : goal.field_walk-returns-in-Refused-inside
-field_walk-returns-in-Refused-inside t c = (field_fail _ _ _ _ _ _ _ _ _ c.field_rows.ensures _ _ _ c.write_head-walked.ensures.0 _ c.in-Done.is _ c.code_at.ensures c.if-code_at-ne-OPEN.false _ c.at_depth.ensures.0 _ _ _ _ c.scope_walk-inside.ensures.0 _ _ c.in-Refused-inside.is, field_stopped _ _ _ _ _ _ _ _ _ _ c.in-Refused-inside.is)
+field_walk-returns-in-Refused-inside t c = (field_fail _ _ _ _ _ _ _ _ _ c.field_rows.ensures _ _ _ c.write_head-walked.ensures.0 _ c.in-Done.is _ c.code_at.ensures (search rules) _ c.at_depth.ensures.0 _ _ _ _ c.scope_walk-inside.ensures.0 _ _ c.in-Refused-inside.is, field_stopped _ _ _ _ _ _ _ _ _ _ c.in-Refused-inside.is)
 
 pub field_walk-returns-in-Done-inside : goal.field_walk-returns-in-Done-inside
-field_walk-returns-in-Done-inside t c = (field_deep _ _ _ _ _ _ _ _ _ c.field_rows.ensures _ _ _ c.write_head-walked.ensures.0 _ c.in-Done.is _ c.code_at.ensures c.if-code_at-ne-OPEN.false _ c.at_depth.ensures.0 _ _ _ _ c.scope_walk-inside.ensures.0 _ c.in-Done-inside.is _ c.after_scope.ensures, (served_at _ _ _ _ _ _ (sym (ap (λ x. x.used) c.at_depth.ensures.0 ∙ head_kept _ _ _ _ _ _ _ _ _ c.write_head-walked.ensures.0 _ c.in-Done.is)) (scope_done _ _ _ _ _ _ _ _ c.at_depth.result c.in-Done-inside.is c.scope_walk-inside.ensures.1).0, ap (λ x. x.used) c.after_scope.ensures ∙ head_kept _ _ _ _ _ _ _ _ _ c.write_head-walked.ensures.0 _ c.in-Done.is, (scope_done _ _ _ _ _ _ _ _ c.at_depth.result c.in-Done-inside.is c.scope_walk-inside.ensures.1).1))
+field_walk-returns-in-Done-inside t c = (field_deep _ _ _ _ _ _ _ _ _ c.field_rows.ensures _ _ _ c.write_head-walked.ensures.0 _ c.in-Done.is _ c.code_at.ensures (search rules) _ c.at_depth.ensures.0 _ _ _ _ c.scope_walk-inside.ensures.0 _ c.in-Done-inside.is _ c.after_scope.ensures, (served_at _ _ _ _ _ _ (sym (ap (λ x. x.used) c.at_depth.ensures.0 ∙ head_kept _ _ _ _ _ _ _ _ _ c.write_head-walked.ensures.0 _ c.in-Done.is)) (scope_done _ _ _ _ _ _ _ _ c.at_depth.result c.in-Done-inside.is c.scope_walk-inside.ensures.1).0, ap (λ x. x.used) c.after_scope.ensures ∙ head_kept _ _ _ _ _ _ _ _ _ c.write_head-walked.ensures.0 _ c.in-Done.is, (scope_done _ _ _ _ _ _ _ _ c.at_depth.result c.in-Done-inside.is c.scope_walk-inside.ensures.1).1))
 
 pub fields_walk-returns-then-code_at-ne-FIELD : goal.fields_walk-returns-then-code_at-ne-FIELD
 fields_walk-returns-then-code_at-ne-FIELD t c = (fields_close _ _ _ _ _ _ _ _ _ _ _ c.loop-turns.invariant.0 c.loop-turns-test.true _ c.code_at.ensures c.if-code_at-ne-FIELD.true _ _ c.closed.ensures, (c.loop-turns.invariant.1, c.loop-turns.invariant.3))
