@@ -36,6 +36,7 @@ fn packed_declared(declared: Declared) -> u64
 }
 
 // Which declaration the name in a row of the member means, where the member lies inside the prelude's root.
+#[tactic(auto, using(crate::proofs::Declarations::declarations))]
 pub fn wnt_meant(prelude: &[u8], member: &[u8], row: u32) -> u64
     ensures { result ≡ packed_declared (meant_row prelude.now member.now row) }
 {
