@@ -9,15 +9,11 @@ use Rattle.options.specs.Given.{is_in}
 use Rattle.options.proofs.given.has.Goals as goal
 
 none_is : (set option : ℕ) → option ≡ 0 → false ≡ is_in set option
-
 unfolding is_in
-
 none_is set option h = yes! _ (omega tests) refl
 
 one_is : (set option : ℕ) → (option ≡ 0 → ⊥) → eqb (set / option % 2) 1 ≡ is_in set option
-
 unfolding is_in
-
 one_is set option h = no! _ (omega tests) refl
 
 pub returns-then-option-eq0 : goal.returns-then-option-eq0
