@@ -1,4 +1,5 @@
 -- What the code answers and leaves is what crate `renaming` says.
+use Rattle.std.specs.Prelude.{Result, Ok, Err, ℕ}
 use mathlib.Core.Path.{◌≡◌, refl, sym, ap, ap₂, ◌∙◌, subst}
 use mathlib.Core.Bool.{Bool, true, false, ◌&&◌, ◌||◌, not}
 use mathlib.Core.Option.{Option, none, some}
@@ -26,16 +27,16 @@ use Rattle.rules.proofs.Laws.Read.BeginsWritten.{rows_length}
 use Rattle.renaming.specs.Renaming.{renamed_index, renamed_row, renamed_part, renamed_rows, renamed, renamed_in, renamed_for, renamed_bytes, names_of, firsts, place_of}
 use Rattle.renaming.specs.Anonymous.{key_in, after_reading, anonymous_in, anonymous_for, anonymous, anonymous_after, anonymous_output, over, key_after}
 use Rattle.form.specs.Header.{header_in, header_for, header_of}
-use Rattle.form.specs.declared.header.Header.{Header as Heading}
-use Rattle.form.specs.declared.header.Header.TheVariants.{Rows, Wrong, Count}
 use Rattle.reader.specs.ReadTo.{answer_of, read_of}
 use Rattle.rows.specs.RowAt.{as_index, taken}
 use Rattle.put.specs.Put.{rule_index, rule_row, bytes_of, row_bytes, put_row}
 use Rattle.anonymise.specs.Meaning.{meaning}
 use Rattle.anonymise.specs.Renamed.{input_row, key_of, renamed_row_t, left_by, row_written, rows_written}
 use Rattle.anonymise.specs.Run.{Ran, all_written, fill_names_t, before, read_then, run_t}
-use Rattle.anonymise.specs.declared.run.Answer.{Answer}
-use Rattle.anonymise.specs.declared.run.Answer.TheVariants.{Header, RowCount, Room}
+use Rattle.anonymise.specs.declared.run.Fault.TheVariants.{Header, RowCount, Room}
+use Rattle.form.specs.declared.header.BadHeader.TheVariants.{Wrong, Count}
+use Rattle.anonymise.specs.declared.run.Fault.{Fault}
+use Rattle.form.specs.declared.header.BadHeader.{BadHeader}
 
 -- ---- the rows that are written
 
@@ -124,16 +125,16 @@ one = record { version = version1; rules = today }
 abbrev miscounted : List ℕ → Bool
 miscounted l = not (between 1 1023 (row_count version1 l)) || not (eqb (length l) (8 + 16 * row_count version1 l))
 
-data Told (l : List ℕ) : Heading → Type 0 where
-  wrong : setting_of base l ≡ none → Told l Wrong
-  count : setting_of base l ≡ some one → miscounted l ≡ true → Told l Count
-  rows : setting_of base l ≡ some one → miscounted l ≡ false → Told l (Rows (row_count version1 l))
+data Told (l : List ℕ) : Result ℕ BadHeader → Type 0 where
+  wrong : setting_of base l ≡ none → Told l (Err Wrong)
+  count : setting_of base l ≡ some one → miscounted l ≡ true → Told l (Err Count)
+  rows : setting_of base l ≡ some one → miscounted l ≡ false → Told l (Ok (row_count version1 l))
 
 told : (l : List ℕ) → Told l (header_of l)
 unfolding header_of header_for header_in when◌then◌else◌ setting_of only ◌or_else◌
 told l = by_header (has_header one l) refl
   where
-    by_count : (b : Bool) → miscounted l ≡ b → setting_of base l ≡ some one → Told l (when b then Count else Rows (row_count version1 l))
+    by_count : (b : Bool) → miscounted l ≡ b → setting_of base l ≡ some one → Told l (when b then Err Count else Ok (row_count version1 l))
     by_count true e s = count s e
     by_count false e s = rows s e
 
@@ -219,7 +220,7 @@ module _ (l out key : List ℕ) (asks : setting_of base l ≡ some one) (right :
   run_says = rw right (go (ltb (length out) (length l)) refl)
     where
       go : (b : Bool) → ltb (length out) (length l) ≡ b
-          → Says l out key (when b then refused 3 0 [] else after_reading (read today 32 (rows_in one l)) (key_in one l)) (pick b (Room & out & key) (read_then (read_of (drop 8 l)) l out key))
+          → Says l out key (when b then refused 3 0 [] else after_reading (read today 32 (rows_in one l)) (key_in one l)) (pick b ((Err Room) & out & key) (read_then (read_of (drop 8 l)) l out key))
       go true e = (refl, refl, refl)
       go false e =
           let roomy = ltb-false (length out) (length l) e in
@@ -231,74 +232,74 @@ module _ (l out key : List ℕ) (asks : setting_of base l ≡ some one) (right :
 
 -- ---- the contract
 
-abbrev Promised : (l out key : List ℕ) (a : Answer) (o k : List ℕ) → Type 0
+abbrev Promised : (l out key : List ℕ) (a : Result ℕ Fault) (o k : List ℕ) → Type 0
 Promised l out key a o k = (meaning a ≡ map_answer length (anonymous base l (length out))) × (o ≡ anonymous_output base l out) × (k ≡ key_after (anonymous base l (length out)) key)
 
-promised : (l out key : List ℕ) (x : AnswerOf (List ℕ)) → anonymous base l (length out) ≡ x → (a : Answer) (o k : List ℕ) → Says l out key x (a & o & k) → Promised l out key a o k
+promised : (l out key : List ℕ) (x : AnswerOf (List ℕ)) → anonymous base l (length out) ≡ x → (a : Result ℕ Fault) (o k : List ℕ) → Says l out key x (a & o & k) → Promised l out key a o k
 unfolding anonymous_output
 promised l out key x e a o k s = rw e s
 
 -- `h` is what the header says
-module _ (l out key : List ℕ) (h : Heading) (w : h ≡ header_of l) where
-  as_told : (x : Heading) → h ≡ x → Told l x
+module _ (l out key : List ℕ) (h : Result ℕ BadHeader) (w : h ≡ header_of l) where
+  as_told : (x : Result ℕ BadHeader) → h ≡ x → Told l x
   as_told x e = subst (Told l) (sym w ∙ e) (told l)
 
-  promised_wrong : h ≡ Wrong → Promised l out key Header out key
-  promised_wrong e = go (as_told Wrong e)
+  promised_wrong : h ≡ Err Wrong → Promised l out key (Err Header) out key
+  promised_wrong e = go (as_told (Err Wrong) e)
     where
-      go : Told l Wrong → Promised l out key Header out key
+      go : Told l (Err Wrong) → Promised l out key (Err Header) out key
       go (wrong s) =
-          promised l out key (refused 1 0 []) (unfold anonymous anonymous_for in rw s) Header out key
+          promised l out key (refused 1 0 []) (unfold anonymous anonymous_for in rw s) (Err Header) out key
           (unfold map_answer in refl, unfold anonymous_after in refl, unfold key_after in refl)
 
-  promised_count : h ≡ Count → Promised l out key RowCount out key
-  promised_count e = go (as_told Count e)
+  promised_count : h ≡ Err Count → Promised l out key (Err RowCount) out key
+  promised_count e = go (as_told (Err Count) e)
     where
-      go : Told l Count → Promised l out key RowCount out key
+      go : Told l (Err Count) → Promised l out key (Err RowCount) out key
       go (count s m) =
-          promised l out key (refused 2 0 []) (unfold anonymous anonymous_for anonymous_in when◌then◌else◌ in rw (s, m)) RowCount out key
+          promised l out key (refused 2 0 []) (unfold anonymous anonymous_for anonymous_in when◌then◌else◌ in rw (s, m)) (Err RowCount) out key
           (unfold map_answer in refl, unfold anonymous_after in refl, unfold key_after in refl)
 
-  pub long_enough : (m : ℕ) → h ≡ Rows m → 8 ≤ length l
-  long_enough m e = go m (as_told (Rows m) e)
+  pub long_enough : (m : ℕ) → h ≡ Ok m → 8 ≤ length l
+  long_enough m e = go m (as_told (Ok m) e)
     where
-      go : (m : ℕ) → Told l (Rows m) → 8 ≤ length l
+      go : (m : ℕ) → Told l (Ok m) → 8 ≤ length l
       go m (rows s r) = omega (arith, (sizes l r).1)
 
-  pub short_enough : (m : ℕ) → h ≡ Rows m → length l ≤ 16376
-  short_enough m e = go m (as_told (Rows m) e)
+  pub short_enough : (m : ℕ) → h ≡ Ok m → length l ≤ 16376
+  short_enough m e = go m (as_told (Ok m) e)
     where
-      go : (m : ℕ) → Told l (Rows m) → length l ≤ 16376
+      go : (m : ℕ) → Told l (Ok m) → length l ≤ 16376
       go m (rows s r) = omega (arith, (sizes l r).0, (sizes l r).1)
 
-  promised_run : (m : ℕ) → h ≡ Rows m → (a : Answer) (o k : List ℕ) → (a & o & k) ≡ run_t l out key → Promised l out key a o k
-  promised_run m e a o k q = go m (as_told (Rows m) e)
+  promised_run : (m : ℕ) → h ≡ Ok m → (a : Result ℕ Fault) (o k : List ℕ) → (a & o & k) ≡ run_t l out key → Promised l out key a o k
+  promised_run m e a o k q = go m (as_told (Ok m) e)
     where
-      go : (m : ℕ) → Told l (Rows m) → Promised l out key a o k
+      go : (m : ℕ) → Told l (Ok m) → Promised l out key a o k
       go m (rows s r) =
           promised l out key (anonymous_in one l (length out)) (answer_is l out key s r) a o k
           (subst (Says l out key (anonymous_in one l (length out))) (sym q) (run_says l out key s r))
 
   -- each part by itself, as the contract has it
-  pub answers_wrong : h ≡ Wrong → meaning Header ≡ map_answer length (anonymous base l (length out))
+  pub answers_wrong : h ≡ Err Wrong → meaning (Err Header) ≡ map_answer length (anonymous base l (length out))
   answers_wrong e = (promised_wrong e).0
 
-  pub leaves_wrong : h ≡ Wrong → out ≡ anonymous_output base l out
+  pub leaves_wrong : h ≡ Err Wrong → out ≡ anonymous_output base l out
   leaves_wrong e = (promised_wrong e).1
 
-  pub key_wrong : h ≡ Wrong → key ≡ key_after (anonymous base l (length out)) key
+  pub key_wrong : h ≡ Err Wrong → key ≡ key_after (anonymous base l (length out)) key
   key_wrong e = (promised_wrong e).2
 
-  pub answers_count : h ≡ Count → meaning RowCount ≡ map_answer length (anonymous base l (length out))
+  pub answers_count : h ≡ Err Count → meaning (Err RowCount) ≡ map_answer length (anonymous base l (length out))
   answers_count e = (promised_count e).0
 
-  pub leaves_count : h ≡ Count → out ≡ anonymous_output base l out
+  pub leaves_count : h ≡ Err Count → out ≡ anonymous_output base l out
   leaves_count e = (promised_count e).1
 
-  pub key_count : h ≡ Count → key ≡ key_after (anonymous base l (length out)) key
+  pub key_count : h ≡ Err Count → key ≡ key_after (anonymous base l (length out)) key
   key_count e = (promised_count e).2
 
-  module _ (m : ℕ) (e : h ≡ Rows m) (a : Answer) (o k : List ℕ) (q : (a & o & k) ≡ run_t l out key) where
+  module _ (m : ℕ) (e : h ≡ Ok m) (a : Result ℕ Fault) (o k : List ℕ) (q : (a & o & k) ≡ run_t l out key) where
     pub answers_run : meaning a ≡ map_answer length (anonymous base l (length out))
     answers_run = (promised_run m e a o k q).0
 

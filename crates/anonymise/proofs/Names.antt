@@ -1,4 +1,5 @@
 -- Names that are entered in the table and numbered: one law for each way through the code.
+use Rattle.std.specs.Prelude.{Option, Some, None, ℕ}
 use mathlib.Core.Path.{◌≡◌, refl, sym, ap, ap₂, ◌∙◌}
 use mathlib.Core.Bool.{Bool, true, false, ◌&&◌, ◌||◌}
 use mathlib.Core.List.{List, [], ◌∷◌, ◌++◌, append_assoc, append-nil, map}
@@ -22,8 +23,6 @@ use Rattle.renaming.specs.Renaming.{renamed, name_in, firsts, place_of}
 use Rattle.names.specs.Table.{Slot, name_of, pushed, find_in}
 use Rattle.names.specs.Table as names
 use Rattle.names.proofs.Laws.{push_room}
-use Rattle.names.specs.declared.Found.{Found}
-use Rattle.names.specs.declared.Found.TheVariants.{At, Nothing}
 use Rattle.index.specs.Indexed.{Holds, Covers}
 use Rattle.index.proofs.Storey.{covers_all}
 use Rattle.rows.specs.contracts.row.Row as row
@@ -41,21 +40,21 @@ eqb_turn : (a b : ℕ) (t : Bool) → eqb a b ≡ t → eqb b a ≡ t
 eqb_turn a b true e = rw (eqb-true a b e) (eqb_same b)
 eqb_turn a b false e = eqb-false b a (λ q. let back : eqb a b ≡ true = rw q (eqb_same a) in false_not (sym e ∙ back))
 
-find_known : (k : ℕ) (ns : List ℕ) (n : ℕ) → is_in n ns ≡ true → find_in (slots_from (suc k) ns) 0 n ≡ At (k + place_of ns n)
+find_known : (k : ℕ) (ns : List ℕ) (n : ℕ) → is_in n ns ≡ true → find_in (slots_from (suc k) ns) 0 n ≡ Some (k + place_of ns n)
 unfolding find_in slots_from place_of pick when◌then◌else◌
 find_known k [] n i = false_not i
 find_known k (m ∷ ns) n i = go (eqb n m) refl i (λ j. find_known (suc k) ns n j)
   where
-    go : (t : Bool) → eqb n m ≡ t → t || is_in n ns ≡ true → (is_in n ns ≡ true → find_in (slots_from (suc (suc k)) ns) 0 n ≡ At (suc k + place_of ns n))
-        → pick (eqb m n) (At (suc k)) (find_in (slots_from (suc (suc k)) ns) 0 n) ≡ At (k + (when t then 1 else suc (place_of ns n)))
-    go true e i rec = let num : suc k ≡ k + 1 = omega arith in rw (eqb_turn n m true e) (ap At num)
-    go false e i rec = let num : suc k + place_of ns n ≡ k + suc (place_of ns n) = omega arith in rw (eqb_turn n m false e) (rec i ∙ ap At num)
+    go : (t : Bool) → eqb n m ≡ t → t || is_in n ns ≡ true → (is_in n ns ≡ true → find_in (slots_from (suc (suc k)) ns) 0 n ≡ Some (suc k + place_of ns n))
+        → pick (eqb m n) (Some (suc k)) (find_in (slots_from (suc (suc k)) ns) 0 n) ≡ Some (k + (when t then 1 else suc (place_of ns n)))
+    go true e i rec = let num : suc k ≡ k + 1 = omega arith in rw (eqb_turn n m true e) (ap Some num)
+    go false e i rec = let num : suc k + place_of ns n ≡ k + suc (place_of ns n) = omega arith in rw (eqb_turn n m false e) (rec i ∙ ap Some num)
 
 neither : (a b : Bool) → a || b ≡ false → (a ≡ false) × (b ≡ false)
 neither true b e = false_not (sym e)
 neither false b e = (refl, e)
 
-find_none : (k : ℕ) (ns : List ℕ) (n : ℕ) → is_in n ns ≡ false → find_in (slots_from k ns) 0 n ≡ Nothing
+find_none : (k : ℕ) (ns : List ℕ) (n : ℕ) → is_in n ns ≡ false → find_in (slots_from k ns) 0 n ≡ None
 unfolding find_in slots_from pick
 find_none k [] n i = refl
 find_none k (m ∷ ns) n i =
@@ -107,30 +106,30 @@ module _ (table : List Slot) (index : List ℕ) (used : ℕ) (k : Knows table in
   all_slots = rw sub-zero k.numbered
 
   -- what the search says of a name
-  module _ (name : ℕ) (f : Found) (w : f ≡ find_in (names.between 0 used table) 0 name) where
+  module _ (name : ℕ) (f : Option ℕ) (w : f ≡ find_in (names.between 0 used table) 0 name) where
     says : f ≡ find_in (slots_from 1 (seen_in table used)) 0 name
     says = rw all_slots at w
 
-    was_there : (m : ℕ) → f ≡ At m → (is_in name (seen_in table used) ≡ true) × (m ≡ place_of (seen_in table used) name)
+    was_there : (m : ℕ) → f ≡ Some m → (is_in name (seen_in table used) ≡ true) × (m ≡ place_of (seen_in table used) name)
     was_there m e = go (is_in name (seen_in table used)) refl
       where
         go : (t : Bool) → is_in name (seen_in table used) ≡ t → (is_in name (seen_in table used) ≡ true) × (m ≡ place_of (seen_in table used) name)
         go true q =
-            let found : At m ≡ At (0 + place_of (seen_in table used) name) = sym e ∙ (says ∙ find_known 0 (seen_in table used) name q) in
+            let found : Some m ≡ Some (0 + place_of (seen_in table used) name) = sym e ∙ (says ∙ find_known 0 (seen_in table used) name q) in
             let same : m ≡ 0 + place_of (seen_in table used) name = cc in
             (q, omega arith)
         go false q =
-            let found : At m ≡ Nothing = sym e ∙ (says ∙ find_none 1 (seen_in table used) name q) in
+            let found : Some m ≡ None = sym e ∙ (says ∙ find_none 1 (seen_in table used) name q) in
             let no_way : ◌≡◌ {A = ℕ} 0 1 = cc in
             absurd (omega arith)
 
-    not_there : f ≡ Nothing → is_in name (seen_in table used) ≡ false
+    not_there : f ≡ None → is_in name (seen_in table used) ≡ false
     not_there e = go (is_in name (seen_in table used)) refl
       where
         go : (t : Bool) → is_in name (seen_in table used) ≡ t → is_in name (seen_in table used) ≡ false
         go false q = q
         go true q =
-            let found : Nothing ≡ At (0 + place_of (seen_in table used) name) = sym e ∙ (says ∙ find_known 0 (seen_in table used) name q) in
+            let found : None ≡ Some (0 + place_of (seen_in table used) name) = sym e ∙ (says ∙ find_known 0 (seen_in table used) name q) in
             let no_way : ◌≡◌ {A = ℕ} 0 1 = cc in
             absurd (omega arith)
 
@@ -145,12 +144,12 @@ module _ (table : List Slot) (index : List ℕ) (used : ℕ) (k : Knows table in
   pub enter_number : (at : Index) (n : ℕ) → at ≡ Number n → Enters table used (index_names_t at) table index used
   enter_number at n e = rw e (stays [] (unfold firsts in refl))
 
-  module _ (name : ℕ) (named : name ≡ 0 → ⊥) (f : Found) (w : f ≡ find_in (names.between 0 used table) 0 name) where
+  module _ (name : ℕ) (named : name ≡ 0 → ⊥) (f : Option ℕ) (w : f ≡ find_in (names.between 0 used table) 0 name) where
     one_name : name_in name ≡ name ∷ []
     unfolding name_in when◌then◌else◌
     one_name = rw (eqb-false name 0 named)
 
-    pub enter_known : (m : ℕ) → f ≡ At m → Enters table used (name_in name) table index used
+    pub enter_known : (m : ℕ) → f ≡ Some m → Enters table used (name_in name) table index used
     enter_known m e = rw one_name (stays (name ∷ []) (unfold firsts when◌then◌else◌ in rw (was_there name f w m e).0))
 
     module _ (room : used < length table) (r : ℕ) (table' : List Slot) (index' : List ℕ) (number : ℕ) (next : number ≡ used + 1) (p : (r & table') ≡ pushed table used (slot_of name number)) (h : Holds table' index' r) where
@@ -176,7 +175,7 @@ module _ (table : List Slot) (index : List ℕ) (used : ℕ) (k : Knows table in
           slots_are ∙ (ap₂ (λ (l : List Slot) (j : ℕ). l ++ (slot_of name j ∷ [])) k.numbered last
           ∙ (sym (slots_snoc 1 (seen_in table used) name) ∙ ap (slots_from 1) (sym names_are)))
 
-      pub enter_new : f ≡ Nothing → Enters table used (name_in name) table' index' r
+      pub enter_new : f ≡ None → Enters table used (name_in name) table' index' r
       enter_new e =
           rw one_name
           (record {
@@ -278,7 +277,7 @@ module _ (table : List Slot) (index : List ℕ) (used : ℕ) (k : Knows table in
       and_off true = refl
       and_off false = refl
 
-  module _ (named : name ≡ 0 → ⊥) (low : name < 2147483648) (f : Found) (w : f ≡ find_in (names.between 0 used table) 0 name) where
+  module _ (named : name ≡ 0 → ⊥) (low : name < 2147483648) (f : Option ℕ) (w : f ≡ find_in (names.between 0 used table) 0 name) where
     in_range : renamed (place_of (seen_in table used)) name ≡ place_of (seen_in table used) name
     unfolding renamed when◌then◌else◌
     in_range =
@@ -286,10 +285,10 @@ module _ (table : List Slot) (index : List ℕ) (used : ℕ) (k : Knows table in
         let b : leb name top_name ≡ true = omega tests in
         rw (a, b)
 
-    pub number_known : (m : ℕ) → f ≡ At m → m ≡ renamed (place_of (seen_in table used)) name
+    pub number_known : (m : ℕ) → f ≡ Some m → m ≡ renamed (place_of (seen_in table used)) name
     number_known m e = (was_there table index used k name f w m e).1 ∙ sym in_range
 
-    pub number_next : f ≡ Nothing → (m : ℕ) → m ≡ used + 1 → m ≡ renamed (place_of (seen_in table used)) name
+    pub number_next : f ≡ None → (m : ℕ) → m ≡ used + 1 → m ≡ renamed (place_of (seen_in table used)) name
     number_next e m q =
         let next = place_none (seen_in table used) name (not_there table index used k name f w e) in
         let same : m ≡ place_of (seen_in table used) name = omega (arith, next, seen_long table index used k) in

@@ -1,4 +1,5 @@
 -- The tables start empty, the part of the output that is filled, and the run: one law for each way through the code.
+use Rattle.std.specs.Prelude.{Result, Ok, Err, ⊤, ℕ}
 use mathlib.Core.Path.{◌≡◌, refl, sym, ap, ◌∙◌, subst}
 use mathlib.Core.List.{List, [], ◌++◌, append-nil}
 use native.Mathlib.Omega.{arith}
@@ -14,15 +15,15 @@ use Rattle.names.specs.Table.{Slot, empty_slot}
 use Rattle.index.specs.Indexed.{Holds}
 use Rattle.index.proofs.Storey.{holds_none}
 use Rattle.reader.specs.ReadTo.{read_of}
-use Rattle.reader.specs.declared.RowsRead.{RowsRead}
-use Rattle.reader.specs.declared.RowsRead.TheVariants as rows_read
 use Rattle.anonymise.specs.Seen.{slots_from, seen_in, Knows}
 use Rattle.anonymise.specs.Renamed.{key_of, rows_written}
 use Rattle.anonymise.specs.Run.{all_written, fill_names_t, before, read_then, run_t}
-use Rattle.anonymise.specs.declared.run.Answer.{Answer}
-use Rattle.anonymise.specs.declared.run.Answer.TheVariants.{Accepted, Room, Broken, Deep}
 use Rattle.anonymise.proofs.Names.{seen_long}
 use Rattle.anonymise.proofs.Rows.{over_is}
+use Rattle.anonymise.specs.declared.run.Fault.TheVariants.{Room, Broken, Deep}
+use Rattle.reader.specs.declared.BadRows.TheVariants as rows_read
+use Rattle.anonymise.specs.declared.run.Fault.{Fault}
+use Rattle.reader.specs.declared.BadRows.{BadRows}
 
 -- ---- write_form
 
@@ -73,7 +74,7 @@ pub fill_done : (form front key key' body front' : List ℕ) (n : ℕ) → 8 ≤
     → body ≡ all_written (take (length form - 8) (drop 8 form)) (take (length front - 8) (drop 8 front))
     → key' ≡ over (key_of (take (length form - 8) (drop 8 form))) key
     → front' ≡ over (take 8 form) (take 8 front ++ (body ++ drop (length front - 8) (drop 8 front)))
-    → Accepted n & front' & key' ≡ fill_names_t form front key
+    → Ok n & front' & key' ≡ fill_names_t form front key
 unfolding fill_names_t
 fill_done form front key key' body front' n long same count w q p =
     let rows = all_behind form in
@@ -89,23 +90,23 @@ fill_done form front key key' body front' n long same count w q p =
 -- ---- run
 
 module _ (form out key : List ℕ) where
-  pub run_short : length out < length form → Room & out & key ≡ run_t form out key
+  pub run_short : length out < length form → Err Room & out & key ≡ run_t form out key
   unfolding run_t
   run_short h = yes! _ (omega tests) refl
 
-  module _ (h : length form ≤ length out) (r : RowsRead) (w : r ≡ read_of (take (length form - 8) (drop 8 form))) where
+  module _ (h : length form ≤ length out) (r : Result ⊤ BadRows) (w : r ≡ read_of (take (length form - 8) (drop 8 form))) where
     reads : r ≡ read_of (drop 8 form)
     reads = rw all_behind at w
 
-    pub run_broken : (row : ℕ) → r ≡ rows_read.Broken row → Broken (row % 4294967296) & out & key ≡ run_t form out key
+    pub run_broken : (row : ℕ) → r ≡ Err (rows_read.Broken row) → Err (Broken (row % 4294967296)) & out & key ≡ run_t form out key
     unfolding run_t read_then
     run_broken row e = no! _ (omega tests) (rw (← reads, e))
 
-    pub run_deep : (row : ℕ) → r ≡ rows_read.Deep row → Deep (row % 4294967296) & out & key ≡ run_t form out key
+    pub run_deep : (row : ℕ) → r ≡ Err (rows_read.Deep row) → Err (Deep (row % 4294967296)) & out & key ≡ run_t form out key
     unfolding run_t read_then
     run_deep row e = no! _ (omega tests) (rw (← reads, e))
 
-    pub run_whole : (l key' : List ℕ) (a : Answer) → r ≡ rows_read.Whole → a & l & key' ≡ fill_names_t form (take (length form) out) key → a & (l ++ drop (length form) out) & key' ≡ run_t form out key
+    pub run_whole : (l key' : List ℕ) (a : Result ℕ Fault) → r ≡ Ok tt → a & l & key' ≡ fill_names_t form (take (length form) out) key → a & (l ++ drop (length form) out) & key' ≡ run_t form out key
     unfolding run_t read_then before
     run_whole l key' a e v = no! _ (omega tests) (rw (← reads, e, ← v))
 

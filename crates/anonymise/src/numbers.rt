@@ -6,7 +6,7 @@ ghost use Rattle.anonymise.specs.Renamed.{input_row, index_names_t, row_names_t,
 
 use fixed::{FIRST_FRESH, LAST_NAME};
 use index::{find, push};
-use names::{Found, Slot};
+use names::Slot;
 use rows::row::{Index, Row, row_to};
 
 // The space under which all names are entered.
@@ -30,8 +30,8 @@ fn enter(table: &mut [Slot], index: &mut [u16], used: usize, name: u32) -> usize
         return used;
     }
     match find(table, index, 0, used, NAMES, name) {
-        Found::At(_) => used,
-        Found::Nothing => push(
+        Some(_) => used,
+        None => push(
             table,
             index,
             used,
@@ -104,8 +104,8 @@ fn number(table: &[Slot], index: &[u16], used: usize, name: u32) -> u32
         return name;
     }
     match find(table, index, 0, used, NAMES, name) {
-        Found::At(number) => number,
-        Found::Nothing => (used + 1) as u32,
+        Some(number) => number,
+        None => (used + 1) as u32,
     }
 }
 

@@ -11,15 +11,13 @@ ghost use Rattle.anonymise.specs.Run.{all_written, fill_names_t, run_t};
 
 use crate::numbers::{enter_row, input_row, renamed_row};
 use fixed::HEADER;
-use form::header::{Header, header_of};
+use form::header::{BadHeader, header_of};
 use names::{Slot, slot_at};
 use put::put_row;
-use reader::{RowsRead, read};
+use reader::{BadRows, read};
 
 #[derive(Clone, Copy)]
-pub enum Answer {
-    // How many names there are.
-    Accepted(u32),
+pub enum Fault {
     Header,
     RowCount,
     Room,
@@ -106,40 +104,40 @@ fn write_form(rows: &[u8], out: &mut [u8], key: &mut [u32]) -> usize
 }
 
 // Fills the part of the output that is as long as the form.
-fn fill(form: &[u8], front: &mut [u8], key: &mut [u32]) -> Answer
+fn fill(form: &[u8], front: &mut [u8], key: &mut [u32]) -> Result<u32, Fault>
     requires { (8 ≤ length form.now) × (length form.now ≤ 16376) × (length front.old ≡ length form.now) }
     ensures { (result & front.new & key.new) ≡ fill_names_t form.now front.old key.old }
 {
     let names = write_form(&form[HEADER..], &mut front[HEADER..], key);
     copy_header(form, front);
-    Answer::Accepted(names as u32)
+    Ok(names as u32)
 }
 
 // The run on a form whose header was right. Only as much of the output is lent on as the form is long, so what lies beyond
 // stays as it was.
-fn run(form: &[u8], out: &mut [u8], key: &mut [u32]) -> Answer
+fn run(form: &[u8], out: &mut [u8], key: &mut [u32]) -> Result<u32, Fault>
     requires { (8 ≤ length form.now) × (length form.now ≤ 16376) }
     ensures { (result & out.new & key.new) ≡ run_t form.now out.old key.old }
 {
     let size = form.len();
     if out.len() < size {
-        return Answer::Room;
+        return Err(Fault::Room);
     }
     match read(&form[HEADER..]) {
-        RowsRead::Broken(row) => Answer::Broken((row % 4294967296) as u32),
-        RowsRead::Deep(row) => Answer::Deep((row % 4294967296) as u32),
-        RowsRead::Whole => fill(form, &mut out[..size], key),
+        Err(BadRows::Broken(row)) => Err(Fault::Broken((row % 4294967296) as u32)),
+        Err(BadRows::Deep(row)) => Err(Fault::Deep((row % 4294967296) as u32)),
+        Ok(()) => fill(form, &mut out[..size], key),
     }
 }
 
 // Writes the form with 1, 2, 3, and so on for its names, in the order in which they first stand, and into `key` the name
 // that became 1, 2, 3, and so on, as many as it takes. After a refusal nothing is written.
-pub fn anonymise(form: &[u8], out: &mut [u8], key: &mut [u32]) -> Answer
+pub fn anonymise(form: &[u8], out: &mut [u8], key: &mut [u32]) -> Result<u32, Fault>
     ensures { (meaning result ≡ map_answer length (anonymous base form.now (length out.old))) × (out.new ≡ anonymous_output base form.now out.old) × (key.new ≡ key_after (anonymous base form.now (length out.old)) key.old) }
 {
     match header_of(form) {
-        Header::Wrong => Answer::Header,
-        Header::Count => Answer::RowCount,
-        Header::Rows(_) => run(form, out, key),
+        Err(BadHeader::Wrong) => Err(Fault::Header),
+        Err(BadHeader::Count) => Err(Fault::RowCount),
+        Ok(_) => run(form, out, key),
     }
 }

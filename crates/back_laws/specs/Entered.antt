@@ -20,8 +20,6 @@ use Rattle.agree.specs.Fit.Spaces.{SpacesDecls}
 use Rattle.agree.specs.Fit.GoodSpaces.{head_decls}
 use Rattle.parts.specs.declared.Parts.{Parts}
 use Rattle.names.specs.Table.{Slot, space_of, name_of, number_of, find_in}
-use Rattle.names.specs.declared.Found.{Found}
-use Rattle.names.specs.declared.Found.TheVariants.{At, Nothing}
 use Rattle.claim_scopes.specs.Entries.{entry_key_t, slot_t, enter_t}
 use Rattle.claim_laws.specs.RowParts.{as_parts, code_in, scope_size, fields_size}
 use Rattle.claim_laws.specs.Keys.{or_found, find_append, find_other, Other, other_first, other_last, key_is}

@@ -1,5 +1,5 @@
 -- In the table of all declarations each scope's are found by their numbers.
-use Rattle.std.specs.Prelude.{◌≡◌, Bool, true, false, ◌⊎◌, ℕ, zero, suc, ◌+◌, ◌*◌, ◌%◌, ◌<◌, ◌≤◌, eqb, ltb}
+use Rattle.std.specs.Prelude.{◌≡◌, Bool, true, false, ◌⊎◌, ℕ, zero, suc, ◌+◌, ◌*◌, ◌%◌, ◌<◌, ◌≤◌, eqb, ltb, Option as CodeOption, Some, None}
 use Rattle.std.proofs.Math.Path.{refl}
 use Rattle.std.proofs.Common.{sym, ap, ◌∙◌, subst, inl, inr, ⊎_elim, eq-eqb, ne_eqb, eqb-true, ltb-false}
 use Rattle.std.proofs.Math.Option.{Option, none, some}
@@ -18,8 +18,6 @@ use Rattle.unresolving.specs.Back.{or_zero, names_in, name_out}
 use Rattle.agree.specs.Fit.Spaces.{SpacesDecls}
 use Rattle.agree.specs.Fit.GoodSpaces.{head_decls}
 use Rattle.names.specs.Table.{Slot, space_of, name_of, number_of, find_in}
-use Rattle.names.specs.declared.Found.{Found}
-use Rattle.names.specs.declared.Found.TheVariants.{At, Nothing}
 use Rattle.parts.specs.declared.Parts.{Parts}
 use Rattle.claim_scopes.specs.Entries.{entry_key_t, slot_t, entry_of, look_t}
 use Rattle.claim_laws.specs.RowParts.{scope_size, fields_size}
@@ -30,9 +28,9 @@ use Rattle.back_notes.specs.Names.{value_t, name_of_t}
 use Rattle.back_laws.specs.Notes.{row_out, inner_rows, item_length, inner_length, more_names, fewer_names, decls_few, own_head}
 use Rattle.back_laws.specs.Entered.{decl_slots, scope_slots, fields_slots, item_slots}
 
-unfoldable pub found_of : Option ℕ → Found
-found_of none = Nothing
-found_of (some n) = At n
+unfoldable pub found_of : Option ℕ → CodeOption ℕ
+found_of none = None
+found_of (some n) = Some n
 
 -- ---- the declarations of one scope
 
@@ -55,11 +53,11 @@ decl_found k past [] space j x l b e = refl
 decl_found k past (d ∷ ds) space j x l b e =
     go (eqb d.space space) refl j e (λ j' e'. decl_found k (past ++ (d ∷ [])) ds space j' x l (let m = length-append past (d ∷ []) in omega arith) e')
   where
-    later : Found
+    later : CodeOption ℕ
     later = find_in (decl_slots k (past ++ (d ∷ [])) ds) (entry_key_t k space) x
 
     go : (t : Bool) → eqb d.space space ≡ t → (j : ℕ) → x ≡ length (names_in past space) + j + 1 → ((j' : ℕ) → x ≡ length (names_in (past ++ (d ∷ [])) space) + j' + 1 → later ≡ found_of (get_elem? (names_in ds space) j'))
-        → pick (eqb (entry_key_t k d.space) (entry_key_t k space)) (pick (eqb (length (names_in past d.space) % 65536 + 1) x) (At d.name) later) later ≡ found_of (get_elem? (when t then d.name ∷ names_in ds space else names_in ds space) j)
+        → pick (eqb (entry_key_t k d.space) (entry_key_t k space)) (pick (eqb (length (names_in past d.space) % 65536 + 1) x) (Some d.name) later) later ≡ found_of (get_elem? (when t then d.name ∷ names_in ds space else names_in ds space) j)
     go true t zero e below =
         let q = eqb-true d.space space t in
         let few = fewer_names past space in
@@ -327,27 +325,27 @@ Open all (k ∷ ks) (t ∷ ts) = Stand all k t × Open all ks ts
 
 -- no slot stands under the name 0, and none is of a scope in row 65535
 pub record Sound (all : List Slot) : Type 0 where
-  pub named : (key : ℕ) → find_in all key 0 ≡ Nothing
-  pub low : (space x : ℕ) → space < 13 → find_in all (entry_key_t 65535 space) x ≡ Nothing
+  pub named : (key : ℕ) → find_in all key 0 ≡ None
+  pub low : (space x : ℕ) → space < 13 → find_in all (entry_key_t 65535 space) x ≡ None
 
 past_names : (xs : List ℕ) (m : ℕ) → length xs ≤ m → get_elem? xs m ≡ none
 past_names [] m h = refl
 past_names (x ∷ xs) zero h = absurd (omega arith)
 past_names (x ∷ xs) (suc m) h = past_names xs m (omega arith)
 
-unfoldable value_of : Found → ℕ
-value_of (At v) = v
-value_of Nothing = 0
+unfoldable value_of : CodeOption ℕ → ℕ
+value_of (Some v) = v
+value_of None = 0
 
 value_found : (o : Option ℕ) → value_of (found_of o) ≡ or_zero o
 unfolding value_of found_of or_zero
 value_found none = refl
 value_found (some n) = refl
 
-value_entry : (f : Found) → value_t (entry_of f) ≡ value_of f
+value_entry : (f : CodeOption ℕ) → value_t (entry_of f) ≡ value_of f
 unfolding value_t entry_of value_of
-value_entry (At v) = refl
-value_entry Nothing = refl
+value_entry (Some v) = refl
+value_entry None = refl
 
 by_number_lem : (all : List Slot) (k : ℕ) (ds : List Declaration) (space m : ℕ) → Sound all → Stand all k ds → space < 13 → find_in all (entry_key_t k space) (Names.key_t m) ≡ found_of (get_elem? (names_in ds space) m)
 unfolding Names.key_t found_of pick

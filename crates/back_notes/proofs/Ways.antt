@@ -1,4 +1,5 @@
 -- Each way through the code finds what its twin finds.
+use Rattle.std.specs.Prelude.{Option, Some, None, ℕ}
 use mathlib.Core.Path.{◌≡◌, refl, sym, ap, ◌∙◌}
 use mathlib.Core.Bool.{Bool, true, false}
 use mathlib.Core.List.{List, [], ◌∷◌, ◌++◌}
@@ -21,8 +22,6 @@ use Rattle.claim_rows.specs.Left.{rows_at}
 use Rattle.claim_rows.proofs.Ways.{rows_there, rows_past}
 use Rattle.claim_scopes.specs.Open.{open_behind_t, open_in, here_t, open_one_t}
 use Rattle.claim_scopes.specs.Entries.{slot_t, look_t, enter_t, laid_t}
-use Rattle.claim_scopes.specs.declared.entries.Entry.{Entry}
-use Rattle.claim_scopes.specs.declared.entries.Entry.TheVariants.{Value, Nothing}
 use Rattle.claim_scopes.proofs.Held.{open_behind, Laid, laid_none, slot_enters, laid_is}
 use Rattle.claim_numbers.specs.Count.{no_counts, count_before_t, counts_in, number_before_t, counts_t}
 use Rattle.claim_numbers.specs.Enter.{laid_by}
@@ -221,12 +220,12 @@ pub key_none : (number : ℕ) → 65535 ≤ number → 0 ≡ key_t number
 unfolding key_t pick
 key_none number h = rw (le-ltb _ _ h)
 
-module _ (ss : List Slot) (p : Parts) (n : Note) (scope key : ℕ) (s : scope ≡ get_or n 1 0) (k : key ≡ key_t p.y) (e : Entry) (l : e ≡ look_t ss scope p.b key) where
-  pub name_value : (v : ℕ) → e ≡ Value v → v ≡ name_of_t ss p n
+module _ (ss : List Slot) (p : Parts) (n : Note) (scope key : ℕ) (s : scope ≡ get_or n 1 0) (k : key ≡ key_t p.y) (e : Option ℕ) (l : e ≡ look_t ss scope p.b key) where
+  pub name_value : (v : ℕ) → e ≡ Some v → v ≡ name_of_t ss p n
   unfolding name_of_t value_t
   name_value v h = rw (← s, ← k, ← l, h)
 
-  pub name_nothing : e ≡ Nothing → 0 ≡ name_of_t ss p n
+  pub name_nothing : e ≡ None → 0 ≡ name_of_t ss p n
   unfolding name_of_t value_t
   name_nothing h = rw (← s, ← k, ← l, h)
 

@@ -1,13 +1,11 @@
 -- The other two passes: declarations under their numbers, and the names that OUTERs count to.
-use Rattle.std.specs.Prelude.{List, [], ◌∷◌, map, ℕ, zero, suc, ◌+◌, ◌%◌, ◌/◌, eqb, ltb, length, get_or, set}
+use Rattle.std.specs.Prelude.{List, [], ◌∷◌, map, ℕ, zero, suc, ◌+◌, ◌%◌, ◌/◌, eqb, ltb, length, get_or, set, Option, Some, None}
 use Rattle.kit.specs.Pick.{pick}
 use Rattle.kit.specs.Out.{Out, ◌&◌}
 use Rattle.parts.specs.declared.Parts.{Parts}
 use Rattle.parts.specs.PartsAt.{parts_at}
 use Rattle.names.specs.Table.{Slot, pushed}
 use Rattle.claim_scopes.specs.Entries.{slot_t, look_t, enter_t}
-use Rattle.claim_scopes.specs.declared.entries.Entry.{Entry}
-use Rattle.claim_scopes.specs.declared.entries.Entry.TheVariants.{Value, Nothing}
 use Rattle.back_notes.specs.Note.{Note, note, no_note, Noted, noted_at}
 
 -- ---- entered under numbers
@@ -36,9 +34,9 @@ unfoldable pub key_t : ℕ → ℕ
 key_t number = pick (ltb number 65535) (number + 1) 0
 
 -- the name that was entered, 0 where there is none
-unfoldable pub value_t : Entry → ℕ
-value_t (Value name) = name
-value_t Nothing = 0
+unfoldable pub value_t : Option ℕ → ℕ
+value_t (Some name) = name
+value_t None = 0
 
 -- the name of what an OUTER with this note counts to, 0 where there is nothing
 unfoldable pub name_of_t : List Slot → Parts → Note → ℕ

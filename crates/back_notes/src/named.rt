@@ -10,7 +10,7 @@ ghost use Rattle.back_notes.specs.Note.{noted_at};
 ghost use Rattle.back_notes.specs.Names.{key_t, entered_t, slots_t, value_t, name_of_t, named_t, name_row_t, named_from, names_t};
 
 use crate::note::{Note, note_at, put_note};
-use claim_scopes::entries::{Entry, enter, look_up};
+use claim_scopes::entries::{enter, look_up};
 use names::Slot;
 use parts::{Parts, parts_at};
 use rows::row::{DECL, OUTER};
@@ -61,8 +61,8 @@ fn name_of(p: Parts, n: Note, table: &[Slot], index: &[u16], used: usize) -> u32
 {
     let scope = n[1] as usize;
     match look_up(table, index, used, scope, p.b, key(p.y)) {
-        Entry::Value(name) => name,
-        Entry::Nothing => 0,
+        Some(name) => name,
+        None => 0,
     }
 }
 

@@ -1,5 +1,5 @@
 -- The rows of an output in bytes: after both passes they have the notes of their tree, and what is written for them is the unresolved tree.
-use Rattle.std.specs.Prelude.{◌≡◌, Bool, ℕ, suc, ◌+◌, ◌-◌, ◌*◌, ◌/◌, ◌%◌, ◌<◌, ◌≤◌, eqb, get_or, set, drop}
+use Rattle.std.specs.Prelude.{◌≡◌, Bool, ℕ, suc, ◌+◌, ◌-◌, ◌*◌, ◌/◌, ◌%◌, ◌<◌, ◌≤◌, eqb, get_or, set, drop, None}
 use Rattle.std.proofs.Math.Path.{refl, sym, ap}
 use Rattle.std.proofs.Common.{◌∙◌, subst, drop_at, ne_eqb}
 use Rattle.std.proofs.Math.Bool.{true, false}
@@ -22,8 +22,6 @@ use Rattle.unresolving.specs.Back.{names_in, unresolve_scope, unresolve}
 use Rattle.parts.specs.PartsAt.{parts_at}
 use Rattle.parts.specs.declared.Parts.{Parts}
 use Rattle.names.specs.Table.{Slot, space_of, name_of, find_in}
-use Rattle.names.specs.declared.Found.{Found}
-use Rattle.names.specs.declared.Found.TheVariants.{Nothing}
 use Rattle.matched.proofs.Ends.{At}
 use Rattle.claim_rows.specs.Left.{rows_from, rows_at}
 use Rattle.claim_scopes.specs.Entries.{entry_key_t, slot_t}
@@ -78,12 +76,12 @@ mutual
   item_named (plain h) n = done
   item_named (holds h s) n = scope_named_lem s n
 
-none_named : (ss : List Slot) (key : ℕ) → All HasName ss → find_in ss key 0 ≡ Nothing
+none_named : (ss : List Slot) (key : ℕ) → All HasName ss → find_in ss key 0 ≡ None
 unfolding find_in pick
 none_named [] key done = refl
 none_named (s ∷ ss) key (h also p) = rw (ne_eqb (name_of s) 0 (omega arith), none_named ss key p) (go (eqb (space_of s) key))
   where
-    go : (t : Bool) → pick t Nothing Nothing ≡ Nothing
+    go : (t : Bool) → pick t None None ≡ None
     go true = refl
     go false = refl
 

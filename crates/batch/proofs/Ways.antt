@@ -1,4 +1,5 @@
 -- Ways through a batch.
+use Rattle.std.specs.Prelude.{Result, ℕ}
 use mathlib.Core.Path.{◌≡◌, refl, sym, ap, ◌∙◌, subst}
 use mathlib.Core.Bool.{Bool, true, false}
 use mathlib.Core.List.{List, [], ◌∷◌, ◌++◌, append-nil}
@@ -27,7 +28,6 @@ use Rattle.batching.proofs.Laws.BytesLaws.{cut_count, bad_members_lem, few_bytes
 use Rattle.refusal.specs.declared.Refusal.{Refusal}
 use Rattle.names.specs.Table.{Slot}
 use Rattle.resolver.specs.Meaning.{numbers, Said, meaning, ruled}
-use Rattle.resolver.specs.declared.run.Answer.{Answer}
 use Rattle.resolver_with.proofs.Runs.{able_at}
 use Rattle.resolver_with.specs.Areas.{lent_of, roomy}
 use Rattle.resolver_with.specs.With.{Ran}
@@ -37,10 +37,11 @@ use Rattle.member.proofs.Prelude.{Resolved}
 use Rattle.member.proofs.Ways.{packed_as, is_told, lent_ran, lent_left, lent_found}
 use Rattle.batch.specs.Shares.{InFront, InShare, InShares}
 use Rattle.batch.proofs.Turns.{next_share, outs_from, outs_start, outs_turn, outs_end, answers_from, answers_turn, answers_end}
+use Rattle.refusal.specs.declared.Refused.{Refused}
 
 -- ---- in_front
 
-pub fronted : (one : Setting) (root form rest new : List ℕ) (share : ℕ) → share ≤ length rest → (a : Answer) → Resolves one root form (take share rest) new a
+pub fronted : (one : Setting) (root form rest new : List ℕ) (share : ℕ) → share ≤ length rest → (a : Result ℕ Refused) → Resolves one root form (take share rest) new a
     → (s : Refusal) → numbers s.number s.place ≡ (meaning a).plain → (r : ℕ) → r ≡ s.number * 4294967296 + s.place
     → InFront one root form share rest (new ++ drop share rest) r
 fronted one root form rest new share fits a resolves s told r e = λ t i.
@@ -136,7 +137,7 @@ pub ruleset lefts = (left_start, left_turn, left_end, usual_at, rules)
 
 -- ---- resolve_all
 
-module _ (i : ℕ) (prelude area : List ℕ) (e n : List Slot) (k c m : List ℕ) (suits : SuitsIf i (length area) e n k c m) (said : Refusal) (a : Answer) (told : numbers said.number said.place ≡ (meaning a).plain)
+module _ (i : ℕ) (prelude area : List ℕ) (e n : List Slot) (k c m : List ℕ) (suits : SuitsIf i (length area) e n k c m) (said : Refusal) (a : Result ℕ Refused) (told : numbers said.number said.place ≡ (meaning a).plain)
     (area' : List ℕ) (ran : Ran (setting i) (roomy (setting i).version (lent_of e n k c m)) prelude area area' a) where
   abbrev one : Setting
   one = setting i

@@ -1,4 +1,5 @@
 -- The ways through the code.
+use Rattle.std.specs.Prelude.{Option, Some, None}
 use mathlib.Core.Path.{◌≡◌, refl, ◌∙◌}
 use mathlib.Core.Bool.{Bool, true, false, not}
 use mathlib.Core.List.{List}
@@ -8,13 +9,12 @@ use borrow.Author.Rules.{rules}
 use Rattle.kit.proofs.Laws.{yes!, no!, tests, left_suc}
 use Rattle.row_parts.specs.Parts.{code_at, z_at, is_inserted, rows_in}
 use Rattle.readings.specs.Meaning.{final_meaning}
-use Rattle.readings.specs.declared.Meaning.{Meaning}
-use Rattle.readings.specs.declared.Meaning.TheVariants.{At as MeantAt, Nowhere}
 use Rattle.bound.specs.declared.Reference.{Reference}
 use Rattle.bound.specs.declared.Reference.TheVariants.{Nothing, At, Several as Many}
 use Rattle.bound.specs.declared.Binding.{Binding}
 use Rattle.bound.specs.declared.Binding.TheVariants.{AsWritten, Elsewhere, NoReference, Several}
 use Rattle.bound.specs.Bound.{is_reference, next_from, next_reference, reference_at, bound_to, bound_at, bound_by, binding_of}
+use Rattle.readings.specs.declared.Meaning.{Meaning}
 
 -- ---- the references at a place
 
@@ -70,8 +70,8 @@ pub ruleset place_ways = (at_none, at_one, at_several, rules)
 
 -- ---- what it is bound to
 
-module _ (form : List ℕ) (row name : ℕ) (m : Meaning) (got : m ≡ final_meaning form row) where
-  module _ (decl number out reached : ℕ) (at : m ≡ MeantAt decl number out reached) where
+module _ (form : List ℕ) (row name : ℕ) (m : Option Meaning) (got : m ≡ final_meaning form row) where
+  module _ (decl number out reached : ℕ) (at : m ≡ Some (record { row = decl; number = number; out = out; name = reached })) where
     pub bound_written : reached ≡ name → AsWritten ≡ bound_at form row name
     unfolding bound_at bound_to
     bound_written h = rw (← got, at) (yes! _ (omega tests) refl)
@@ -80,7 +80,7 @@ module _ (form : List ℕ) (row name : ℕ) (m : Meaning) (got : m ≡ final_mea
     unfolding bound_at bound_to
     bound_elsewhere h = rw (← got, at) (no! _ (omega tests) refl)
 
-  pub bound_nowhere : m ≡ Nowhere → Elsewhere 0 ≡ bound_at form row name
+  pub bound_nowhere : m ≡ None → Elsewhere 0 ≡ bound_at form row name
   unfolding bound_at bound_to
   bound_nowhere q = rw (← got, q)
 

@@ -1,14 +1,13 @@
 -- What a slot is answered, as the code finds it on the rows of a resolved form.
-use Rattle.std.specs.Prelude.{Bool, false, not, List, ℕ, zero, suc, ◌+◌, ◌-◌, eqb, leb}
+use Rattle.std.specs.Prelude.{Bool, false, not, List, ℕ, zero, suc, ◌+◌, ◌-◌, eqb, leb, Option, Some, None}
 use Rattle.kit.specs.Pick.{pick}
 use Rattle.row_parts.specs.Parts.{code_at, z_at, is_inserted, rows_in}
 use Rattle.readings.specs.Meaning.{final_meaning}
-use Rattle.readings.specs.declared.Meaning.{Meaning}
-use Rattle.readings.specs.declared.Meaning.TheVariants.{At as MeantAt, Nowhere}
 use Rattle.bound.specs.declared.Reference.{Reference}
 use Rattle.bound.specs.declared.Reference.TheVariants.{Nothing, At, Several as Many}
 use Rattle.bound.specs.declared.Binding.{Binding}
 use Rattle.bound.specs.declared.Binding.TheVariants.{AsWritten, Elsewhere, NoReference, Several}
+use Rattle.readings.specs.declared.Meaning.{Meaning}
 
 -- ---- the references at a place
 
@@ -34,9 +33,9 @@ reference_at form place =
 
 -- ---- what it is bound to
 
-unfoldable pub bound_to : Meaning → (name : ℕ) → Binding
-bound_to (MeantAt row number out reached) name = pick (eqb reached name) AsWritten (Elsewhere row)
-bound_to Nowhere name = Elsewhere 0
+unfoldable pub bound_to : Option Meaning → (name : ℕ) → Binding
+bound_to (Some (record { row = row; number = number; out = out; name = reached })) name = pick (eqb reached name) AsWritten (Elsewhere row)
+bound_to None name = Elsewhere 0
 
 -- what a reference is bound to: what it means in the end, which is a declaration of that name or not
 unfoldable pub bound_at : (form : List ℕ) (row name : ℕ) → Binding

@@ -86,19 +86,20 @@ fn bound_at(form: &[u8], row: u16, name: u32) -> Binding
     ensures { result ≡ bound_at form.now row name }
 {
     match final_meaning(form, row) {
-        Meaning::At {
-            row: declaration,
-            number: _,
-            out: _,
-            name: reached,
-        } => {
+        Some(
+            Meaning {
+                row: declaration,
+                name: reached,
+                ..
+            },
+        ) => {
             if reached == name {
                 Binding::AsWritten
             } else {
                 Binding::Elsewhere(declaration)
             }
         }
-        Meaning::Nowhere => Binding::Elsewhere(0),
+        None => Binding::Elsewhere(0),
     }
 }
 

@@ -1,4 +1,5 @@
 -- The ways through the code below the run: the steps in lent tables, the input, and the fronts of the areas.
+use Rattle.std.specs.Prelude.{Result as CodeResult, Ok, Err, ⊤, ℕ}
 use mathlib.Core.Path.{◌≡◌, refl, ap, sym, ◌∙◌, subst}
 use mathlib.Core.Bool.{Bool, true, false, ◌&&◌}
 use mathlib.Core.Option.{Option, none, some}
@@ -31,16 +32,10 @@ use Rattle.limits.specs.Held.{setting}
 use Rattle.names.specs.Table.{Slot, empty_slot}
 use Rattle.walk.specs.Scopes.{Wrote₃}
 use Rattle.write.specs.declared.alias.WriteState.{WriteState}
-use Rattle.write.specs.declared.alias.Walked.{Walked}
-use Rattle.write.specs.declared.alias.Walked.TheVariants as walked
 use Rattle.whole_form.specs.Whole.{form_of}
-use Rattle.whole_form.specs.declared.read.Form.{Form}
-use Rattle.whole_form.specs.declared.read.Form.TheVariants as read
 use Rattle.agree.specs.Walk.RootAgrees.{refusal_of, refused_by}
 use Rattle.resolver.specs.Run.{seen_of, walk_in}
 use Rattle.resolver.specs.Steps.{steps_in, steps_of}
-use Rattle.resolver.specs.declared.steps.Steps.{Steps}
-use Rattle.resolver.specs.declared.steps.Steps.TheVariants.{Pass, Refused}
 use Rattle.resolver.proofs.Bytes.{all_bytes}
 use Rattle.resolver.proofs.Root.{Able, Rooms, steps_refusal}
 use Rattle.resolver_with.specs.Areas.{slots_for, links_for, lent_of, roomy, Cleared}
@@ -48,22 +43,23 @@ use Rattle.resolver_with.specs.Areas as areas
 use Rattle.resolver_with.specs.Exact.{Suits}
 use Rattle.resolver_with.proofs.Runs.{able_at, rooms_in}
 use Rattle.claim_check.specs.Run.{Fit, Kept, version_of, body_of, claim_by, input_of}
-use Rattle.claim_check.specs.declared.Verdict.{Verdict}
 use Rattle.claim_check.proofs.Runs.{kept_front}
 use Rattle.claim_check.proofs.Agrees.{table_left}
 use Rattle.check_with.specs.Large.{Large}
+use Rattle.claim_check.specs.declared.Verdict.{Verdict}
+use Rattle.refusal.specs.declared.Refused.{Refused}
 
 -- ---- try_steps
 
-module _ (i a : ℕ) (h : a ≡ (setting i).version.header) (form ends out : List ℕ) (entered names : List Slot) (w : Walked) (q : (w & out) ≡ walk_in (setting i) (take (length form - a) (drop a form)) ends entered names (0 ∷ [])) where
+module _ (i a : ℕ) (h : a ≡ (setting i).version.header) (form ends out : List ℕ) (entered names : List Slot) (w : CodeResult WriteState Refused) (q : (w & out) ≡ walk_in (setting i) (take (length form - a) (drop a form)) ends entered names (0 ∷ [])) where
   walks_behind : (w & out) ≡ walk_in (setting i) (body_of i form) ends entered names (0 ∷ [])
   walks_behind = q ∙ ap (λ (l : List ℕ). walk_in (setting i) l ends entered names (0 ∷ [])) (take_all (length form - a) (drop a form) (simp length-drop (omega arith)) ∙ ap (λ (n : ℕ). drop n form) h)
 
-  pub steps_pass : (s : WriteState) → w ≡ walked.Done s → Pass ≡ steps_in (walk_in (setting i) (body_of i form) ends entered names (0 ∷ []))
+  pub steps_pass : (s : WriteState) → w ≡ Ok s → Ok tt ≡ steps_in (walk_in (setting i) (body_of i form) ends entered names (0 ∷ []))
   unfolding steps_in
   steps_pass s e = rw (← walks_behind, e)
 
-  pub steps_refuse : (why : Refusal) (told : Told) → w ≡ walked.Refused why told → Refused why ≡ steps_in (walk_in (setting i) (body_of i form) ends entered names (0 ∷ []))
+  pub steps_refuse : (why : Refusal) (told : Told) → w ≡ Err (record { refusal = why; told = told }) → Err why ≡ steps_in (walk_in (setting i) (body_of i form) ends entered names (0 ∷ []))
   unfolding steps_in
   steps_refuse why told e = rw (← walks_behind, e)
 
@@ -72,14 +68,14 @@ pub ruleset steps_ways = (steps_pass, steps_refuse, rules)
 -- ---- try_input
 
 -- a refusal, if there is one, as the steps answer it
-abbrev as_steps : Option (Refusal × Told) → Steps
-as_steps none = Pass
-as_steps (some r) = Refused r.0
+abbrev as_steps : Option (Refusal × Told) → CodeResult ⊤ Refusal
+as_steps none = Ok tt
+as_steps (some r) = Err r.0
 
 of_walk : (w : Wrote₃) → steps_in (seen_of w) ≡ as_steps (refusal_of w)
 unfolding seen_of steps_in refusal_of
-of_walk (walked.Done s & e & n & o) = refl
-of_walk (walked.Refused refusal told & e & n & o) = refl
+of_walk (Ok s & e & n & o) = refl
+of_walk (Err (record { refusal = refusal; told = told }) & e & n & o) = refl
 
 of_rules : (m : Result (Scope × ℕ)) → as_steps (refused_by m) ≡ steps_of m
 unfolding refused_by steps_of
@@ -113,27 +109,27 @@ module _ (v : Setting) (able : Able v) (ends : List ℕ) (entered names : List S
       of_walk _ ∙ (ap as_steps (steps_refusal v able ends entered names rooms rows (bytes_drop v.version.header form bytes) rows_are.0 s is_form R.low (0 ∷ [])) ∙ of_rules (resolve v.rules s))
 
 -- the reading's refusal, or else what the steps answer
-abbrev tried_by : Form → Steps → Steps
-tried_by (read.Refused why) t = Refused why
-tried_by (read.Whole rows) t = t
+abbrev tried_by : CodeResult ℕ Refusal → CodeResult ⊤ Refusal → CodeResult ⊤ Refusal
+tried_by (Err why) t = Err why
+tried_by (Ok rows) t = t
 
-tried_is : (rules : RuleSet) (x : AnswerOf Scope) (t : Steps) → ((s : Scope) → x ≡ accepted s → t ≡ steps_of (resolve rules s)) → tried_by (form_of x) t ≡ input_of rules x
+tried_is : (rules : RuleSet) (x : AnswerOf Scope) (t : CodeResult ⊤ Refusal) → ((s : Scope) → x ≡ accepted s → t ≡ steps_of (resolve rules s)) → tried_by (form_of x) t ≡ input_of rules x
 unfolding form_of input_of
 tried_is rules (refused n p q) t h = refl
 tried_is rules (accepted s) t h = h s refl
 
-module _ (form : List ℕ) (all : (j : ℕ) → Fits w8 (get_or form j 0)) (i : ℕ) (entered names : List Slot) (known chains ends : List ℕ) (suits : Suits i entered names known chains ends) (r : Form) (e : r ≡ form_of (read_form (setting i) form)) where
-  abbrev walks : Steps
+module _ (form : List ℕ) (all : (j : ℕ) → Fits w8 (get_or form j 0)) (i : ℕ) (entered names : List Slot) (known chains ends : List ℕ) (suits : Suits i entered names known chains ends) (r : CodeResult ℕ Refusal) (e : r ≡ form_of (read_form (setting i) form)) where
+  abbrev walks : CodeResult ⊤ Refusal
   walks = steps_in (walk_in (setting i) (body_of i form) ends entered names (0 ∷ []))
 
   tried : tried_by r walks ≡ input_of (setting i).rules (read_form (setting i) form)
-  tried = ap (λ (x : Form). tried_by x walks) e ∙ tried_is (setting i).rules (read_form (setting i) form) walks (λ s q. steps_able (setting i) (able_at i) ends entered names (rooms_in i entered names known chains ends suits) form (all_bytes form all) s q)
+  tried = ap (λ (x : CodeResult ℕ Refusal). tried_by x walks) e ∙ tried_is (setting i).rules (read_form (setting i) form) walks (λ s q. steps_able (setting i) (able_at i) ends entered names (rooms_in i entered names known chains ends suits) form (all_bytes form all) s q)
 
-  pub input_refused : (why : Refusal) → r ≡ read.Refused why → Refused why ≡ input_of (setting i).rules (read_form (setting i) form)
-  input_refused why w = sym (ap (λ (x : Form). tried_by x walks) w) ∙ tried
+  pub input_refused : (why : Refusal) → r ≡ Err why → Err why ≡ input_of (setting i).rules (read_form (setting i) form)
+  input_refused why w = sym (ap (λ (x : CodeResult ℕ Refusal). tried_by x walks) w) ∙ tried
 
-  pub input_whole : (rows : ℕ) → r ≡ read.Whole rows → (t : Steps) → t ≡ walks → t ≡ input_of (setting i).rules (read_form (setting i) form)
-  input_whole rows w t q = q ∙ (sym (ap (λ (x : Form). tried_by x walks) w) ∙ tried)
+  pub input_whole : (rows : ℕ) → r ≡ Ok rows → (t : CodeResult ⊤ Refusal) → t ≡ walks → t ≡ input_of (setting i).rules (read_form (setting i) form)
+  input_whole rows w t q = q ∙ (sym (ap (λ (x : CodeResult ℕ Refusal). tried_by x walks) w) ∙ tried)
 
 -- ---- try_fronts
 
@@ -182,7 +178,7 @@ areas_left v e e₁ e' n n₁ n' k k₁ k' c c₁ c' m m₁ m' K h =
       ends = area_left (slots_for v) 0 m m₁ m' K.4 h.ends;
     }
 
-pub told_as : (t v x : Steps) → t ≡ x → t ≡ v → v ≡ x
+pub told_as : (t v x : CodeResult ⊤ Refusal) → t ≡ x → t ≡ v → v ≡ x
 told_as t v x e w = sym w ∙ e
 
 -- ---- judge_lent
@@ -195,8 +191,8 @@ module _ (i : ℕ) (table : List Slot) (index : List ℕ) (most all : ℕ) (m : 
       let b = length-take-le all index (omega (arith, n, k)) in
       record { links_are = omega (arith, a, b, m, n); few = omega (arith, a, few) }
 
-module _ (i : ℕ) (form claim : List ℕ) (table : List Slot) (most : ℕ) (m : most ≡ slots_of (version_of i)) (h : slots_of (version_of i) ≤ length table) (d : Verdict) (e : d ≡ claim_by i form claim (length (take most table)) (form_of (read_form (as_claimed (setting i)) claim))) where
-  pub claim_judged : (v : Verdict) → d ≡ v → v ≡ claim_by i form claim (slots_of (version_of i)) (form_of (read_form (as_claimed (setting i)) claim))
+module _ (i : ℕ) (form claim : List ℕ) (table : List Slot) (most : ℕ) (m : most ≡ slots_of (version_of i)) (h : slots_of (version_of i) ≤ length table) (d : CodeResult Verdict Refusal) (e : d ≡ claim_by i form claim (length (take most table)) (form_of (read_form (as_claimed (setting i)) claim))) where
+  pub claim_judged : (v : CodeResult Verdict Refusal) → d ≡ v → v ≡ claim_by i form claim (slots_of (version_of i)) (form_of (read_form (as_claimed (setting i)) claim))
   claim_judged v q =
       sym q ∙ (e ∙ ap (λ (room : ℕ). claim_by i form claim room (form_of (read_form (as_claimed (setting i)) claim))) (length-take-le most table (omega (arith, m, h)) ∙ m))
 

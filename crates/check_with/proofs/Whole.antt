@@ -1,4 +1,5 @@
 -- The whole run against the rules.
+use Rattle.std.specs.Prelude.{Result, Ok, Err, ⊤}
 use mathlib.Core.Path.{◌≡◌, refl, ap, sym, ◌∙◌, subst}
 use mathlib.Core.Bool.{Bool, true, false, ◌||◌, ◌&&◌, not}
 use mathlib.Core.Option.{Option, none, some}
@@ -24,8 +25,6 @@ use Rattle.refusal.specs.declared.Refusal.{Refusal}
 use Rattle.limits.specs.Held.{setting}
 use Rattle.names.specs.Table.{Slot, empty_slot}
 use Rattle.whole_form.specs.Whole.{form_of}
-use Rattle.resolver.specs.declared.steps.Steps.{Steps}
-use Rattle.resolver.specs.declared.steps.Steps.TheVariants as steps
 use Rattle.resolver.proofs.Bytes.{all_bytes}
 use Rattle.resolver_with.specs.Areas.{slots_for, links_for, Lent, lent_of, roomy, Cleared}
 use Rattle.resolver_with.specs.Asked.{asked}
@@ -33,11 +32,10 @@ use Rattle.resolver_with.proofs.Asked.{setting_asked}
 use Rattle.lent_areas.proofs.InForce.{first_asked}
 use Rattle.claim_check.specs.Meaning.{meaning, ruled}
 use Rattle.claim_check.specs.Run.{version_of, claim_by, steps_by, input_of, small_t}
-use Rattle.claim_check.specs.declared.Verdict.{Verdict}
-use Rattle.claim_check.specs.declared.Verdict.TheVariants.{Refused}
 use Rattle.claim_check.proofs.Agrees.{small_decided, enough_decided}
 use Rattle.check_with.specs.With.{check_with}
 use Rattle.check_with.specs.Large.{Large}
+use Rattle.claim_check.specs.declared.Verdict.{Verdict}
 
 -- ---- what is large enough
 
@@ -67,16 +65,16 @@ slots_some (suc zero) = omega arith
 slots_some (suc (suc zero)) = omega arith
 slots_some (suc (suc (suc i))) = omega arith
 
-abbrev refuses : Steps → ℕ
-refuses steps.Pass = 0
-refuses (steps.Refused why) = 1
+abbrev refuses : Result ⊤ Refusal → ℕ
+refuses (Ok tt) = 0
+refuses (Err why) = 1
 
 -- an input that is accepted has a header
-pub accepted_long : (i : ℕ) (form : List ℕ) (t : Steps) → t ≡ input_of (setting i).rules (read_form (setting i) form) → t ≡ steps.Pass → (version_of i).header ≤ length form
+pub accepted_long : (i : ℕ) (form : List ℕ) (t : Result ⊤ Refusal) → t ≡ input_of (setting i).rules (read_form (setting i) form) → t ≡ Ok tt → (version_of i).header ≤ length form
 unfolding input_of
 accepted_long i form t e w = go (read_form (setting i) form) refl (sym w ∙ e)
   where
-    go : (x : AnswerOf Scope) → read_form (setting i) form ≡ x → steps.Pass ≡ input_of (setting i).rules x → (version_of i).header ≤ length form
+    go : (x : AnswerOf Scope) → read_form (setting i) form ≡ x → Ok tt ≡ input_of (setting i).rules x → (version_of i).header ≤ length form
     go (refused n p q) r z = let no_way : ◌≡◌ {A = ℕ} 0 1 = ap refuses z in absurd (omega (arith, no_way))
     go (accepted s) r z = let h = eqb-true (length form) _ ((read_exactly (setting i) form s).0 r).long in omega (arith, h)
 
@@ -125,19 +123,19 @@ module _ (form : List ℕ) (each : (j : ℕ) → Fits w8 (get_or form j 0)) (cla
   tested : small ≡ (ltb taken (slots_of (version_of i)) || ltb links (links_of (version_of i)))
   tested = is ∙ as_taken fits
 
-  pub small_returns : small ≡ true → (v : Verdict) → v ≡ small_t i form → meaning v ≡ ruled (check_with form claim slots links lent)
+  pub small_returns : small ≡ true → (v : Result Verdict Refusal) → v ≡ small_t i form → meaning v ≡ ruled (check_with form claim slots links lent)
   small_returns e v q = ap meaning q ∙ (small_decided i form claim (all_bytes form each) taken links (sym tested ∙ e) ∙ ap ruled (sym with_asked))
 
   module _ (e : small ≡ false) where
-    module _ (t : Steps) (said : t ≡ input_of (setting i).rules (read_form (setting i) form)) where
+    module _ (t : Result ⊤ Refusal) (said : t ≡ input_of (setting i).rules (read_form (setting i) form)) where
       judged : meaning (steps_by i form claim (slots_of (version_of i)) t) ≡ ruled (check_with form claim slots links lent)
-      judged = ap (λ (x : Steps). meaning (steps_by i form claim (slots_of (version_of i)) x)) said ∙ (enough_decided i form claim (all_bytes form each) taken links (sym tested ∙ e) ∙ ap ruled (sym with_asked))
+      judged = ap (λ (x : Result ⊤ Refusal). meaning (steps_by i form claim (slots_of (version_of i)) x)) said ∙ (enough_decided i form claim (all_bytes form each) taken links (sym tested ∙ e) ∙ ap ruled (sym with_asked))
 
-      pub refused_returns : (why : Refusal) → t ≡ steps.Refused why → meaning (Refused why) ≡ ruled (check_with form claim slots links lent)
+      pub refused_returns : (why : Refusal) → t ≡ Err why → meaning (Err why) ≡ ruled (check_with form claim slots links lent)
       unfolding steps_by
       refused_returns why w = rw w at judged
 
-      pub judged_returns : t ≡ steps.Pass → (v : Verdict) → v ≡ claim_by i form claim (slots_of (version_of i)) (form_of (read_form (as_claimed (setting i)) claim)) → meaning v ≡ ruled (check_with form claim slots links lent)
+      pub judged_returns : t ≡ Ok tt → (v : Result Verdict Refusal) → v ≡ claim_by i form claim (slots_of (version_of i)) (form_of (read_form (as_claimed (setting i)) claim)) → meaning v ≡ ruled (check_with form claim slots links lent)
       unfolding steps_by
       judged_returns w v q = ap meaning q ∙ (rw w at judged)
 

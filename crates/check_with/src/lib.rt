@@ -23,12 +23,11 @@ use claim_check::Verdict;
 use claim_check::run::{clear, judge_claim, links, refuse_small, slots};
 use lent_areas::{are_roomy, clear_areas};
 use names::Slot;
+use refusal::Refused;
 use resolver::run::header_size;
-use resolver::steps::Steps;
 use resolver_with::run::{asked_for, walk_in};
 use resolver_with::sizes::{links_for, slots_for};
-use whole_form::read::{Form, read_input};
-use write::alias::Walked;
+use whole_form::read::read_input;
 
 // What the steps answer to the rows of a form. There is no room for a row that they write, which changes no answer.
 fn try_steps(
@@ -39,7 +38,7 @@ fn try_steps(
     known: &mut [u16],
     chains: &mut [u16],
     ends: &mut [u32],
-) -> Steps
+) -> Result<(), Refusal>
     requires { Suits i entered.old names.old known.old chains.old ends.old × ((version_of i).header ≤ length form.now) }
     ensures { result ≡ steps_in (walk_in (setting i) (body_of i form.now) ends.old entered.old names.old (0 ∷ [])) }
 {
@@ -55,8 +54,8 @@ fn try_steps(
         chains,
         ends,
     ) {
-        Walked::Done(_) => Steps::Pass,
-        Walked::Refused(refusal, _) => Steps::Refused(refusal),
+        Ok(_) => Ok(()),
+        Err(Refused { refusal, .. }) => Err(refusal),
     }
 }
 
@@ -69,13 +68,13 @@ fn try_input(
     known: &mut [u16],
     chains: &mut [u16],
     ends: &mut [u32],
-) -> Steps
+) -> Result<(), Refusal>
     requires { Suits i entered.old names.old known.old chains.old ends.old }
     ensures { result ≡ input_of (setting i).rules (read_form (setting i) form.now) }
 {
     match read_input(form, i) {
-        Form::Refused(why) => Steps::Refused(why),
-        Form::Whole(_) => try_steps(form, i, entered, names, known, chains, ends),
+        Err(why) => Err(why),
+        Ok(_) => try_steps(form, i, entered, names, known, chains, ends),
     }
 }
 
@@ -88,7 +87,7 @@ fn try_fronts(
     known: &mut [u16],
     chains: &mut [u16],
     ends: &mut [u32],
-) -> Steps
+) -> Result<(), Refusal>
     requires { Large i entered.old names.old known.old chains.old ends.old }
     ensures value { result ≡ input_of (setting i).rules (read_form (setting i) form.now) }
     ensures kept { Kept (slots_for (version_of i)) entered.old entered.new × Kept (slots_for (version_of i)) names.old names.new × Kept (links_for (version_of i)) known.old known.new × Kept (links_for (version_of i)) chains.old chains.new × Kept (slots_for (version_of i)) ends.old ends.new }
@@ -115,25 +114,31 @@ fn try_lent(
     known: &mut [u16],
     chains: &mut [u16],
     ends: &mut [u32],
-) -> Steps
+) -> Result<(), Refusal>
     requires { Large i entered.old names.old known.old chains.old ends.old }
     ensures value { result ≡ input_of (setting i).rules (read_form (setting i) form.now) }
     ensures cleared { Cleared (version_of i) entered.old entered.new names.old names.new known.old known.new chains.old chains.new ends.old ends.new }
 {
     match try_fronts(form, i, entered, names, known, chains, ends) {
-        Steps::Pass => {
+        Ok(()) => {
             clear_areas(i, entered, names, known, chains, ends);
-            Steps::Pass
+            Ok(())
         }
-        Steps::Refused(why) => {
+        Err(why) => {
             clear_areas(i, entered, names, known, chains, ends);
-            Steps::Refused(why)
+            Err(why)
         }
     }
 }
 
 // The conditions on a claim, where the input is accepted; the table and its index are handed back empty.
-fn judge_lent(form: &[u8], claim: &[u8], i: usize, table: &mut [Slot], index: &mut [u16]) -> Verdict
+fn judge_lent(
+    form: &[u8],
+    claim: &[u8],
+    i: usize,
+    table: &mut [Slot],
+    index: &mut [u16],
+) -> Result<Result<Verdict, Refusal>, Refusal>
     requires { (slots_of (version_of i) ≤ length table.old) × (links_of (version_of i) ≤ length index.old) × ((version_of i).header ≤ length form.now) }
     ensures value { result ≡ claim_by i form.now claim.now (slots_of (version_of i)) (form_of (read_form (as_claimed (setting i)) claim.now)) }
     ensures table_after { (table.new ≡ cleared empty_slot (slots_of (version_of i)) table.old) × (index.new ≡ cleared 0 (links_of (version_of i)) index.old) }
@@ -141,17 +146,17 @@ fn judge_lent(form: &[u8], claim: &[u8], i: usize, table: &mut [Slot], index: &m
     let most = slots(i);
     let all = links(i);
     match judge_claim(form, claim, i, &mut table[..most], &mut index[..all]) {
-        Verdict::Yes => {
+        Ok(Verdict::Yes) => {
             clear(table, index, i);
-            Verdict::Yes
+            Ok(Verdict::Yes)
         }
-        Verdict::No { condition, row } => {
+        Ok(Verdict::No { condition, row }) => {
             clear(table, index, i);
-            Verdict::No { condition, row }
+            Ok(Verdict::No { condition, row })
         }
-        Verdict::Refused(why) => {
+        Err(why) => {
             clear(table, index, i);
-            Verdict::Refused(why)
+            Err(why)
         }
     }
 }
@@ -175,7 +180,7 @@ pub fn check_with(
     known: &mut [u16],
     chains: &mut [u16],
     ends: &mut [u32],
-) -> Verdict
+) -> Result<Result<Verdict, Refusal>, Refusal>
     ensures result_value { meaning result ≡ ruled (check_with form.now claim.now (length table.old) (length index.old) (lent_of entered.old names.old known.old chains.old ends.old)) }
     ensures table_after { (table.new ≡ table_after all form.now table.old) × (index.new ≡ index_after all form.now index.old) }
     ensures cleared { Cleared (asked form.now).version entered.old entered.new names.old names.new known.old known.new chains.old chains.new ends.old ends.new }
@@ -195,10 +200,10 @@ pub fn check_with(
         return refuse_small(form, i);
     }
     match try_lent(form, i, entered, names, known, chains, ends) {
-        Steps::Pass => judge_lent(form, claim, i, table, index),
-        Steps::Refused(why) => {
+        Ok(()) => judge_lent(form, claim, i, table, index),
+        Err(why) => {
             clear(table, index, i);
-            Verdict::Refused(why)
+            Err(why)
         }
     }
 }

@@ -1,4 +1,5 @@
 -- Each way through the code finds what its twin finds.
+use Rattle.std.specs.Prelude.{Option, Some, None, Result, Ok, Err, ⊤, ℕ}
 use mathlib.Core.Path.{◌≡◌, refl, sym, ap, ◌∙◌}
 use mathlib.Core.Bool.{Bool, true, false, ◌&&◌, ◌||◌, not}
 use mathlib.Core.List.{List, [], ◌∷◌}
@@ -15,32 +16,26 @@ use Rattle.parts.specs.declared.Parts.{Parts}
 use Rattle.names.specs.Table.{Slot, pushed, no_scope}
 use Rattle.claim_rows.specs.Left.{rows_at}
 use Rattle.claim_rows.specs.Added.{is_added_t}
-use Rattle.claim_rows.specs.declared.Tried.{Tried}
-use Rattle.claim_rows.specs.declared.Tried.TheVariants.{Passes, Breaks}
 use Rattle.claim_rows.proofs.Ways.{is_false, is_true, rows_there, rows_past}
 use Rattle.claim_scopes.specs.Open.{open_behind_t, open_in, here_t, open_one_t}
 use Rattle.claim_scopes.specs.Entries.{slot_t, look_t, enter_t, laid_t}
-use Rattle.claim_scopes.specs.declared.entries.Entry.{Entry}
-use Rattle.claim_scopes.specs.declared.entries.Entry.TheVariants.{Value, Nothing}
 use Rattle.claim_scopes.proofs.Held.{Behind, open_behind, Laid, laid_none, Entered, slot_enters, laid_is}
 use Rattle.index.specs.Indexed.{Holds}
 use Rattle.claim_aliases.specs.Aliases.{is_alias, alias_new_t, is_value, is_known, alias_breaks_t, name_slot, alias_entered_t, alias_at_t, alias_went_t, alias_on_t, Turned, turned_t, over_t, alias_turn_t, HeldBy, alias_names_t, Names, try_aliases_t, laid_by}
 use Rattle.claim_aliases.specs.declared.Cursor.{Cursor}
-use Rattle.claim_aliases.specs.declared.Turn.{Turn}
-use Rattle.claim_aliases.specs.declared.Turn.TheVariants.{On, Breaks as TurnBreaks}
 
 -- ---- is_known
 
-module _ (ss : List Slot) (scope : ℕ) (p : Parts) (n : ℕ) (k : n ≡ alias_new_t p.x) (f : Entry) (e : f ≡ look_t ss scope p.b n) where
+module _ (ss : List Slot) (scope : ℕ) (p : Parts) (n : ℕ) (k : n ≡ alias_new_t p.x) (f : Option ℕ) (e : f ≡ look_t ss scope p.b n) where
   known_is : is_value f ≡ is_known ss scope p
   unfolding is_known
   known_is = rw (e, k)
 
-  pub known_value : (v : ℕ) → f ≡ Value v → true ≡ is_known ss scope p
+  pub known_value : (v : ℕ) → f ≡ Some v → true ≡ is_known ss scope p
   unfolding is_value
   known_value v h = rw h at known_is
 
-  pub known_nothing : f ≡ Nothing → false ≡ is_known ss scope p
+  pub known_nothing : f ≡ None → false ≡ is_known ss scope p
   unfolding is_value
   known_nothing h = rw h at known_is
 
@@ -95,11 +90,11 @@ module _ (p : Parts) (i : ℕ) (table : List Slot) (scopes : List (List ℕ)) (c
   on_is scope r d table' scopes' w n o = rw (← w, ← n, ← o)
 
   module _ (scope : ℕ) (w : scope ≡ here_t (open_in scopes c.depth)) (t : Bool) (b : t ≡ alias_breaks_t c.added (take c.used table) scope p) where
-    pub over_breaks : t ≡ true → (TurnBreaks & table & scopes) ≡ over_t p i table scopes c
+    pub over_breaks : t ≡ true → (None & table & scopes) ≡ over_t p i table scopes c
     unfolding over_t pick
     over_breaks z = rw (← w, ← b, z)
 
-    pub over_on : (n : Cursor) (table' : List Slot) (scopes' : List (List ℕ)) → t ≡ false → (n & table' & scopes') ≡ alias_on_t p i table scopes c → (On n & table' & scopes') ≡ over_t p i table scopes c
+    pub over_on : (n : Cursor) (table' : List Slot) (scopes' : List (List ℕ)) → t ≡ false → (n & table' & scopes') ≡ alias_on_t p i table scopes c → (Some n & table' & scopes') ≡ over_t p i table scopes c
     unfolding over_t pick turned_t
     over_on n table' scopes' z o = rw (← w, ← b, z, ← o)
 
@@ -107,7 +102,7 @@ pub at_is : (p : Parts) (ps : List Parts) (c : Cursor) (a : Bool) → a ≡ is_a
 unfolding alias_at_t
 at_is p ps c a e = rw e
 
-pub turn_is : (claim : List ℕ) (i : ℕ) (table : List Slot) (scopes : List (List ℕ)) (c m : Cursor) (p : Parts) (v : Turn) (table' : List Slot) (scopes' : List (List ℕ)) → i < length claim / 16 → p ≡ parts_at claim i → m ≡ alias_at_t p (rows_at claim (i + 1)) c
+pub turn_is : (claim : List ℕ) (i : ℕ) (table : List Slot) (scopes : List (List ℕ)) (c m : Cursor) (p : Parts) (v : Option Cursor) (table' : List Slot) (scopes' : List (List ℕ)) → i < length claim / 16 → p ≡ parts_at claim i → m ≡ alias_at_t p (rows_at claim (i + 1)) c
     → (v & table' & scopes') ≡ over_t p i table scopes m → (v & table' & scopes') ≡ alias_turn_t (rows_at claim i) i table scopes c
 unfolding alias_turn_t
 turn_is claim i table scopes c m p v table' scopes' h e k q = rw (rows_there claim i h, ← e, ← k) q
@@ -154,13 +149,13 @@ module _ (claim : List ℕ) (before : List Slot) where
   goes_start = record { goes = refl; laid = laid_none before; deep = omega arith; long = length-replicate 64 no_scope }
 
   module _ (table : List Slot) (scopes : List (List ℕ)) (c : Cursor) (i : ℕ) (T : Names) (g : Goes claim before table scopes c i T) where
-    answered : (a : Tried) → (a & take c.used table) ≡ T → (a & table) ≡ laid_by T before
+    answered : (a : Result ⊤ ℕ) → (a & take c.used table) ≡ T → (a & table) ≡ laid_by T before
     unfolding laid_by
     answered a e = rw (← e, ← laid_is before table c.used g.laid)
 
-    pub goes_end : length claim / 16 ≤ i → (Passes & table) ≡ laid_by T before
+    pub goes_end : length claim / 16 ≤ i → ((Ok tt) & table) ≡ laid_by T before
     unfolding try_aliases_t
-    goes_end h = answered Passes (rw (rows_past claim i h) at g.goes)
+    goes_end h = answered (Ok tt) (rw (rows_past claim i h) at g.goes)
 
     module _ (h : i < length claim / 16) where
       -- the row, whether its field is added, and its scope
@@ -173,13 +168,13 @@ module _ (claim : List ℕ) (before : List Slot) where
       abbrev scope : ℕ
       scope = here_t (open_in scopes c.depth)
 
-      twin : pick (alias_breaks_t a (take c.used table) scope p) (Breaks i & take c.used table) (try_aliases_t (length before) (i + 1) a (open_one_t 64 (open_in scopes c.depth) p i) (alias_names_t (length before) a (take c.used table) scope p) (rows_at claim (i + 1))) ≡ T
+      twin : pick (alias_breaks_t a (take c.used table) scope p) (Err i & take c.used table) (try_aliases_t (length before) (i + 1) a (open_one_t 64 (open_in scopes c.depth) p i) (alias_names_t (length before) a (take c.used table) scope p) (rows_at claim (i + 1))) ≡ T
       unfolding try_aliases_t
       twin = rw (rows_there claim i h) at g.goes
 
-      abbrev After : Turn → List Slot → List (List ℕ) → Type 0
-      After (On n) table' scopes' = Goes claim before table' scopes' n (i + 1) T
-      After TurnBreaks table' scopes' = (Breaks i & table') ≡ laid_by T before
+      abbrev After : Option Cursor → List Slot → List (List ℕ) → Type 0
+      After (Some n) table' scopes' = Goes claim before table' scopes' n (i + 1) T
+      After None table' scopes' = (Err i & table') ≡ laid_by T before
 
       after_on : (t : Bool) → alias_breaks_t a (take c.used table) scope p ≡ t → t ≡ false → (r d : ℕ) (table' : List Slot) (scopes' : List (List ℕ)) → (r & table') ≡ alias_entered_t a table c.used scope p → (d & scopes') ≡ open_behind_t scopes c.depth p i
           → Goes claim before table' scopes' (record { depth = d; used = r; added = a }) (i + 1) T
@@ -194,34 +189,34 @@ module _ (claim : List ℕ) (before : List Slot) where
           record { goes = rw (are, N.are) (rw (b, z) at twin); laid = N.laid; deep = omega arith; long = O.long ∙ long }
 
       after : (t : Bool) → alias_breaks_t a (take c.used table) scope p ≡ t → (E : Out ℕ (List Slot)) → E ≡ alias_entered_t a table c.used scope p → (B : Out ℕ (List (List ℕ))) → B ≡ open_behind_t scopes c.depth p i
-          → (v : Turn) (table' : List Slot) (scopes' : List (List ℕ)) → (v & table' & scopes') ≡ pick t (TurnBreaks & table & scopes) (turned_t (alias_went_t a E B)) → After v table' scopes'
+          → (v : Option Cursor) (table' : List Slot) (scopes' : List (List ℕ)) → (v & table' & scopes') ≡ pick t (None & table & scopes) (turned_t (alias_went_t a E B)) → After v table' scopes'
       unfolding pick turned_t alias_went_t
       after true b E m B o v table' scopes' q =
-          let v-is : v ≡ TurnBreaks = ap out_of q in
+          let v-is : v ≡ None = ap out_of q in
           let t-is : table' ≡ table = ap (λ (x : Turned). out_of (left_of x)) q in
-          rw v-is (rw t-is (answered (Breaks i) (rw b at twin)))
+          rw v-is (rw t-is (answered (Err i) (rw b at twin)))
       after false b (r & tb) m (d & sc) o v table' scopes' q =
-          let v-is : v ≡ On (record { depth = d; used = r; added = a }) = ap out_of q in
+          let v-is : v ≡ Some (record { depth = d; used = r; added = a }) = ap out_of q in
           let t-is : table' ≡ tb = ap (λ (x : Turned). out_of (left_of x)) q in
           let s-is : scopes' ≡ sc = ap (λ (x : Turned). left_of (left_of x)) q in
           rw v-is (rw (t-is, s-is) (after_on false b refl r d tb sc m o))
 
-      module _ (v : Turn) (table' : List Slot) (scopes' : List (List ℕ)) (q : (v & table' & scopes') ≡ alias_turn_t (rows_at claim i) i table scopes c) where
+      module _ (v : Option Cursor) (table' : List Slot) (scopes' : List (List ℕ)) (q : (v & table' & scopes') ≡ alias_turn_t (rows_at claim i) i table scopes c) where
         turned : After v table' scopes'
         unfolding alias_turn_t over_t alias_on_t turned_t alias_at_t
         turned = after (alias_breaks_t a (take c.used table) scope p) refl _ refl _ refl v table' scopes' (rw (rows_there claim i h) at q)
 
-        pub goes_breaks : v ≡ TurnBreaks → (Breaks i & table') ≡ laid_by T before
+        pub goes_breaks : v ≡ None → (Err i & table') ≡ laid_by T before
         goes_breaks z = rw z at turned
 
-        pub goes_on_lem : (n : Cursor) → v ≡ On n → Goes claim before table' scopes' n (i + 1) T
+        pub goes_on_lem : (n : Cursor) → v ≡ Some n → Goes claim before table' scopes' n (i + 1) T
         goes_on_lem n z = rw z at turned
 
 pub held_at : (p : Parts) (ps : List Parts) (c m : Cursor) (table : List Slot) (index : List ℕ) → m ≡ alias_at_t p ps c → Holds table index c.used → Holds table index m.used
 unfolding alias_at_t
 held_at p ps c m table index e h = rw e h
 
-pub held_on : (v : Turn) (n : Cursor) (table : List Slot) (index : List ℕ) → v ≡ On n → HeldBy v table index → Holds table index n.used
+pub held_on : (v : Option Cursor) (n : Cursor) (table : List Slot) (index : List ℕ) → v ≡ Some n → HeldBy v table index → Holds table index n.used
 held_on v n table index e h = rw e at h
 
 pub ruleset turns = (goes_start, goes_end, goes_breaks, goes_on_lem, held_on, rules)

@@ -1,20 +1,14 @@
 -- Condition 3 as the code tries it: the claim's rows one after another.
-use Rattle.std.specs.Prelude.{Bool, true, false, ◌&&◌, ◌||◌, not, List, [], ◌∷◌, ℕ, ◌+◌, ◌-◌, eqb, ltb, take}
+use Rattle.std.specs.Prelude.{Bool, true, false, ◌&&◌, ◌||◌, not, List, [], ◌∷◌, ℕ, ◌+◌, ◌-◌, eqb, ltb, take, Option, Some, None, Result, Ok, Err, ⊤}
 use Rattle.kit.specs.Pick.{pick}
 use Rattle.kit.specs.Out.{Out, ◌&◌}
 use Rattle.parts.specs.declared.Parts.{Parts}
 use Rattle.names.specs.Table.{Slot, pushed}
 use Rattle.claim_rows.specs.Added.{is_added_t}
-use Rattle.claim_rows.specs.declared.Tried.{Tried}
-use Rattle.claim_rows.specs.declared.Tried.TheVariants.{Passes, Breaks}
 use Rattle.claim_scopes.specs.Open.{open_behind_t, open_in, here_t, open_one_t}
 use Rattle.claim_scopes.specs.Entries.{slot_t, look_t, enter_t, laid_t}
-use Rattle.claim_scopes.specs.declared.entries.Entry.{Entry}
-use Rattle.claim_scopes.specs.declared.entries.Entry.TheVariants.{Value, Nothing}
 use Rattle.index.specs.Indexed.{Holds}
 use Rattle.claim_aliases.specs.declared.Cursor.{Cursor}
-use Rattle.claim_aliases.specs.declared.Turn.{Turn}
-use Rattle.claim_aliases.specs.declared.Turn.TheVariants.{On, Breaks as TurnBreaks}
 
 -- ---- one row
 
@@ -26,9 +20,9 @@ is_alias code = eqb code 9 || (eqb code 10 || eqb code 11)
 abbrev pub alias_new_t : ℕ → ℕ
 alias_new_t name = name - 2147483647
 
-unfoldable pub is_value : Entry → Bool
-is_value (Value v) = true
-is_value Nothing = false
+unfoldable pub is_value : Option ℕ → Bool
+is_value (Some v) = true
+is_value None = false
 
 -- was the name of a DECL entered for its scope and space?
 unfoldable pub is_known : List Slot → (scope : ℕ) → Parts → Bool
@@ -63,25 +57,25 @@ unfoldable pub alias_on_t : Parts → (i : ℕ) (table : List Slot) (scopes : Li
 alias_on_t p i table scopes c = alias_went_t c.added (alias_entered_t c.added table c.used (here_t (open_in scopes c.depth)) p) (open_behind_t scopes c.depth p i)
 
 abbrev pub Turned : Type 0
-Turned = Out Turn (Out (List Slot) (List (List ℕ)))
+Turned = Out (Option Cursor) (Out (List Slot) (List (List ℕ)))
 
 unfoldable pub turned_t : Went → Turned
-turned_t (c & rest) = On c & rest
+turned_t (c & rest) = Some c & rest
 
 -- what a row leads to, where it is known whether its field is added
 unfoldable pub over_t : Parts → (i : ℕ) (table : List Slot) (scopes : List (List ℕ)) → Cursor → Turned
 over_t p i table scopes c =
-    pick (alias_breaks_t c.added (take c.used table) (here_t (open_in scopes c.depth)) p) (TurnBreaks & table & scopes) (turned_t (alias_on_t p i table scopes c))
+    pick (alias_breaks_t c.added (take c.used table) (here_t (open_in scopes c.depth)) p) (None & table & scopes) (turned_t (alias_on_t p i table scopes c))
 
 -- what the first of these rows leads to, which is row i
 unfoldable pub alias_turn_t : List Parts → (i : ℕ) (table : List Slot) (scopes : List (List ℕ)) → Cursor → Turned
-alias_turn_t [] i table scopes c = TurnBreaks & table & scopes
+alias_turn_t [] i table scopes c = None & table & scopes
 alias_turn_t (p ∷ ps) i table scopes c = over_t p i table scopes (alias_at_t p ps c)
 
 -- the index serves the table then
-abbrev pub HeldBy : Turn → (table : List Slot) (index : List ℕ) → Type 0
-HeldBy (On c) table index = Holds table index c.used
-HeldBy TurnBreaks table index = Unit {0}
+abbrev pub HeldBy : Option Cursor → (table : List Slot) (index : List ℕ) → Type 0
+HeldBy (Some c) table index = Holds table index c.used
+HeldBy None table index = Unit {0}
 
 -- its slots that are used
 unfoldable pub alias_names_t : (room : ℕ) (added : Bool) → List Slot → (scope : ℕ) → Parts → List Slot
@@ -91,14 +85,14 @@ alias_names_t room added ss scope p = pick added (pick (eqb p.code 2) (enter_t r
 
 -- what is answered, and the slots that are used then
 abbrev pub Names : Type 0
-Names = Out Tried (List Slot)
+Names = Out (Result ⊤ ℕ) (List Slot)
 
 -- `added`: whether the field of the row before is; `st`: the scopes that are open; `ss`: the slots that are used, of `room`
 unfoldable pub try_aliases_t : (room i : ℕ) (added : Bool) (st : List (List ℕ)) (ss : List Slot) → List Parts → Names
-try_aliases_t room i added st ss [] = Passes & ss
+try_aliases_t room i added st ss [] = Ok tt & ss
 try_aliases_t room i added st ss (p ∷ ps) =
     let a = is_added_t added p.code ps in
-    pick (alias_breaks_t a ss (here_t st) p) (Breaks i & ss) (try_aliases_t room (i + 1) a (open_one_t 64 st p i) (alias_names_t room a ss (here_t st) p) ps)
+    pick (alias_breaks_t a ss (here_t st) p) (Err i & ss) (try_aliases_t room (i + 1) a (open_one_t 64 st p i) (alias_names_t room a ss (here_t st) p) ps)
 
 -- what is answered, and the whole table
 unfoldable pub laid_by : Names → List Slot → Names

@@ -8,9 +8,8 @@ ghost use Rattle.index.specs.Indexed.{Holds};
 ghost use Rattle.claim_rows.specs.Left.{rows_at};
 ghost use Rattle.claim_aliases.specs.Aliases.{is_alias, alias_new_t, is_known, alias_breaks_t, alias_entered_t, alias_on_t, over_t, alias_at_t, alias_turn_t, HeldBy, laid_by, try_aliases_t};
 
-use claim_rows::Tried;
 use claim_rows::added::is_added;
-use claim_scopes::entries::{Entry, enter, look_up};
+use claim_scopes::entries::{enter, look_up};
 use claim_scopes::open::{behind_row, here};
 use fixed::FIRST_FRESH;
 use names::{Scope, Slot};
@@ -27,13 +26,6 @@ struct Cursor {
     depth: usize,
     used: usize,
     added: bool,
-}
-
-// What a row leads to.
-#[derive(Clone, Copy)]
-enum Turn {
-    On(Cursor),
-    Breaks,
 }
 
 // Whether a field of this code is an alias.
@@ -60,8 +52,8 @@ fn is_known(table: &[Slot], index: &[u16], used: usize, scope: usize, p: Parts) 
     ensures { result ≡ is_known (take used table.now) scope p }
 {
     match look_up(table, index, used, scope, p.b, counted(p.x)) {
-        Entry::Value(_) => true,
-        Entry::Nothing => false,
+        Some(_) => true,
+        None => false,
     }
 }
 
@@ -133,14 +125,14 @@ fn go_past(
     index: &mut [u16],
     scopes: &mut [Scope],
     c: Cursor,
-) -> Turn
+) -> Option<Cursor>
     requires { Holds table.old index.old c.used }
     ensures { ((result & table.new & scopes.new) ≡ over_t p i table.old scopes.old c) × HeldBy result table.new index.new }
 {
     if breaks(c.added, table, index, c.used, here(scopes, c.depth), p) {
-        return Turn::Breaks;
+        return None;
     }
-    Turn::On(go_on(p, i, table, index, scopes, c))
+    Some(go_on(p, i, table, index, scopes, c))
 }
 
 // The cursor at row i: whether its field is added.
@@ -162,7 +154,7 @@ fn go_over(
     index: &mut [u16],
     scopes: &mut [Scope],
     c: Cursor,
-) -> Turn
+) -> Option<Cursor>
     requires { Holds table.old index.old c.used × (i < length claim.now / 16) }
     ensures { ((result & table.new & scopes.new) ≡ alias_turn_t (rows_at claim.now i) i table.old scopes.old c) × HeldBy result table.new index.new }
 {
@@ -171,7 +163,7 @@ fn go_over(
 }
 
 // Tries condition 3 on the rows of a claim. The names of added fields are entered in the table as they come.
-pub fn try_aliases(claim: &[u8], table: &mut [Slot], index: &mut [u16]) -> Tried
+pub fn try_aliases(claim: &[u8], table: &mut [Slot], index: &mut [u16]) -> Result<(), usize>
     requires { Holds table.old index.old 0 }
     ensures { (result & table.new) ≡ laid_by (try_aliases_t (length table.old) 0 false [] [] (rows_at claim.now 0)) table.old }
 {
@@ -185,12 +177,12 @@ pub fn try_aliases(claim: &[u8], table: &mut [Slot], index: &mut [u16]) -> Tried
     let mut i = 0;
     while i < n {
         match go_over(claim, i, table, index, &mut scopes, c) {
-            Turn::Breaks => return Tried::Breaks(i),
-            Turn::On(next) => {
+            None => return Err(i),
+            Some(next) => {
                 c = next;
                 i += 1;
             }
         }
     }
-    Tried::Passes
+    Ok(())
 }

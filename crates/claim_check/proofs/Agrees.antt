@@ -1,4 +1,5 @@
 -- What the code answers and leaves is what the rules say: of a claim under every setting, of `check` under the one in force.
+use Rattle.std.specs.Prelude.{Result as CodeResult, Ok, Err, ⊤, ℕ}
 use mathlib.Core.Path.{◌≡◌, refl, sym, ap, ◌∙◌}
 use mathlib.Core.Bool.{Bool, true, false, ◌||◌, not}
 use mathlib.Core.Option.{Option, none, some}
@@ -34,13 +35,10 @@ use Rattle.limits.proofs.Laws.{few_rows, stand_for}
 use Rattle.form.specs.Header.{header_in, header_for, header_to}
 use Rattle.whole_form.specs.Whole.{form_of}
 use Rattle.resolver.specs.Steps.{steps_t, steps_of}
-use Rattle.resolver.specs.declared.steps.Steps.{Steps}
 use Rattle.resolver.proofs.Bytes.{all_bytes}
 use Rattle.resolver.proofs.Passing.{steps_agree}
 use Rattle.names.specs.Table.{Slot, empty_slot}
 use Rattle.claim_rows.specs.Left.{rows_at}
-use Rattle.claim_rows.specs.declared.Tried.{Tried}
-use Rattle.claim_rows.specs.declared.Tried.TheVariants.{Passes, Breaks}
 use Rattle.claim_aliases.specs.Aliases.{Names, try_aliases_t}
 use Rattle.claim_numbers.specs.Enter.{entries_t}
 use Rattle.claim_laws.specs.SameRows.{tried}
@@ -49,8 +47,8 @@ use Rattle.claim_laws.specs.OnBytes.{rows_count}
 use Rattle.claim_laws.specs.Conditions.{second_is, second_row, third_is, third_row, fourth_is, fourth_row}
 use Rattle.claim_check.specs.Meaning.{Said, meaning, ruled}
 use Rattle.claim_check.specs.Run.{Kept, version_of, body_of, unless_t, tried_in, fourth_t, third_t, conditions_t, claim_by, steps_by, input_by, judge_t, input_of, small_by, small_t, decide_t}
+use Rattle.claim_check.specs.declared.Verdict.TheVariants.{Yes, No}
 use Rattle.claim_check.specs.declared.Verdict.{Verdict}
-use Rattle.claim_check.specs.declared.Verdict.TheVariants.{Yes, No, Refused}
 
 -- every setting is usual, and no form is deeper than the code takes
 usual_at : (i : ℕ) → Usual (setting i)
@@ -67,7 +65,7 @@ shallow_at (suc (suc (suc i))) = omega arith
 
 -- ---- the conditions
 
-said : (k : ℕ) (o : Option ℕ) (t : Tried) (v : Verdict) (w : Ruled) → t ≡ tried o → ((row : ℕ) → o ≡ some row → row < 4294967296) → (o ≡ none → meaning v ≡ ruled w) → meaning (unless_t k t v) ≡ ruled (unless k o w)
+said : (k : ℕ) (o : Option ℕ) (t : CodeResult ⊤ ℕ) (v : CodeResult Verdict Refusal) (w : Ruled) → t ≡ tried o → ((row : ℕ) → o ≡ some row → row < 4294967296) → (o ≡ none → meaning v ≡ ruled w) → meaning (unless_t k t v) ≡ ruled (unless k o w)
 unfolding unless_t unless
 said k none t v w e l f = rw e (f refl)
 said k (some row) t v w e l f = let h = l row refl in let q : row % 4294967296 ≡ row = omega arith in rw (e, q)
@@ -85,7 +83,7 @@ module _ (i : ℕ) (form claim : List ℕ) (bytes : Bytes form) (s c : Scope) (r
       let f = few_rows i in
       said 2 (condition2 s c) _ _ _ (second_is (setting i) u d f form claim bytes s c r reads resolves claims) (second_row (setting i) u d f form claim bytes s c r reads resolves claims)
       (λ p. said 3 (condition3 c) _ _ _ (in_names _ ∙ third_is (setting i) u d f form claim bytes s c r reads resolves claims) (third_row (setting i) u d f form claim bytes s c r reads resolves claims)
-      (λ q. said 4 (condition4 s c) _ Yes Check.yes (fourth_is (setting i) u d f form claim bytes s c r reads resolves claims p q _) (fourth_row (setting i) u d f form claim bytes s c r reads resolves claims p q) (λ z. refl)))
+      (λ q. said 4 (condition4 s c) _ (Ok Yes) Check.yes (fourth_is (setting i) u d f form claim bytes s c r reads resolves claims p q _) (fourth_row (setting i) u d f form claim bytes s c r reads resolves claims p q) (λ z. refl)))
 
 module _ (i : ℕ) (form claim : List ℕ) (bytes : Bytes form) where
   abbrev room : ℕ
@@ -111,7 +109,7 @@ module _ (i : ℕ) (form claim : List ℕ) (bytes : Bytes form) where
   input_said (accepted s) e = steps_said s (resolve (setting i).rules s) e refl
 
   -- what is judged of an input and a claim
-  abbrev pub judged_by : Verdict
+  abbrev pub judged_by : CodeResult Verdict Refusal
   judged_by = steps_by i form claim room (input_of (setting i).rules (read_form (setting i) form))
 
   judged : meaning judged_by ≡ ruled (of_input (setting i).rules (read_form (setting i) form) (read_form (as_claimed (setting i)) claim))
@@ -192,7 +190,7 @@ module _ (form claim : List ℕ) (bytes : Bytes form) where
   input_tried : (x : AnswerOf Scope) (room : ℕ) → read_form one form ≡ x → input_by 0 form claim room (form_of x) ≡ steps_by 0 form claim room (input_of today x)
   unfolding form_of input_by input_of steps_by
   input_tried (refused n p q) room e = refl
-  input_tried (accepted s) room e = ap (λ (x : Steps). steps_by 0 form claim room x) (steps_are s e)
+  input_tried (accepted s) room e = ap (λ (x : CodeResult ⊤ Refusal). steps_by 0 form claim room x) (steps_are s e)
 
   judge_tried : (room : ℕ) → judge_t 0 form claim room ≡ steps_by 0 form claim room (input_of today (read_form one form))
   unfolding judge_t
@@ -233,15 +231,15 @@ module _ (form : List ℕ) where
 
 -- ---- check
 
-module _ (form : List ℕ) (all : (i : ℕ) → Fits w8 (get_or form i 0)) (claim : List ℕ) (slots links : ℕ) (d : Verdict) (e : d ≡ decide_t 0 form claim slots links) where
+module _ (form : List ℕ) (all : (i : ℕ) → Fits w8 (get_or form i 0)) (claim : List ℕ) (slots links : ℕ) (d : CodeResult Verdict Refusal) (e : d ≡ decide_t 0 form claim slots links) where
   pub checked : meaning d ≡ ruled (check_answer base form claim slots links)
   checked = rw e (decided form claim (all_bytes form all) slots links)
 
-  pub checked_yes : d ≡ Yes → meaning Yes ≡ ruled (check_answer base form claim slots links)
+  pub checked_yes : d ≡ Ok Yes → meaning (Ok Yes) ≡ ruled (check_answer base form claim slots links)
   checked_yes w = rw w at checked
 
-  pub checked_no : (condition row : ℕ) → d ≡ No condition row → meaning (No condition row) ≡ ruled (check_answer base form claim slots links)
+  pub checked_no : (condition row : ℕ) → d ≡ Ok (No condition row) → meaning (Ok (No condition row)) ≡ ruled (check_answer base form claim slots links)
   checked_no condition row w = rw w at checked
 
-  pub checked_refused : (why : Refusal) → d ≡ Refused why → meaning (Refused why) ≡ ruled (check_answer base form claim slots links)
+  pub checked_refused : (why : Refusal) → d ≡ Err why → meaning (Err why) ≡ ruled (check_answer base form claim slots links)
   checked_refused why w = rw w at checked

@@ -1,4 +1,5 @@
 -- Each way through the whole check.
+use Rattle.std.specs.Prelude.{Result, Ok, Err, ⊤, ℕ}
 use mathlib.Core.Path.{◌≡◌, refl, sym, ap, ap₂, ◌∙◌}
 use mathlib.Core.List.{List, [], ◌∷◌, ◌++◌}
 use Prim.Native.Nat.{ℕ, zero, suc, ◌+◌, ◌-◌, ◌*◌, ◌<◌, ◌≤◌}
@@ -16,20 +17,16 @@ use Rattle.refusal.specs.declared.Refusal.{Refusal}
 use Rattle.limits.specs.Held.{limits_of, setting}
 use Rattle.limits.specs.declared.Limits.{Limits}
 use Rattle.form.specs.Header.{header_to}
-use Rattle.form.specs.declared.header.Header.{Header}
-use Rattle.form.specs.declared.header.Header.TheVariants.{Rows, Wrong, Count}
 use Rattle.whole_form.specs.Whole.{form_of}
-use Rattle.whole_form.specs.declared.read.Form.{Form}
-use Rattle.whole_form.specs.declared.read.Form.TheVariants as read
 use Rattle.whole_form.proofs.Laws.{whole_read}
 use Rattle.resolver.specs.Steps.{steps_t}
-use Rattle.resolver.specs.declared.steps.Steps.{Steps}
-use Rattle.resolver.specs.declared.steps.Steps.TheVariants as steps
 use Rattle.clearing.specs.Cleared.{cleared}
 use Rattle.checking.specs.CheckAnswer.{slots_of, links_of}
 use Rattle.claim_check.specs.Run.{Fit, Kept, version_of, body_of, refused_t, conditions_t, claim_by, steps_by, input_by, judge_t, small_by, small_t, decide_t}
+use Rattle.claim_check.specs.declared.Verdict.TheVariants.{Yes, No}
+use Rattle.form.specs.declared.header.BadHeader.TheVariants.{Wrong, Count}
 use Rattle.claim_check.specs.declared.Verdict.{Verdict}
-use Rattle.claim_check.specs.declared.Verdict.TheVariants.{Yes, No, Refused}
+use Rattle.form.specs.declared.header.BadHeader.{BadHeader}
 
 -- ---- sizes
 
@@ -60,13 +57,13 @@ links_are i n e = rw e
 behind : (l : List ℕ) (a : ℕ) → a ≤ length l → take (length l - a) (drop a l) ≡ drop a l
 behind l a h = take_all (length l - a) (drop a l) (simp length-drop (omega arith))
 
-has_header_lem : (s : Setting) (l : List ℕ) (rows : ℕ) → read.Whole rows ≡ form_of (read_form s l) → s.version.header ≤ length l
+has_header_lem : (s : Setting) (l : List ℕ) (rows : ℕ) → Ok rows ≡ form_of (read_form s l) → s.version.header ≤ length l
 has_header_lem s l rows e =
     let w = whole_read s l rows e in
     let h = eqb-true (length l) _ ((read_exactly s l w.0).0 w.1).long in
     omega arith
 
-module _ (i : ℕ) (l : List ℕ) (r : Form) (rows : ℕ) (w : r ≡ read.Whole rows) where
+module _ (i : ℕ) (l : List ℕ) (r : Result ℕ Refusal) (rows : ℕ) (w : r ≡ Ok rows) where
   pub input_long : r ≡ form_of (read_form (setting i) l) → (version_of i).header ≤ length l
   input_long e = has_header_lem (setting i) l rows (sym w ∙ e)
 
@@ -75,38 +72,38 @@ module _ (i : ℕ) (l : List ℕ) (r : Form) (rows : ℕ) (w : r ≡ read.Whole 
 
 -- ---- the rows, the claim, the steps, the input
 
-pub rows_tried : (i : ℕ) (form claim : List ℕ) (room a : ℕ) (v : Verdict) → a ≡ (version_of i).header → (version_of i).header ≤ length form → (version_of i).header ≤ length claim
+pub rows_tried : (i : ℕ) (form claim : List ℕ) (room a : ℕ) (v : Result Verdict Refusal) → a ≡ (version_of i).header → (version_of i).header ≤ length form → (version_of i).header ≤ length claim
     → v ≡ conditions_t (take (length form - a) (drop a form)) (take (length claim - a) (drop a claim)) room → v ≡ conditions_t (body_of i form) (body_of i claim) room
 rows_tried i form claim room a v h f g q = rw (h, behind form (version_of i).header f, behind claim (version_of i).header g) at q
 
 module _ (i : ℕ) (form claim : List ℕ) (room : ℕ) where
-  module _ (r : Form) (e : r ≡ form_of (read_form (as_claimed (setting i)) claim)) where
-    pub claim_refused : (why : Refusal) → r ≡ read.Refused why → No 1 why.place ≡ claim_by i form claim room (form_of (read_form (as_claimed (setting i)) claim))
+  module _ (r : Result ℕ Refusal) (e : r ≡ form_of (read_form (as_claimed (setting i)) claim)) where
+    pub claim_refused : (why : Refusal) → r ≡ Err why → Ok (No 1 why.place) ≡ claim_by i form claim room (form_of (read_form (as_claimed (setting i)) claim))
     unfolding claim_by
     claim_refused why w = rw (← e, w)
 
-    pub claim_whole : (rows : ℕ) (v : Verdict) → r ≡ read.Whole rows → v ≡ conditions_t (body_of i form) (body_of i claim) room → v ≡ claim_by i form claim room (form_of (read_form (as_claimed (setting i)) claim))
+    pub claim_whole : (rows : ℕ) (v : Result Verdict Refusal) → r ≡ Ok rows → v ≡ conditions_t (body_of i form) (body_of i claim) room → v ≡ claim_by i form claim room (form_of (read_form (as_claimed (setting i)) claim))
     unfolding claim_by
     claim_whole rows v w q = rw (← e, w) q
 
-  module _ (r : Steps) (a : ℕ) (h : a ≡ (version_of i).header) (low : (version_of i).header ≤ length form) (e : r ≡ steps_t (take (length form - a) (drop a form))) where
+  module _ (r : Result ⊤ Refusal) (a : ℕ) (h : a ≡ (version_of i).header) (low : (version_of i).header ≤ length form) (e : r ≡ steps_t (take (length form - a) (drop a form))) where
     steps_are : r ≡ steps_t (drop (version_of i).header form)
     steps_are = rw (h, behind form (version_of i).header low) at e
 
-    pub steps_refused : (why : Refusal) → r ≡ steps.Refused why → Refused why ≡ steps_by i form claim room (steps_t (drop (version_of i).header form))
+    pub steps_refused : (why : Refusal) → r ≡ Err why → Err why ≡ steps_by i form claim room (steps_t (drop (version_of i).header form))
     unfolding steps_by
     steps_refused why w = rw (← steps_are, w)
 
-    pub steps_pass : (v : Verdict) → r ≡ steps.Pass → v ≡ claim_by i form claim room (form_of (read_form (as_claimed (setting i)) claim)) → v ≡ steps_by i form claim room (steps_t (drop (version_of i).header form))
+    pub steps_pass : (v : Result Verdict Refusal) → r ≡ Ok tt → v ≡ claim_by i form claim room (form_of (read_form (as_claimed (setting i)) claim)) → v ≡ steps_by i form claim room (steps_t (drop (version_of i).header form))
     unfolding steps_by
     steps_pass v w q = rw (← steps_are, w) q
 
-  module _ (r : Form) (e : r ≡ form_of (read_form (setting i) form)) where
-    pub input_refused : (why : Refusal) → r ≡ read.Refused why → Refused why ≡ judge_t i form claim room
+  module _ (r : Result ℕ Refusal) (e : r ≡ form_of (read_form (setting i) form)) where
+    pub input_refused : (why : Refusal) → r ≡ Err why → Err why ≡ judge_t i form claim room
     unfolding judge_t input_by
     input_refused why w = rw (← e, w)
 
-    pub input_whole : (rows : ℕ) (v : Verdict) → r ≡ read.Whole rows → v ≡ steps_by i form claim room (steps_t (drop (version_of i).header form)) → v ≡ judge_t i form claim room
+    pub input_whole : (rows : ℕ) (v : Result Verdict Refusal) → r ≡ Ok rows → v ≡ steps_by i form claim room (steps_t (drop (version_of i).header form)) → v ≡ judge_t i form claim room
     unfolding judge_t input_by
     input_whole rows v w q = rw (← e, w) q
 
@@ -114,16 +111,16 @@ pub ruleset judging = (claim_refused, claim_whole, steps_refused, steps_pass, in
 
 -- ---- areas that are too small
 
-module _ (i : ℕ) (form : List ℕ) (l : Limits) (k : l ≡ limits_of (setting i)) (h : Header) (e : h ≡ header_to l form) where
-  pub small_wrong : (v : Verdict) → h ≡ Wrong → v ≡ refused_t 1 0 → v ≡ small_t i form
+module _ (i : ℕ) (form : List ℕ) (l : Limits) (k : l ≡ limits_of (setting i)) (h : Result ℕ BadHeader) (e : h ≡ header_to l form) where
+  pub small_wrong : (v : Result Verdict Refusal) → h ≡ Err Wrong → v ≡ refused_t 1 0 → v ≡ small_t i form
   unfolding small_t small_by
   small_wrong v w q = rw (← k, ← e, w) q
 
-  pub small_count : (v : Verdict) → h ≡ Count → v ≡ refused_t 2 0 → v ≡ small_t i form
+  pub small_count : (v : Result Verdict Refusal) → h ≡ Err Count → v ≡ refused_t 2 0 → v ≡ small_t i form
   unfolding small_t small_by
   small_count v w q = rw (← k, ← e, w) q
 
-  pub small_rows : (rows : ℕ) (v : Verdict) → h ≡ Rows rows → v ≡ refused_t 3 0 → v ≡ small_t i form
+  pub small_rows : (rows : ℕ) (v : Result Verdict Refusal) → h ≡ Ok rows → v ≡ refused_t 3 0 → v ≡ small_t i form
   unfolding small_t small_by
   small_rows rows v w q = rw (← k, ← e, w) q
 
@@ -132,21 +129,21 @@ pub ruleset smalls = (small_wrong, small_count, small_rows, rules)
 -- ---- decide
 
 module _ (i : ℕ) (form claim : List ℕ) (slots links most : ℕ) (m : most ≡ slots_of (version_of i)) where
-  pub decide_slots : (v : Verdict) → slots < most → v ≡ small_t i form → v ≡ decide_t i form claim slots links
+  pub decide_slots : (v : Result Verdict Refusal) → slots < most → v ≡ small_t i form → v ≡ decide_t i form claim slots links
   unfolding decide_t pick
   decide_slots v h q = rw (← m, lt-ltb _ _ h) q
 
   module _ (h : most ≤ slots) (all : ℕ) (n : all ≡ links_of (version_of i)) where
-    pub decide_links : (v : Verdict) → links < all → v ≡ small_t i form → v ≡ decide_t i form claim slots links
+    pub decide_links : (v : Result Verdict Refusal) → links < all → v ≡ small_t i form → v ≡ decide_t i form claim slots links
     unfolding decide_t pick
     decide_links v g q = rw (← m, le-ltb _ _ h, ← n, lt-ltb _ _ g) q
 
-    judged : (v : Verdict) → all ≤ links → v ≡ judge_t i form claim most → v ≡ decide_t i form claim slots links
+    judged : (v : Result Verdict Refusal) → all ≤ links → v ≡ judge_t i form claim most → v ≡ decide_t i form claim slots links
     unfolding decide_t pick
     judged v g q = rw (← m, le-ltb _ _ h, ← n, le-ltb _ _ g) q
 
 -- in the front of a table
-pub decide_judge : (i : ℕ) (form claim : List ℕ) (table : List Slot) (links most all : ℕ) (v : Verdict) → most ≡ slots_of (version_of i) → most ≤ length table → all ≡ links_of (version_of i) → all ≤ links
+pub decide_judge : (i : ℕ) (form claim : List ℕ) (table : List Slot) (links most all : ℕ) (v : Result Verdict Refusal) → most ≡ slots_of (version_of i) → most ≤ length table → all ≡ links_of (version_of i) → all ≤ links
     → v ≡ judge_t i form claim (length (take most table)) → v ≡ decide_t i form claim (length table) links
 decide_judge i form claim table links most all v m h n g q = judged i form claim (length table) links most m h all n v g (rw (length-take-le most table h) at q)
 

@@ -1,9 +1,10 @@
 -- The rules' verdict for each verdict of the code.
-use Rattle.std.specs.Prelude.{ℕ}
+use Rattle.std.specs.Prelude.{ℕ, Result, Ok, Err}
 use Rattle.checking.specs.Check.{Verdict as Ruled}
 use Rattle.checking.specs.Check as rules
+use Rattle.claim_check.specs.declared.Verdict.TheVariants.{Yes, No}
 use Rattle.claim_check.specs.declared.Verdict.{Verdict}
-use Rattle.claim_check.specs.declared.Verdict.TheVariants.{Yes, No, Refused}
+use Rattle.refusal.specs.declared.Refusal.{Refusal}
 
 -- a verdict: of a refusal its number and place
 pub data Said : Type 0 where
@@ -12,10 +13,10 @@ pub data Said : Type 0 where
   refused : (number place : ℕ) → Said
 
 -- of the code
-abbrev pub meaning : Verdict → Said
-meaning Yes = yes
-meaning (No condition row) = no condition row
-meaning (Refused why) = refused why.number why.place
+abbrev pub meaning : Result Verdict Refusal → Said
+meaning (Ok Yes) = yes
+meaning (Ok (No condition row)) = no condition row
+meaning (Err why) = refused why.number why.place
 
 -- of the rules, whose refusals carry more than the code answers
 abbrev pub ruled : Ruled → Said

@@ -8,40 +8,49 @@ use areas::zero_links;
 use claim_aliases::try_aliases;
 use claim_numbers::enter::enter_all;
 use claim_operands::run::try_operands;
-use claim_rows::Tried;
 use claim_rows::same::try_rows;
 use names::Slot;
 
 // The condition is broken, first at this row.
-fn no(condition: u8, row: usize) -> Verdict
+fn no(condition: u8, row: usize) -> Result<Result<Verdict, Refusal>, Refusal>
     ensures { result ≡ no_t condition row }
 {
-    Verdict::No {
+    Ok(Verdict::No {
         condition,
         row: (row % 4294967296) as u32,
-    }
+    })
 }
 
-fn try_fourth(input: &[u8], claim: &[u8], table: &mut [Slot], index: &mut [u16]) -> Verdict
+fn try_fourth(
+    input: &[u8],
+    claim: &[u8],
+    table: &mut [Slot],
+    index: &mut [u16],
+) -> Result<Result<Verdict, Refusal>, Refusal>
     requires { Fit (length table.old) (length index.old) }
     ensures { result ≡ fourth_t input.now claim.now (length table.old) }
 {
     zero_links(index);
     let used = enter_all(claim, table, index);
     match try_operands(input, claim, table, index, used) {
-        Tried::Passes => Verdict::Yes,
-        Tried::Breaks(row) => no(4, row),
+        Ok(()) => Ok(Verdict::Yes),
+        Err(row) => no(4, row),
     }
 }
 
-fn try_third(input: &[u8], claim: &[u8], table: &mut [Slot], index: &mut [u16]) -> Verdict
+fn try_third(
+    input: &[u8],
+    claim: &[u8],
+    table: &mut [Slot],
+    index: &mut [u16],
+) -> Result<Result<Verdict, Refusal>, Refusal>
     requires { Fit (length table.old) (length index.old) }
     ensures { result ≡ third_t input.now claim.now (length table.old) }
 {
     zero_links(index);
     match try_aliases(claim, table, index) {
-        Tried::Passes => try_fourth(input, claim, table, index),
-        Tried::Breaks(row) => no(3, row),
+        Ok(()) => try_fourth(input, claim, table, index),
+        Err(row) => no(3, row),
     }
 }
 
@@ -50,12 +59,12 @@ pub(crate) fn try_conditions(
     claim: &[u8],
     table: &mut [Slot],
     index: &mut [u16],
-) -> Verdict
+) -> Result<Result<Verdict, Refusal>, Refusal>
     requires { Fit (length table.old) (length index.old) }
     ensures { result ≡ conditions_t input.now claim.now (length table.old) }
 {
     match try_rows(input, claim) {
-        Tried::Passes => try_third(input, claim, table, index),
-        Tried::Breaks(row) => no(2, row),
+        Ok(()) => try_third(input, claim, table, index),
+        Err(row) => no(2, row),
     }
 }

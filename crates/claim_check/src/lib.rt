@@ -11,6 +11,4 @@ pub enum Verdict {
     Yes,
     // The first condition that is broken, and the first claimed row that breaks it.
     No { condition: u8, row: u32 },
-    // Document 01's refusal of the input.
-    Refused(Refusal),
 }

@@ -15,12 +15,12 @@ ghost use Rattle.resolver.specs.Steps.{steps_t};
 use crate::Verdict;
 use crate::conditions::try_conditions;
 use areas::{clear_links, clear_slots};
-use form::header::{Header, header_to};
+use form::header::{BadHeader, header_to};
 use limits::of_input;
 use names::Slot;
 use refusal::{NOT_A_FORM, ROOM, ROW_COUNT, Refusal};
-use resolver::steps::{Steps, try_steps};
-use whole_form::read::{Form, read_claim, read_input};
+use resolver::steps::try_steps;
+use whole_form::read::{read_claim, read_input};
 
 // The setting in force.
 const FIRST: usize = 0;
@@ -58,7 +58,13 @@ pub fn links(i: usize) -> usize
 // ---- in areas of these sizes
 
 // The conditions on the rows of both forms.
-fn judge_rows(form: &[u8], claim: &[u8], i: usize, table: &mut [Slot], index: &mut [u16]) -> Verdict
+fn judge_rows(
+    form: &[u8],
+    claim: &[u8],
+    i: usize,
+    table: &mut [Slot],
+    index: &mut [u16],
+) -> Result<Result<Verdict, Refusal>, Refusal>
     requires { Fit (length table.old) (length index.old) × ((version_of i).header ≤ length form.now) × ((version_of i).header ≤ length claim.now) }
     ensures { result ≡ conditions_t (body_of i form.now) (body_of i claim.now) (length table.old) }
 {
@@ -73,16 +79,16 @@ pub fn judge_claim(
     i: usize,
     table: &mut [Slot],
     index: &mut [u16],
-) -> Verdict
+) -> Result<Result<Verdict, Refusal>, Refusal>
     requires { Fit (length table.old) (length index.old) × ((version_of i).header ≤ length form.now) }
     ensures { result ≡ claim_by i form.now claim.now (length table.old) (form_of (read_form (as_claimed (setting i)) claim.now)) }
 {
     match read_claim(claim, i) {
-        Form::Refused(why) => Verdict::No {
+        Err(why) => Ok(Verdict::No {
             condition: 1,
             row: why.place,
-        },
-        Form::Whole(_) => judge_rows(form, claim, i, table, index),
+        }),
+        Ok(_) => judge_rows(form, claim, i, table, index),
     }
 }
 
@@ -93,50 +99,62 @@ fn judge_steps(
     i: usize,
     table: &mut [Slot],
     index: &mut [u16],
-) -> Verdict
+) -> Result<Result<Verdict, Refusal>, Refusal>
     requires { Fit (length table.old) (length index.old) × ((version_of i).header ≤ length form.now) }
     ensures { result ≡ steps_by i form.now claim.now (length table.old) (steps_t (body_of i form.now)) }
 {
     let a = header(i);
     match try_steps(&form[a..]) {
-        Steps::Refused(why) => Verdict::Refused(why),
-        Steps::Pass => judge_claim(form, claim, i, table, index),
+        Err(why) => Err(why),
+        Ok(()) => judge_claim(form, claim, i, table, index),
     }
 }
 
 // The input, then the claim.
-fn judge(form: &[u8], claim: &[u8], i: usize, table: &mut [Slot], index: &mut [u16]) -> Verdict
+fn judge(
+    form: &[u8],
+    claim: &[u8],
+    i: usize,
+    table: &mut [Slot],
+    index: &mut [u16],
+) -> Result<Result<Verdict, Refusal>, Refusal>
     requires { Fit (length table.old) (length index.old) }
     ensures { result ≡ judge_t i form.now claim.now (length table.old) }
 {
     match read_input(form, i) {
-        Form::Refused(why) => Verdict::Refused(why),
-        Form::Whole(_) => judge_steps(form, claim, i, table, index),
+        Err(why) => Err(why),
+        Ok(_) => judge_steps(form, claim, i, table, index),
     }
 }
 
 // ---- in areas of any size
 
 // A refusal whose number document 01 gives, at place 0.
-fn refused(number: u32) -> Verdict
+fn refused(number: u32) -> Result<Result<Verdict, Refusal>, Refusal>
     ensures { result ≡ refused_t number 0 }
 {
-    Verdict::Refused(Refusal { number, place: 0 })
+    Err(Refusal { number, place: 0 })
 }
 
 // An area is too small: that comes after a wrong header and a wrong row count of the input.
-pub fn refuse_small(form: &[u8], i: usize) -> Verdict
+pub fn refuse_small(form: &[u8], i: usize) -> Result<Result<Verdict, Refusal>, Refusal>
     ensures { result ≡ small_t i form.now }
 {
     match header_to(form, of_input(i)) {
-        Header::Wrong => refused(NOT_A_FORM),
-        Header::Count => refused(ROW_COUNT),
-        Header::Rows(_) => refused(ROOM),
+        Err(BadHeader::Wrong) => refused(NOT_A_FORM),
+        Err(BadHeader::Count) => refused(ROW_COUNT),
+        Ok(_) => refused(ROOM),
     }
 }
 
 // Only the fronts of the areas are lent on, so what lies beyond them stays as it was.
-fn decide(form: &[u8], claim: &[u8], i: usize, table: &mut [Slot], index: &mut [u16]) -> Verdict
+fn decide(
+    form: &[u8],
+    claim: &[u8],
+    i: usize,
+    table: &mut [Slot],
+    index: &mut [u16],
+) -> Result<Result<Verdict, Refusal>, Refusal>
     ensures { (result ≡ decide_t i form.now claim.now (length table.old) (length index.old)) × Kept (slots_of (version_of i)) table.old table.new × Kept (links_of (version_of i)) index.old index.new }
 {
     let most = slots(i);
@@ -160,21 +178,26 @@ pub fn clear(table: &mut [Slot], index: &mut [u16], i: usize)
 
 // Says whether a claim is an output of the form: yes, or no with the condition that is broken and the first claimed row that
 // breaks it, or the form's own refusal. The table and its index are working areas.
-pub fn check(form: &[u8], claim: &[u8], table: &mut [Slot], index: &mut [u16]) -> Verdict
+pub fn check(
+    form: &[u8],
+    claim: &[u8],
+    table: &mut [Slot],
+    index: &mut [u16],
+) -> Result<Result<Verdict, Refusal>, Refusal>
     ensures { (meaning result ≡ ruled (check_answer base form.now claim.now (length table.old) (length index.old))) × (table.new ≡ table_after base form.now table.old) × (index.new ≡ index_after base form.now index.old) }
 {
     match decide(form, claim, FIRST, table, index) {
-        Verdict::Yes => {
+        Ok(Verdict::Yes) => {
             clear(table, index, FIRST);
-            Verdict::Yes
+            Ok(Verdict::Yes)
         }
-        Verdict::No { condition, row } => {
+        Ok(Verdict::No { condition, row }) => {
             clear(table, index, FIRST);
-            Verdict::No { condition, row }
+            Ok(Verdict::No { condition, row })
         }
-        Verdict::Refused(why) => {
+        Err(why) => {
             clear(table, index, FIRST);
-            Verdict::Refused(why)
+            Err(why)
         }
     }
 }

@@ -1,5 +1,5 @@
 -- What is found among the slots of one scope: the number of a name, and the alias of a number.
-use Rattle.std.specs.Prelude.{◌≡◌, Bool, ◌&&◌, leb, length, set}
+use Rattle.std.specs.Prelude.{◌≡◌, Bool, ◌&&◌, leb, length, set, Option as CodeOption, Some, None, ℕ}
 use Rattle.std.proofs.Math.Path.{refl}
 use Rattle.std.proofs.Common.{sym, ap, ◌∙◌, length-set, get_or-set_same, get_or-set_other}
 use Rattle.std.proofs.Math.Bool.{true, false}
@@ -13,8 +13,6 @@ use Rattle.std.proofs.Math.ListN.{get_or, get_elem?}
 use borrow.Author.Tests.{eq-eqb, ne_eqb, eqb-true}
 use Rattle.kit.specs.Pick.{pick}
 use Rattle.names.specs.Table.{Slot, space_of, name_of, number_of, find_in}
-use Rattle.names.specs.declared.Found.{Found}
-use Rattle.names.specs.declared.Found.TheVariants.{At, Nothing}
 use Rattle.rules.specs.Tools.{when◌then◌else◌, only, ◌then◌}
 use Rattle.rules.specs.Versions.{top_name}
 use Rattle.rules.specs.Rows.{Decl, encode}
@@ -69,9 +67,9 @@ pub record Apt (x : Declared) : Type 0 where
 -- ---- by name
 
 -- the number of the first of these, where this many stand before them
-unfoldable pub number_from : (b : ℕ) → Option ℕ → Found
-number_from b none = Nothing
-number_from b (some e) = At (b + e)
+unfoldable pub number_from : (b : ℕ) → Option ℕ → CodeOption ℕ
+number_from b none = None
+number_from b (some e) = Some (b + e)
 
 from_next : (b : ℕ) (o : Option ℕ) → number_from (suc b) o ≡ number_from b (Option.map suc o)
 unfolding number_from
@@ -88,7 +86,7 @@ module _ (k : ℕ) (low : suc k < 65536) (space : ℕ) (narrow : space < 256) wh
   pass_slot s ss key name h = rw (ne_eqb _ _ h)
 
   -- under this key
-  meet_slot : (s : Slot) (ss : List Slot) (key name : ℕ) (b : Bool) → space_of s ≡ key → eqb (name_of s) name ≡ b → find_in (s ∷ ss) key name ≡ pick b (At (number_of s)) (find_in ss key name)
+  meet_slot : (s : Slot) (ss : List Slot) (key name : ℕ) (b : Bool) → space_of s ≡ key → eqb (name_of s) name ≡ b → find_in (s ∷ ss) key name ≡ pick b (Some (number_of s)) (find_in ss key name)
   unfolding find_in pick
   meet_slot s ss key name b h e = rw (eq-eqb _ _ h, e)
 
@@ -137,7 +135,7 @@ module _ (k : ℕ) (low : suc k < 65536) (space : ℕ) (narrow : space < 256) wh
   low_fresh a name f l e = let h = leb_le 2147483648 a f in omega arith
 
   meet_own : (c : List ℕ) (x : Declared) (rest : List Slot) (name : ℕ) (b : Bool) → is_inserted x.head ≡ false → x.decl.space ≡ space → eqb x.decl.name name ≡ b
-      → find_in (slot_of k c x ∷ rest) (entry_key_t k space) name ≡ pick b (At (get_or c space 0)) (find_in rest (entry_key_t k space) name)
+      → find_in (slot_of k c x ∷ rest) (entry_key_t k space) name ≡ pick b (Some (get_or c space 0)) (find_in rest (entry_key_t k space) name)
   unfolding slot_t
   meet_own c x rest name b p e u =
       rw (own_slot c x p) (meet_slot (slot_t k x.decl.space x.decl.name (get_or c x.decl.space 0)) rest (entry_key_t k space) name b (rw e) u ∙ rw e)
@@ -184,9 +182,9 @@ nth_of (x ∷ xs) space zero = when eqb x.decl.space space then some x else nth_
 nth_of (x ∷ xs) space (suc e) = when eqb x.decl.space space then nth_of xs space e else nth_of xs space (suc e)
 
 -- its row, if its field is added
-unfoldable pub alias_from : Option Declared → Found
-alias_from none = Nothing
-alias_from (some x) = when is_inserted x.head then At (x.row % 65536) else Nothing
+unfoldable pub alias_from : Option Declared → CodeOption ℕ
+alias_from none = None
+alias_from (some x) = when is_inserted x.head then Some (x.row % 65536) else None
 
 module _ (k : ℕ) (low : suc k < 65536) (space : ℕ) (narrow : space < 256) where
   abbrev key : ℕ
@@ -224,7 +222,7 @@ module _ (k : ℕ) (low : suc k < 65536) (space : ℕ) (narrow : space < 256) wh
 
   -- an added alias of the space
   meet_alias : (c : List ℕ) (m : ℕ) (x : Declared) (xs : List Declared) (n : ℕ) (b : Bool) → Counts c m → m < 65536 → is_inserted x.head ≡ true → x.decl.space ≡ space → eqb (suc (get_or c space 0)) n ≡ b
-      → find_in (slots_of k c (x ∷ xs)) key n ≡ pick b (At (x.row % 65536)) (find_in (slots_of k (more_count_t c x.decl.space) xs) key n)
+      → find_in (slots_of k c (x ∷ xs)) key n ≡ pick b (Some (x.row % 65536)) (find_in (slots_of k (more_count_t c x.decl.space) xs) key n)
   unfolding slots_of slot_t
   meet_alias c m x xs n b C l p e u =
       let f = C.few space in
@@ -245,7 +243,7 @@ module _ (k : ℕ) (low : suc k < 65536) (space : ℕ) (narrow : space < 256) wh
 
   -- numbers below those that are left
   abbrev Below : (c : List ℕ) → List Declared → Type 0
-  Below c xs = (n : ℕ) → n < get_or c space 0 → find_in (slots_of k c xs) key (suc n) ≡ Nothing
+  Below c xs = (n : ℕ) → n < get_or c space 0 → find_in (slots_of k c xs) key (suc n) ≡ None
 
   below_next : (c : List ℕ) (m : ℕ) (x : Declared) (xs : List Declared) (a b : Bool) → is_inserted x.head ≡ a → eqb x.decl.space space ≡ b → Counts c m → m < 65536 → Apt x → Below (more_count_t c x.decl.space) xs → Below c (x ∷ xs)
   unfolding pick
@@ -319,7 +317,7 @@ module _ (k : ℕ) (low : suc k < 65536) (space : ℕ) (narrow : space < 256) wh
   zero_next c m x xs false true p q C l A = past_slot c x xs 0 (own_passed c x A p)
   zero_next c m x xs true true p q C l A = meet_alias c m x xs 0 false C l p (eqb-true x.decl.space space q) (ne_eqb (suc (get_or c space 0)) 0 (omega arith))
 
-  pub zero_nothing : (xs : List Declared) (c : List ℕ) (m : ℕ) → Counts c m → m + length xs ≤ 65536 → All Apt xs → find_in (slots_of k c xs) key 0 ≡ Nothing
+  pub zero_nothing : (xs : List Declared) (c : List ℕ) (m : ℕ) → Counts c m → m + length xs ≤ 65536 → All Apt xs → find_in (slots_of k c xs) key 0 ≡ None
   unfolding slots_of find_in
   zero_nothing [] c m C l done = refl
   zero_nothing (x ∷ xs) c m C l (A & As) =

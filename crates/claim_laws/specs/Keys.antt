@@ -1,21 +1,19 @@
 -- What is found among slots of several scopes: those of one scope are not taken for another's.
-use Rattle.std.specs.Prelude.{◌≡◌, Bool, true, false, ◌&&◌, ◌||◌, List, [], ◌∷◌, ◌++◌, ℕ, ◌+◌, ◌*◌, ◌%◌, ◌<◌, ◌≤◌, eqb}
+use Rattle.std.specs.Prelude.{◌≡◌, Bool, true, false, ◌&&◌, ◌||◌, List, [], ◌∷◌, ◌++◌, ℕ, ◌+◌, ◌*◌, ◌%◌, ◌<◌, ◌≤◌, eqb, Option, Some, None}
 use Rattle.std.proofs.Math.Path.{refl}
 use Rattle.std.proofs.Common.{sym, ap, ◌∙◌, arith, ne_eqb}
 use Rattle.kit.specs.Pick.{pick}
 use Rattle.names.specs.Table.{Slot, space_of, name_of, number_of, find_in}
-use Rattle.names.specs.declared.Found.{Found}
-use Rattle.names.specs.declared.Found.TheVariants.{At, Nothing}
 use Rattle.rules.specs.Laws.ToolLaws.{All, done, ◌&◌, all_map}
 use Rattle.claim_scopes.specs.Entries.{entry_key_t}
 
 -- ---- slots one behind another
 
-unfoldable pub or_found : Found → Found → Found
-or_found (At v) f = At v
-or_found Nothing f = f
+unfoldable pub or_found : Option ℕ → Option ℕ → Option ℕ
+or_found (Some v) f = Some v
+or_found None f = f
 
-pick_or : (t u : Bool) (v : ℕ) (a b : Found) → pick t (pick u (At v) (or_found a b)) (or_found a b) ≡ or_found (pick t (pick u (At v) a) a) b
+pick_or : (t u : Bool) (v : ℕ) (a b : Option ℕ) → pick t (pick u (Some v) (or_found a b)) (or_found a b) ≡ or_found (pick t (pick u (Some v) a) a) b
 unfolding pick or_found
 pick_or true true v a b = refl
 pick_or true false v a b = refl
@@ -32,7 +30,7 @@ find_append (x ∷ xs) ys key name =
 abbrev pub Other : (key : ℕ) → Slot → Type 0
 Other key s = space_of s ≡ key → ⊥
 
-pub find_other : (ss : List Slot) (key name : ℕ) → All (Other key) ss → find_in ss key name ≡ Nothing
+pub find_other : (ss : List Slot) (key name : ℕ) → All (Other key) ss → find_in ss key name ≡ None
 unfolding find_in pick
 find_other [] key name done = refl
 find_other (s ∷ ss) key name (h & p) = rw (ne_eqb _ _ h) (find_other ss key name p)
@@ -41,10 +39,10 @@ pub other_first : (xs ys : List Slot) (key name : ℕ) → All (Other key) xs �
 unfolding or_found
 other_first xs ys key name p = find_append xs ys key name ∙ rw (find_other xs key name p)
 
-or_nothing : (f : Found) → or_found f Nothing ≡ f
+or_nothing : (f : Option ℕ) → or_found f None ≡ f
 unfolding or_found
-or_nothing (At v) = refl
-or_nothing Nothing = refl
+or_nothing (Some v) = refl
+or_nothing None = refl
 
 pub other_last : (xs ys : List Slot) (key name : ℕ) → All (Other key) ys → find_in (xs ++ ys) key name ≡ find_in xs key name
 other_last xs ys key name p = find_append xs ys key name ∙ rw (find_other ys key name p) (or_nothing (find_in xs key name))

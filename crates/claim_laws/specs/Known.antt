@@ -1,5 +1,5 @@
 -- What is found among all that was entered for a claim is, for each of its scopes, what the rules say of that scope's declarations.
-use Rattle.std.specs.Prelude.{◌≡◌, refl, Bool, true, List, [], ◌∷◌, ◌++◌, map, ℕ, zero, suc, ◌+◌, ◌*◌, ◌%◌, ◌<◌, ◌≤◌, eqb, get_or, replicate}
+use Rattle.std.specs.Prelude.{◌≡◌, refl, Bool, true, List, [], ◌∷◌, ◌++◌, map, ℕ, zero, suc, ◌+◌, ◌*◌, ◌%◌, ◌<◌, ◌≤◌, eqb, get_or, replicate, Option as CodeOption, Some, None}
 use Rattle.std.proofs.Common.{sym, ap, ap₂, ◌∙◌, ⊎_elim, append_assoc, append-nil, arith, lt-ltb, le-ltb}
 use Rattle.std.proofs.Math.Bool.{false}
 use Rattle.std.proofs.Math.Option.{Option, none, some}
@@ -9,8 +9,6 @@ use Rattle.kit.specs.Pick.{pick}
 use Rattle.kit.proofs.Laws.{copies_at, lt_or_le}
 use Rattle.parts.specs.declared.Parts.{Parts}
 use Rattle.names.specs.Table.{Slot, space_of, find_in}
-use Rattle.names.specs.declared.Found.{Found}
-use Rattle.names.specs.declared.Found.TheVariants.{At, Nothing}
 use Rattle.rules.specs.Tools.{when◌then◌else◌, only, ◌then◌, is_in}
 use Rattle.rules.specs.Versions.{RuleSet, top_name}
 use Rattle.rules.specs.Rows.{Row, Close}
@@ -116,9 +114,9 @@ pub record AliasHead (h : Head) : Type 0 where
   pub numbers : not_number row h.operands ≡ none
 
 -- what is found of an alias: the row of its DECL
-pub data AliasAt (at : ℕ → Parts) : Found → Option Head → Type 0 where
-  nowhere : AliasAt at Nothing none
-  there : (r : ℕ) (h : Head) → Stands at r (head_rows h) → AliasHead h → AliasAt at (At (suc r)) (some h)
+pub data AliasAt (at : ℕ → Parts) : CodeOption ℕ → Option Head → Type 0 where
+  nowhere : AliasAt at None none
+  there : (r : ℕ) (h : Head) → Stands at r (head_rows h) → AliasHead h → AliasAt at (Some (suc r)) (some h)
 
 -- a declaration whose field stands there, if it is added
 pub record Placed (at : ℕ → Parts) (x : Declared) : Type 0 where
@@ -142,7 +140,7 @@ unfolding alias_from ◌then◌
 alias_at at none p = nowhere
 alias_at at (some x) p = go (is_inserted x.head) refl
   where
-    go : (b : Bool) → is_inserted x.head ≡ b → AliasAt at (when is_inserted x.head then At (x.row % 65536) else Nothing) (only (is_inserted x.head) x.head)
+    go : (b : Bool) → is_inserted x.head ≡ b → AliasAt at (when is_inserted x.head then Some (x.row % 65536) else None) (only (is_inserted x.head) x.head)
     go true e =
         let P = p e in
         let low = P.low in

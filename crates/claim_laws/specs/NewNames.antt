@@ -1,5 +1,5 @@
 -- Condition 3: on the rows of a claim the code finds the row that the rules name.
-use Rattle.std.specs.Prelude.{◌≡◌, Bool, ◌&&◌, ◌||◌, eqb, leb, ltb}
+use Rattle.std.specs.Prelude.{◌≡◌, Bool, ◌&&◌, ◌||◌, eqb, leb, ltb, Option as CodeOption, Some, None, Result, Ok, Err, ⊤, ℕ}
 use Rattle.std.proofs.Math.Path.{refl, sym, ap}
 use Rattle.std.proofs.Common.{ap₂, ◌∙◌, lt-ltb, le-ltb, eq-eqb, ne_eqb, eqb-true}
 use Rattle.std.proofs.Math.Bool.{true, false, not}
@@ -14,8 +14,6 @@ use Rattle.kit.specs.Pick.{pick}
 use Rattle.kit.specs.Out.{Out, ◌&◌}
 use Rattle.parts.specs.declared.Parts.{Parts}
 use Rattle.names.specs.Table.{Slot, space_of, name_of, find_in}
-use Rattle.names.specs.declared.Found.{Found}
-use Rattle.names.specs.declared.Found.TheVariants as found
 use Rattle.rules.specs.Tools.{when◌then◌else◌, is_in, is_just, ◌or_else◌}
 use Rattle.rules.specs.Versions.{RuleSet}
 use Rattle.rules.specs.Rows.{Index, Num, Id, Row, Field, Decl, Ref, Path, Outer, Case, Open, Close, Export, encode, flag, number}
@@ -32,11 +30,8 @@ use Rattle.rules.proofs.Laws.Meaning.Unknown.{find_has, has_append}
 use Rattle.checking.specs.Check.{is_number, has_numbers, not_new, not_number, no_alias, scope_added, fields_added, item_added, condition3}
 use Rattle.checking.proofs.Laws.AddedFields.{closed}
 use Rattle.claim_rows.specs.Added.{any_fresh, is_added_t}
-use Rattle.claim_rows.specs.declared.Tried.{Tried}
-use Rattle.claim_rows.specs.declared.Tried.TheVariants.{Passes, Breaks}
 use Rattle.claim_scopes.specs.Open.{open_scope_t, row_in, here_t, open_closed_t, open_one_t}
 use Rattle.claim_scopes.specs.Entries.{entry_key_t, slot_t, entry_of, look_t, enter_t}
-use Rattle.claim_scopes.specs.declared.entries.Entry.{Entry}
 use Rattle.claim_aliases.specs.Aliases.{is_alias, alias_new_t, is_value, is_known, alias_breaks_t, name_slot, alias_names_t, Names, try_aliases_t}
 use Rattle.claim_laws.specs.RowParts.{as_parts, all_parts, code_in, NoDecl, behind_field, operands_no_decl, any_fresh_lem, fields_no_decl, scope_no_decl, Inner, inner, inner_behind, scope_size, fields_size, holds_size, head_size, item_size}
 use Rattle.claim_laws.specs.Keys.{or_found, find_append, find_other, other_last, Other, Of, Within, wider, key_is, key_within, outside}
@@ -71,19 +66,19 @@ few D = let l = D.space in omega arith
 
 -- ---- what is known of names
 
-is_found : Found → Bool
-is_found (found.At v) = true
-is_found found.Nothing = false
+is_found : CodeOption ℕ → Bool
+is_found (Some v) = true
+is_found None = false
 
-value_found : (f : Found) → is_value (entry_of f) ≡ is_found f
+value_found : (f : CodeOption ℕ) → is_value (entry_of f) ≡ is_found f
 unfolding is_value entry_of is_found
-value_found (found.At v) = refl
-value_found found.Nothing = refl
+value_found (Some v) = refl
+value_found None = refl
 
-found_or : (f g : Found) → is_found (or_found f g) ≡ is_found f || is_found g
+found_or : (f g : CodeOption ℕ) → is_found (or_found f g) ≡ is_found f || is_found g
 unfolding is_found or_found
-found_or (found.At v) g = refl
-found_or found.Nothing g = refl
+found_or (Some v) g = refl
+found_or None g = refl
 
 -- of the scope whose OPEN is row k: its DECLs so far are `past`, and the slots that are used are `ss`
 record Known (k : ℕ) (past : List Declaration) (ss : List Slot) : Type 0 where
@@ -128,7 +123,7 @@ same_eqb a b c d f g = go (eqb a b) (eqb c d) refl refl
     go false true p q = sym p ∙ eq-eqb a b (g (eqb-true c d q))
     go false false p q = refl
 
-found_one : (t u : Bool) (v : ℕ) → is_found (pick t (pick u (found.At v) found.Nothing) found.Nothing) ≡ t && u
+found_one : (t u : Bool) (v : ℕ) → is_found (pick t (pick u (Some v) None) None) ≡ t && u
 unfolding is_found pick
 found_one true true v = refl
 found_one true false v = refl
@@ -150,33 +145,33 @@ known_new k past d ss l s e g = record { known = go }
 
 -- ---- what the code answers
 
-abbrev pub answer_in : Names → Tried
+abbrev pub answer_in : Names → Result ⊤ ℕ
 answer_in (a & ss) = a
 
 -- a row that breaks the condition, or what comes after
-unfoldable pub or_tried : Option ℕ → Tried → Tried
+unfoldable pub or_tried : Option ℕ → Result ⊤ ℕ → Result ⊤ ℕ
 or_tried none t = t
-or_tried (some row) t = Breaks row
+or_tried (some row) t = Err row
 
-pub or_tried_lem : (a b : Option ℕ) (t : Tried) → or_tried (a or_else b) t ≡ or_tried a (or_tried b t)
+pub or_tried_lem : (a b : Option ℕ) (t : Result ⊤ ℕ) → or_tried (a or_else b) t ≡ or_tried a (or_tried b t)
 unfolding or_tried ◌or_else◌
 or_tried_lem none b t = refl
 or_tried_lem (some row) b t = refl
 
 module _ (room : ℕ) where
-  run : (n : ℕ) (a : Bool) (st : List (List ℕ)) (ss : List Slot) → List Row → Tried
+  run : (n : ℕ) (a : Bool) (st : List (List ℕ)) (ss : List Slot) → List Row → Result ⊤ ℕ
   run n a st ss rs = answer_in (try_aliases_t room n a st ss (all_parts rs))
 
-  pick_answer : (t : Bool) (x : Tried) (ss : List Slot) (y : Names) → answer_in (pick t (x & ss) y) ≡ pick t x (answer_in y)
+  pick_answer : (t : Bool) (x : Result ⊤ ℕ) (ss : List Slot) (y : Names) → answer_in (pick t (x & ss) y) ≡ pick t x (answer_in y)
   unfolding pick
   pick_answer true x ss y = refl
   pick_answer false x ss y = refl
 
   -- one row; a: whether its field is added
   run_row : (n : ℕ) (b a : Bool) (st : List (List ℕ)) (ss : List Slot) (r : Row) (rs : List Row) → is_added_t b (code_in r) (all_parts rs) ≡ a
-      → run n b st ss (r ∷ rs) ≡ pick (alias_breaks_t a ss (here_t st) (as_parts r)) (Breaks n) (run (suc n) a (open_one_t 64 st (as_parts r) n) (alias_names_t room a ss (here_t st) (as_parts r)) rs)
+      → run n b st ss (r ∷ rs) ≡ pick (alias_breaks_t a ss (here_t st) (as_parts r)) (Err n) (run (suc n) a (open_one_t 64 st (as_parts r) n) (alias_names_t room a ss (here_t st) (as_parts r)) rs)
   unfolding run try_aliases_t all_parts
-  run_row n b a st ss r rs e = rw (e, add-one n) (pick_answer (alias_breaks_t a ss (here_t st) (as_parts r)) (Breaks n) ss _)
+  run_row n b a st ss r rs e = rw (e, add-one n) (pick_answer (alias_breaks_t a ss (here_t st) (as_parts r)) (Err n) ss _)
 
   -- rows of a field behind its FIELD, which is not added
   own_inner : (xs ys : List Row) (n : ℕ) (st : List (List ℕ)) (ss : List Slot) → All Inner xs → run n false st ss (xs ++ ys) ≡ run (n + length xs) false st ss ys
@@ -210,7 +205,7 @@ module _ (room : ℕ) where
   field_names k ss code builtin z = refl
 
   -- one that is no alias
-  other_head : (n : ℕ) (b : Bool) (st : List (List ℕ)) (ss : List Slot) (h : Head) (ys : List Row) → is_inserted h ≡ true → is_in h.code (9 ∷ 10 ∷ 11 ∷ []) ≡ false → NoDecl ys → run n b st ss (head_rows h ++ ys) ≡ Breaks n
+  other_head : (n : ℕ) (b : Bool) (st : List (List ℕ)) (ss : List Slot) (h : Head) (ys : List Row) → is_inserted h ≡ true → is_in h.code (9 ∷ 10 ∷ 11 ∷ []) ≡ false → NoDecl ys → run n b st ss (head_rows h ++ ys) ≡ Err n
   unfolding head_rows behind_field
   other_head n b st ss h ys e c d =
       run_row n b true st ss (Field h.code h.builtin h.z) (behind_field h ++ ys) (field_added b h ys d ∙ e)
@@ -244,7 +239,7 @@ module _ (room : ℕ) where
   row_names_lem k ss r h = rw (ne_eqb (code_in r) 2 h)
 
   -- a row of it that breaks nothing or something
-  added_row : (n : ℕ) (st : List (List ℕ)) (ss : List Slot) (r : Row) (rs : List Row) (t : Bool) → Inner r → (code_in r ≡ 2 → ⊥) → alias_breaks_t true ss (here_t st) (as_parts r) ≡ t → run n true st ss (r ∷ rs) ≡ pick t (Breaks n) (run (suc n) true st ss rs)
+  added_row : (n : ℕ) (st : List (List ℕ)) (ss : List Slot) (r : Row) (rs : List Row) (t : Bool) → Inner r → (code_in r ≡ 2 → ⊥) → alias_breaks_t true ss (here_t st) (as_parts r) ≡ t → run n true st ss (r ∷ rs) ≡ pick t (Err n) (run (suc n) true st ss rs)
   added_row n st ss r rs t i h e =
       run_row n true true st ss r rs (inner_added true r (all_parts rs) i) ∙ rw (e, inner_open st r n i, row_names_lem (here_t st) ss r h)
 
@@ -264,7 +259,7 @@ module _ (room : ℕ) where
       let i = export_inner name in
       added_row n st ss (Export name) ys false i.0 i.1 (export_breaks (here_t st) ss name) ∙ rw e
 
-  number_turn : (b : Bool) (m : ℕ) (t : Tried) → pick (not b) (Breaks m) t ≡ or_tried (when b then none else some m) t
+  number_turn : (b : Bool) (m : ℕ) (t : Result ⊤ ℕ) → pick (not b) (Err m) t ≡ or_tried (when b then none else some m) t
   unfolding pick or_tried when◌then◌else◌
   number_turn true m t = refl
   number_turn false m t = refl
@@ -297,7 +292,7 @@ module _ (room : ℕ) where
       let e : suc n + length (export_rows h.export) ≡ n + suc (length (export_rows h.export)) = omega arith in
       rw o (outer_run n st ss space up at z h.export ys ∙ rw e)
 
-  new_turn : (b : Bool) (m : ℕ) (t : Tried) → pick b (Breaks m) t ≡ or_tried (when b then some m else none) t
+  new_turn : (b : Bool) (m : ℕ) (t : Result ⊤ ℕ) → pick b (Err m) t ≡ or_tried (when b then some m else none) t
   unfolding pick or_tried when◌then◌else◌
   new_turn true m t = refl
   new_turn false m t = refl
@@ -424,7 +419,7 @@ module _ (room : ℕ) where
     roomy : length ss + length new ≤ room
 
   -- what follows an item, whatever was added before
-  abbrev Follows : (n : ℕ) (st : List (List ℕ)) (ss : List Slot) → List Row → Tried → Type 0
+  abbrev Follows : (n : ℕ) (st : List (List ℕ)) (ss : List Slot) → List Row → Result ⊤ ℕ → Type 0
   Follows n st ss ys K = (b : Bool) → run n b st ss ys ≡ K
 
   -- what an item is found to be
@@ -434,11 +429,11 @@ module _ (room : ℕ) where
   no_more : (ss xs : List Slot) → ss ++ (xs ++ []) ≡ ss ++ xs
   no_more ss xs = rw (append-nil xs)
 
-  found_other : (n : ℕ) (past : List Declaration) (i : Item) (K : Tried) → is_inserted (head_of i) ≡ true → is_in (head_of i).code (9 ∷ 10 ∷ 11 ∷ []) ≡ false → or_tried (item_found n past i) K ≡ Breaks n
+  found_other : (n : ℕ) (past : List Declaration) (i : Item) (K : Result ⊤ ℕ) → is_inserted (head_of i) ≡ true → is_in (head_of i).code (9 ∷ 10 ∷ 11 ∷ []) ≡ false → or_tried (item_found n past i) K ≡ Err n
   unfolding no_alias when◌then◌else◌ ◌or_else◌ or_tried
   found_other n past i K e c = rw (e, c)
 
-  found_alias : (n : ℕ) (past : List Declaration) (h : Head) (K : Tried) → is_inserted h ≡ true → or_tried (no_alias n past h) K ≡ or_tried (item_found n past (plain h)) K
+  found_alias : (n : ℕ) (past : List Declaration) (h : Head) (K : Result ⊤ ℕ) → is_inserted h ≡ true → or_tried (no_alias n past h) K ≡ or_tried (item_found n past (plain h)) K
   unfolding when◌then◌else◌ scope_added head_of
   found_alias n past h K e = rw (e, or_tried_lem (no_alias n past h) none K) (unfold or_tried in refl)
 
@@ -446,7 +441,7 @@ module _ (room : ℕ) where
   unfolding when◌then◌else◌ ◌or_else◌
   found_own n past i e = rw e
 
-  plain_run : (rules : RuleSet) (kind n : ℕ) (b : Bool) (st : List (List ℕ)) (past : List Declaration) (ss : List Slot) (h : Head) (ys : List Row) (K : Tried) (size deep : ℕ) → GoodHead rules kind h → Stands n st past ss (head_names (here_t st) h) size deep → NoDecl ys
+  plain_run : (rules : RuleSet) (kind n : ℕ) (b : Bool) (st : List (List ℕ)) (past : List Declaration) (ss : List Slot) (h : Head) (ys : List Row) (K : Result ⊤ ℕ) (size deep : ℕ) → GoodHead rules kind h → Stands n st past ss (head_names (here_t st) h) size deep → NoDecl ys
       → Follows (n + length (head_rows h)) st (ss ++ head_names (here_t st) h) ys K → run n b st ss (head_rows h ++ ys) ≡ or_tried (item_found n past (plain h)) K
   unfolding head_of scope_added
   plain_run rules kind n b st past ss h ys K size deep good S nd f = go (is_inserted h) (is_in h.code (9 ∷ 10 ∷ 11 ∷ [])) refl refl
@@ -467,7 +462,7 @@ module _ (room : ℕ) where
   abbrev ScopeRun : (n : ℕ) (st : List (List ℕ)) (ss : List Slot) → Scope → List Row → Type 0
   ScopeRun n st ss s ys = run n false st ss (flatten s ++ ys) ≡ or_tried (scope_added n s) (run (n + length (flatten s)) false st (ss ++ scope_names n s) ys)
 
-  holds_run : (rules : RuleSet) (kind n : ℕ) (b : Bool) (st : List (List ℕ)) (past : List Declaration) (ss : List Slot) (h : Head) (s : Scope) (ys : List Row) (K : Tried) → GoodItem rules (holds h s) kind
+  holds_run : (rules : RuleSet) (kind n : ℕ) (b : Bool) (st : List (List ℕ)) (past : List Declaration) (ss : List Slot) (h : Head) (s : Scope) (ys : List Row) (K : Result ⊤ ℕ) → GoodItem rules (holds h s) kind
       → (is_inserted h ≡ false → ScopeRun (n + length (head_rows h)) st ss s ys)
       → Follows (n + length (item_rows (holds h s))) st (ss ++ (head_names (here_t st) h ++ item_names (n + length (head_rows h)) (holds h s))) ys K → run n b st ss (item_rows (holds h s) ++ ys) ≡ or_tried (item_found n past (holds h s)) K
   unfolding head_of scope_added flatten scope_names
@@ -491,7 +486,7 @@ module _ (room : ℕ) where
   end_run n st past ss zs b = let e : suc (n + 0) ≡ suc n = omega arith in rw (e, append-nil ss) (close_run n b st ss zs)
 
   next_run : (n : ℕ) (st : List (List ℕ)) (past : List Declaration) (ss : List Slot) (i : Item) (fs : Fields) (zs : List Row)
-      → ((K : Tried) → Follows (n + length (item_rows i)) st (ss ++ (head_names (here_t st) (head_of i) ++ item_names (n + length (head_rows (head_of i))) i)) (fields_rows fs ++ (Close ∷ zs)) K → (b : Bool) → run n b st ss (item_rows i ++ (fields_rows fs ++ (Close ∷ zs))) ≡ or_tried (item_found n past i) K)
+      → ((K : Result ⊤ ℕ) → Follows (n + length (item_rows i)) st (ss ++ (head_names (here_t st) (head_of i) ++ item_names (n + length (head_rows (head_of i))) i)) (fields_rows fs ++ (Close ∷ zs)) K → (b : Bool) → run n b st ss (item_rows i ++ (fields_rows fs ++ (Close ∷ zs))) ≡ or_tried (item_found n past i) K)
       → FieldsRun (n + length (item_rows i)) st (past ++ (head_of i).decls) (ss ++ (head_names (here_t st) (head_of i) ++ item_names (n + length (head_rows (head_of i))) i)) fs zs → FieldsRun n st past ss (i ▸ fs) zs
   unfolding flatten scope_added scope_names
   next_run n st past ss i fs zs f g b =
@@ -540,7 +535,7 @@ module _ (room : ℕ) where
       }
 
   -- a field that is no alias ends it
-  item_other : (n : ℕ) (b : Bool) (st : List (List ℕ)) (ss : List Slot) (i : Item) (ys : List Row) → is_inserted (head_of i) ≡ true → is_in (head_of i).code (9 ∷ 10 ∷ 11 ∷ []) ≡ false → NoDecl ys → run n b st ss (item_rows i ++ ys) ≡ Breaks n
+  item_other : (n : ℕ) (b : Bool) (st : List (List ℕ)) (ss : List Slot) (i : Item) (ys : List Row) → is_inserted (head_of i) ≡ true → is_in (head_of i).code (9 ∷ 10 ∷ 11 ∷ []) ≡ false → NoDecl ys → run n b st ss (item_rows i ++ ys) ≡ Err n
   unfolding flatten head_of
   item_other n b st ss (plain h) ys e c d = other_head n b st ss h ys e c d
   item_other n b st ss (holds h s) ys e c d = rw (append_assoc (head_rows h) (flatten s) ys) (other_head n b st ss h (flatten s ++ ys) e c (scope_no_decl s ys))
@@ -577,7 +572,7 @@ module _ (room : ℕ) where
 
   -- a field by itself
   plain_item : (rules : RuleSet) (h : Head) (fs : Fields) (kind n : ℕ) (st : List (List ℕ)) (past : List Declaration) (ss : List Slot) (ys : List Row) → GoodItem rules (plain h) kind → Stands n st past ss (fields_names (here_t st) n (plain h ▸ fs)) (length (fields_rows (plain h ▸ fs))) (heights (plain h ▸ fs)) → NoDecl ys
-      → (K : Tried) → Follows (n + length (item_rows (plain h))) st (ss ++ (head_names (here_t st) h ++ item_names (n + length (head_rows h)) (plain h))) ys K → (b : Bool) → run n b st ss (item_rows (plain h) ++ ys) ≡ or_tried (item_found n past (plain h)) K
+      → (K : Result ⊤ ℕ) → Follows (n + length (item_rows (plain h))) st (ss ++ (head_names (here_t st) h ++ item_names (n + length (head_rows h)) (plain h))) ys K → (b : Bool) → run n b st ss (item_rows (plain h) ++ ys) ≡ or_tried (item_found n past (plain h)) K
   unfolding flatten scope_names head_of
   plain_item rules h fs kind n st past ss ys g S d K f b =
       let e = names_size (here_t st) n (plain h) fs in
@@ -612,7 +607,7 @@ module _ (room : ℕ) where
         (fields_run rules fs kind (n + length (item_rows i)) st (past ++ (head_of i).decls) (ss ++ (head_names (here_t st) (head_of i) ++ item_names (n + length (head_rows (head_of i))) i)) zs g.1 (stands_next rules kind n st past ss i fs g.0 c S)))
 
     item_run : (rules : RuleSet) (i : Item) (fs : Fields) (kind n : ℕ) (st : List (List ℕ)) (past : List Declaration) (ss : List Slot) (ys : List Row) → GoodItem rules i kind → Stands n st past ss (fields_names (here_t st) n (i ▸ fs)) (length (fields_rows (i ▸ fs))) (heights (i ▸ fs)) → NoDecl ys
-        → (K : Tried) → Follows (n + length (item_rows i)) st (ss ++ (head_names (here_t st) (head_of i) ++ item_names (n + length (head_rows (head_of i))) i)) ys K → (b : Bool) → run n b st ss (item_rows i ++ ys) ≡ or_tried (item_found n past i) K
+        → (K : Result ⊤ ℕ) → Follows (n + length (item_rows i)) st (ss ++ (head_names (here_t st) (head_of i) ++ item_names (n + length (head_rows (head_of i))) i)) ys K → (b : Bool) → run n b st ss (item_rows i ++ ys) ≡ or_tried (item_found n past i) K
     item_run rules (plain h) fs kind n st past ss ys g S d K f b = plain_item rules h fs kind n st past ss ys g S d K f b
     item_run rules (holds h s) fs kind n st past ss ys g S d K f b =
         holds_run rules kind n b st past ss h s ys K g
@@ -662,12 +657,12 @@ module _ (room : ℕ) where
         let e = holds_size h s in
         omega arith
 
-pub last_tried : (o : Option ℕ) → or_tried o Passes ≡ tried o
+pub last_tried : (o : Option ℕ) → or_tried o (Ok tt) ≡ tried o
 unfolding or_tried
 last_tried none = refl
 last_tried (some n) = refl
 
-no_rows_lem : (room n : ℕ) (b : Bool) (ss : List Slot) → run room n b [] ss [] ≡ Passes
+no_rows_lem : (room n : ℕ) (b : Bool) (ss : List Slot) → run room n b [] ss [] ≡ Ok tt
 unfolding run try_aliases_t all_parts
 no_rows_lem room n b ss = refl
 

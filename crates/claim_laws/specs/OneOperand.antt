@@ -1,7 +1,7 @@
 -- Condition 4 for one operand: what the code finds of its row is what the rules say of it.
 use Rattle.std.proofs.Math.Path.{◌≡◌, refl, sym, ap}
 use Rattle.std.proofs.Common.{◌∙◌, lt-ltb, le-ltb, le-leb, eq-eqb, ne_eqb, eqb-true}
-use Rattle.std.specs.Prelude.{Bool, ◌&&◌, ℕ, suc, ◌+◌, ◌*◌, ◌%◌, ◌<◌, ◌≤◌, eqb, leb, ltb, length, get_or}
+use Rattle.std.specs.Prelude.{Bool, ◌&&◌, ℕ, suc, ◌+◌, ◌*◌, ◌%◌, ◌<◌, ◌≤◌, eqb, leb, ltb, length, get_or, Some}
 use Rattle.std.proofs.Math.Bool.{true, false}
 use Rattle.std.proofs.Math.Option.{Option, none, some}
 use mathlib.Core.List.{List, [], ◌∷◌, ◌++◌}
@@ -11,8 +11,6 @@ use Rattle.kit.specs.Pick.{pick}
 use Rattle.parts.specs.PartsAt.{parts_at}
 use Rattle.parts.specs.declared.Parts.{Parts}
 use Rattle.names.specs.Table.{Slot, no_scope}
-use Rattle.names.specs.declared.Named.{Named}
-use Rattle.names.specs.declared.Named.TheVariants as named
 use Rattle.rules.specs.Tools.{when◌then◌else◌, ◌then◌}
 use Rattle.rules.specs.Versions.{top_name}
 use Rattle.rules.specs.Rows.{Index, Num, Id, Row, Ref, Path, Outer, Case, encode, flag, number}
@@ -31,8 +29,6 @@ use Rattle.checking.specs.Check.{ref_number, found, same, same_pair, through_out
 use Rattle.checking.proofs.Laws.Plainly.{plain_table, never_late}
 use Rattle.claim_scopes.specs.Open.{open_scope_t, row_in, here_t, open_closed_t}
 use Rattle.claim_scopes.specs.Entries.{look_t}
-use Rattle.claim_scopes.specs.declared.entries.Entry.{Entry}
-use Rattle.claim_scopes.specs.declared.entries.Entry.TheVariants.{Value, Nothing}
 use Rattle.claim_operands.specs.Paths.{instance_space, is_number, instance_t}
 use Rattle.claim_operands.specs.Reference.{own_or, further_t, name_right_t, ref_from_t, path_right_t, ref_right_t}
 use Rattle.claim_operands.specs.Outer.{up_t, at_right_t, up_right_t, outer_right_t}
@@ -154,8 +150,8 @@ module _ (claim : List ℕ) (ss : List Slot) (used kind name k : ℕ) (cs : Fiel
   -- the scope that it leads to
   up_is : (space : ℕ) (up at : Index) (z : ℕ) → up_t st₀ (as_parts (Outer space up at z)) ≡ named_as claim ss used 0 (found (up_number envs up 0))
   unfolding up_t as_parts encode number flag up_number found pick
-  up_is space (Num d) (Num n) z = unfold named_as in ap named.Out (omega arith)
-  up_is space (Num d) (Id nm) z = unfold named_as in ap named.Out (omega arith)
+  up_is space (Num d) (Num n) z = unfold named_as in ap Some (omega arith)
+  up_is space (Num d) (Id nm) z = unfold named_as in ap Some (omega arith)
   up_is space (Id up) (Num n) z = known_named claim ss used st₀ envs 0 up opened_here ∙ ap (named_as claim ss used 0) (sym (found_refused (Rules.named envs up) Rules.no_such_scope 0))
   up_is space (Id up) (Id nm) z = known_named claim ss used st₀ envs 0 up opened_here ∙ ap (named_as claim ss used 0) (sym (found_refused (Rules.named envs up) Rules.no_such_scope 0))
 

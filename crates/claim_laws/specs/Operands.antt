@@ -1,5 +1,5 @@
 -- Condition 4: on the rows of an input and of a claim the code finds the row that the rules name.
-use Rattle.std.specs.Prelude.{◌≡◌, Bool, ℕ, suc, ◌+◌, ◌<◌, ◌≤◌, eqb}
+use Rattle.std.specs.Prelude.{◌≡◌, Bool, ℕ, suc, ◌+◌, ◌<◌, ◌≤◌, eqb, Result, Ok, Err, ⊤}
 use Rattle.std.proofs.Math.Path.{refl, ap}
 use Rattle.std.proofs.Common.{sym, ap₂, ◌∙◌, arith, length-append}
 use Rattle.std.proofs.Math.Bool.{true, false}
@@ -29,8 +29,6 @@ use Rattle.checking.proofs.Laws.AddedFields.{IsAdded, AddedScope, AddedFields, A
 use Rattle.checking.proofs.Laws.Beside.{Beside, stop, skip, both, same_head, same_operands, same_decls, same_export}
 use Rattle.claim_rows.specs.Added.{is_added_t}
 use Rattle.claim_rows.specs.Same.{past_paths, same_next_t}
-use Rattle.claim_rows.specs.declared.Tried.{Tried}
-use Rattle.claim_rows.specs.declared.Tried.TheVariants.{Passes, Breaks}
 use Rattle.claim_scopes.specs.Open.{open_scope_t, open_one_t}
 use Rattle.claim_operands.specs.Operands.{next_in, is_right_t, try_operands_t}
 use Rattle.claim_laws.specs.RowParts.{as_parts, all_parts, code_in, Stands, decls_size, scope_size, fields_size, holds_size, head_size}
@@ -133,18 +131,18 @@ next_operand (case name z) ws s = unfold all_parts in settled_parts ws s
 -- ---- row by row
 
 module _ (claim : List ℕ) (ss : List Slot) (used : ℕ) where
-  unfoldable tries : List Mark → List Parts → Tried
-  tries [] qs = Passes
-  tries (m ∷ ms) qs = pick (is_right_t ss claim used m.added m.st m.parts qs) (tries ms (next_in m.added qs)) (Breaks m.row)
+  unfoldable tries : List Mark → List Parts → Result ⊤ ℕ
+  tries [] qs = Ok tt
+  tries (m ∷ ms) qs = pick (is_right_t ss claim used m.added m.st m.parts qs) (tries ms (next_in m.added qs)) (Err m.row)
 
   tries_marks : (i : ℕ) (a : Bool) (st : List (List ℕ)) (ps qs : List Parts) → try_operands_t ss claim used i a st ps qs ≡ tries (marks_t i a st ps) qs
   unfolding try_operands_t tries marks_t
   tries_marks i a st [] qs = refl
   tries_marks i a st (p ∷ ps) qs =
       let b = is_added_t a p.code ps in
-      ap (λ (t : Tried). pick (is_right_t ss claim used b st p qs) t (Breaks i)) (tries_marks (i + 1) b (open_one_t 64 st p i) ps (next_in b qs))
+      ap (λ (t : Result ⊤ ℕ). pick (is_right_t ss claim used b st p qs) t (Err i)) (tries_marks (i + 1) b (open_one_t 64 st p i) ps (next_in b qs))
 
-  abbrev run : List Mark → List Row → Tried
+  abbrev run : List Mark → List Row → Result ⊤ ℕ
   run ms ws = tries ms (all_parts ws)
 
   added_right : (st : List (List ℕ)) (p : Parts) (qs : List Parts) → is_right_t ss claim used true st p qs ≡ true
@@ -175,7 +173,7 @@ module _ (claim : List ℕ) (ss : List Slot) (used : ℕ) where
   one_row (outer space up at z) b = (Outer space up at z, refl)
   one_row (case name z) b = (Case name z, refl)
 
-  turn_right : (t : Bool) (n : ℕ) (o : Option ℕ) (x y : Tried) → x ≡ or_tried o y → pick t x (Breaks n) ≡ or_tried (when t then o else some n) y
+  turn_right : (t : Bool) (n : ℕ) (o : Option ℕ) (x y : Result ⊤ ℕ) → x ≡ or_tried o y → pick t x (Err n) ≡ or_tried (when t then o else some n) y
   unfolding pick or_tried when◌then◌else◌
   turn_right true n o x y e = e
   turn_right false n o x y e = refl
@@ -188,7 +186,7 @@ module _ (claim : List ℕ) (ss : List Slot) (used : ℕ) where
     st₀ = open_scope_t name k ∷ st
 
     operand_row_lem : (n : ℕ) (o w : Operand) (r : Row) (ms : List Mark) (ws : List Row) → Bare o → operand_row o ≡ r ∷ [] → blank_operand o ≡ blank_operand w → Narrow w → LowOperand w → Settled ws
-        → run (mark false st₀ n (as_parts r) ∷ ms) (operand_row w ++ ws) ≡ pick (operand_right here outside w o) (run ms ws) (Breaks n)
+        → run (mark false st₀ n (as_parts r) ∷ ms) (operand_row w ++ ws) ≡ pick (operand_right here outside w o) (run ms ws) (Err n)
     unfolding tries next_in pick
     operand_row_lem n o w r ms ws b p e t low s = rw (operand_right_lem claim ss used kind name k cs K l st outside O o w r ws b p e t low, next_operand w ws s)
 
@@ -349,7 +347,7 @@ module _ (claim : List ℕ) (ss : List Slot) (used : ℕ) where
           holds_run n (scope kind name cs₀) (open_scope_t name k ∷ st) outside h w c s₀ ms ws (λ ks. site_head kind name k cs₀ st outside h w n ks (flatten s₀ ++ ws) S (holds_heads h w c s₀ e) b.0 t low (settled_scope s₀ ws))
           (scope_run c (n + length (head_rows h)) (open_scope_t name k ∷ st) (table (scope kind name cs₀) ∷ outside) s₀ ms ws K (site_opened kind name k cs₀ st outside S) a b.1 (same_inner h w c s₀ e) li ti (omega arith) s)
 
-  no_rows_lem : run [] [] ≡ Passes
+  no_rows_lem : run [] [] ≡ Ok tt
   unfolding tries
   no_rows_lem = refl
 

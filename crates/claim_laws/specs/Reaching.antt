@@ -1,5 +1,5 @@
 -- What the code finds for names and numbers in the open scopes of a claim is what the rules say.
-use Rattle.std.specs.Prelude.{◌≡◌, Bool, ◌&&◌, ltb, length, get_or}
+use Rattle.std.specs.Prelude.{◌≡◌, Bool, ◌&&◌, ltb, length, get_or, Option as CodeOption, Some, None, ℕ}
 use Rattle.std.proofs.Math.Path.{refl, ap, ap₂}
 use Rattle.std.proofs.Common.{sym, ◌∙◌, add-one}
 use Rattle.std.proofs.Math.Bool.{true, false}
@@ -13,12 +13,6 @@ use Rattle.kit.specs.Pick.{pick}
 use Rattle.parts.specs.PartsAt.{parts_at, parts}
 use Rattle.parts.specs.declared.Parts.{Parts}
 use Rattle.names.specs.Table.{Slot, find_in, no_scope}
-use Rattle.names.specs.declared.Found.{Found}
-use Rattle.names.specs.declared.Found.TheVariants as found
-use Rattle.names.specs.declared.Met.{Met}
-use Rattle.names.specs.declared.Met.TheVariants as met
-use Rattle.names.specs.declared.Named.{Named}
-use Rattle.names.specs.declared.Named.TheVariants as named
 use Rattle.rules.specs.Tools.{when◌then◌else◌, only, ◌then◌, ◌or_else◌}
 use Rattle.rules.specs.Versions.{top_name}
 use Rattle.rules.specs.Rows.{Index, Num, Id, Row, Field, Decl, Ref, Path, Outer, Export, encode, flag, number}
@@ -32,8 +26,6 @@ use Rattle.checking.specs.Check.{is_number, has_numbers, not_number, ref_number,
 use Rattle.checking.proofs.Laws.Plainly.{plain_table}
 use Rattle.claim_scopes.specs.Open.{open_scope_t, name_in, row_in}
 use Rattle.claim_scopes.specs.Entries.{entry_key_t, entry_of, look_t}
-use Rattle.claim_scopes.specs.declared.entries.Entry.{Entry}
-use Rattle.claim_scopes.specs.declared.entries.Entry.TheVariants.{Value, Nothing}
 use Rattle.claim_reach.specs.Alias.{reach_counted_t, reached_t, reach_code_t, export_code, outer_at, export_at, outer_in, export_in, through_outer_t, through_export_t}
 use Rattle.claim_reach.specs.Outward.{or_further, reach_out_t}
 use Rattle.claim_reach.specs.declared.alias.Sought.{Sought}
@@ -44,21 +36,22 @@ use Rattle.claim_laws.specs.RowParts.{as_parts, all_parts, Stands}
 use Rattle.claim_laws.specs.AliasShape.{AliasOf, of_export, of_outer}
 use Rattle.claim_laws.specs.Found.{number_from}
 use Rattle.claim_laws.specs.Known.{AliasHead, AliasAt, nowhere, there, Known}
+use Rattle.names.specs.declared.Met.{Met}
 
 -- ---- as the code says it
 
-unfoldable pub entered : Option ℕ → Entry
-entered none = Nothing
-entered (some n) = Value n
+unfoldable pub entered : Option ℕ → CodeOption ℕ
+entered none = None
+entered (some n) = Some n
 
-unfoldable pub met_at : Option (ℕ × ℕ) → Met
-met_at none = met.Nowhere
-met_at (some at) = met.At at.0 at.1
+unfoldable pub met_at : Option (ℕ × ℕ) → CodeOption Met
+met_at none = None
+met_at (some at) = Some (record { out = at.0; number = at.1 })
 
 entry_number : (o : Option ℕ) → entry_of (number_from 0 o) ≡ entered o
 unfolding entry_of number_from entered
 entry_number none = refl
-entry_number (some n) = ap Value (omega arith)
+entry_number (some n) = ap Some (omega arith)
 
 pub met_same : (a b : Option (ℕ × ℕ)) → is_met_t (met_at a) (met_at b) ≡ same_pair a b
 unfolding is_met_t met_at same_pair
@@ -118,12 +111,12 @@ module _ (claim : List ℕ) where
           let S = alias_rows r h A.decl (outer space (Num d) (Num n) z) none (Outer space (Num d) (Num n) z) A.alone (unfold operand_row in refl) o' x s in
           outer_there r h space d n z S.0 S.1.0 c o'
 
-  outer_reached : (f : Found) (o : Option Head) → AliasAt (parts_at claim) f o → outer_in claim (entry_of f) ≡ met_at (o then outer_of)
+  outer_reached : (f : CodeOption ℕ) (o : Option Head) → AliasAt (parts_at claim) f o → outer_in claim (entry_of f) ≡ met_at (o then outer_of)
   unfolding outer_in entry_of ◌then◌
-  outer_reached found.Nothing none nowhere = unfold met_at in refl
-  outer_reached (found.At n) (some g) (there r h s A) = outer_alias_lem r h s A
-  outer_reached (found.At n) none x'' = elim x'' [ ]
-  outer_reached found.Nothing (some g) x3 = elim x3 [ ]
+  outer_reached None none nowhere = unfold met_at in refl
+  outer_reached (Some n) (some g) (there r h s A) = outer_alias_lem r h s A
+  outer_reached (Some n) none x'' = elim x'' [ ]
+  outer_reached None (some g) x3 = elim x3 [ ]
 
   -- ---- through one alias of an export
 
@@ -137,7 +130,7 @@ module _ (claim : List ℕ) where
       go true e = unfold export_code pick when◌then◌else◌ in rw e
       go false e = unfold export_code pick when◌then◌else◌ in rw e
 
-  by_tests : (a b : Bool) (h : Head) (n : ℕ) → (first h.operands then ref_number) ≡ some n → pick a (pick b (Value n) Nothing) Nothing ≡ entered (only (a && b) h then λ h. first h.operands then ref_number)
+  by_tests : (a b : Bool) (h : Head) (n : ℕ) → (first h.operands then ref_number) ≡ some n → pick a (pick b (Some n) None) None ≡ entered (only (a && b) h then λ h. first h.operands then ref_number)
   unfolding pick entered only ◌then◌
   by_tests true true h n e = rw e
   by_tests true false h n e = refl
@@ -176,12 +169,12 @@ module _ (claim : List ℕ) where
           export_there r h from N.0 z nm space name S.0 S.1.0 (stands_export (suc (suc (suc r))) nm S.1.1) o' x
       go (of_outer space' up at z o x c) = export_other r h space name (alias_rows r h A.decl (outer space' up at z) none (Outer space' up at z) A.alone (unfold operand_row in refl) o x s).0 c
 
-  export_reached : (f : Found) (o : Option Head) (space name : ℕ) → AliasAt (parts_at claim) f o → export_in claim space name (entry_of f) ≡ entered (o then export_of space name)
+  export_reached : (f : CodeOption ℕ) (o : Option Head) (space name : ℕ) → AliasAt (parts_at claim) f o → export_in claim space name (entry_of f) ≡ entered (o then export_of space name)
   unfolding export_in entry_of ◌then◌
-  export_reached found.Nothing none space name nowhere = unfold entered in refl
-  export_reached (found.At n) (some g) space name (there r h s A) = export_alias_lem r h space name s A
-  export_reached (found.At n) none space name x'' = elim x'' [ ]
-  export_reached found.Nothing (some g) space name x3 = elim x3 [ ]
+  export_reached None none space name nowhere = unfold entered in refl
+  export_reached (Some n) (some g) space name (there r h s A) = export_alias_lem r h space name s A
+  export_reached (Some n) none space name x'' = elim x'' [ ]
+  export_reached None (some g) space name x3 = elim x3 [ ]
 
 -- ---- several PATHs
 
@@ -251,7 +244,7 @@ module _ (claim : List ℕ) (ss : List Slot) (used : ℕ) where
   unfolding through_export_t reached_t look_t through_export
   known_export k fs space n name K l w = rw (row_behind k l) (export_reached claim (find_in ss (entry_key_t (k + 1) space) (reach_counted_t n)) (reached fs space n) space name (K.aliases space n w))
 
-  stop_then : (o : Option ℕ) (f : ℕ → Entry) (g : ℕ → Option ℕ) → ((m : ℕ) → f m ≡ entered (g m)) → or_stop (entered o) f ≡ entered (o then g)
+  stop_then : (o : Option ℕ) (f : ℕ → CodeOption ℕ) (g : ℕ → Option ℕ) → ((m : ℕ) → f m ≡ entered (g m)) → or_stop (entered o) f ≡ entered (o then g)
   unfolding or_stop entered ◌then◌
   stop_then none f g e = refl
   stop_then (some m) f g e = e m
@@ -286,7 +279,7 @@ module _ (claim : List ℕ) (ss : List Slot) (used : ℕ) where
   pub opened_name : (s : List ℕ) (e : Env) (space name : ℕ) → OpenedAs s e → space < 256 → name ≤ top_name → look_t ss (row_in s) space name ≡ entered (find (table_of e) space name)
   opened_name s e space name O w l = rw (O.is_scope_lem, O.is_env, plain_table O.name (declarations O.fs)) (known_name O.k O.fs space name O.known w l)
 
-  further : (o : Option ℕ) (d : ℕ) (m : Met) (w : Option (ℕ × ℕ)) → m ≡ met_at w → or_further (entered o) d m ≡ met_at (map (λ n. (d, n)) o or_else w)
+  further : (o : Option ℕ) (d : ℕ) (m : CodeOption Met) (w : Option (ℕ × ℕ)) → m ≡ met_at w → or_further (entered o) d m ≡ met_at (map (λ n. (d, n)) o or_else w)
   unfolding or_further entered met_at ◌or_else◌
   further none d m w e = e
   further (some n) d m w e = refl
@@ -301,15 +294,15 @@ module _ (claim : List ℕ) (ss : List Slot) (used : ℕ) where
       rw (opened_name s e space name O.0 w l) (further (find (table_of e) space name) d (reach_out_t ss st (d + 1) space name) (walk es (suc d) space name) i)
 
   -- by their names
-  unfoldable pub named_as : (out : ℕ) → Option ℕ → Named
-  named_as out none = named.Nowhere
-  named_as out (some d) = named.Out (out + d)
+  unfoldable pub named_as : (out : ℕ) → Option ℕ → CodeOption ℕ
+  named_as out none = None
+  named_as out (some d) = Some (out + d)
 
-  named_next : (b : Bool) (out : ℕ) (o : Option ℕ) → pick b (named.Out out) (named_as (suc out) o) ≡ named_as out (when b then some 0 else map suc o)
+  named_next : (b : Bool) (out : ℕ) (o : Option ℕ) → pick b (Some out) (named_as (suc out) o) ≡ named_as out (when b then some 0 else map suc o)
   unfolding pick named_as when◌then◌else◌
-  named_next true out o = ap named.Out (omega arith)
+  named_next true out o = ap Some (omega arith)
   named_next false out none = refl
-  named_next false out (some d) = ap named.Out (omega arith)
+  named_next false out (some d) = ap Some (omega arith)
 
   opened_as : (s : List ℕ) (e : Env) → OpenedAs s e → name_in s ≡ e.name
   unfolding plainly

@@ -1,5 +1,5 @@
 -- Condition 2: on the rows of an input and of a claim the code finds the row that the rules name.
-use Rattle.std.specs.Prelude.{◌≡◌, Bool, true, false, ◌&&◌, ◌||◌, not, ℕ, zero, suc, ◌+◌, ◌-◌, ◌≤◌, eqb, ltb, length}
+use Rattle.std.specs.Prelude.{◌≡◌, Bool, true, false, ◌&&◌, ◌||◌, not, ℕ, zero, suc, ◌+◌, ◌-◌, ◌≤◌, eqb, ltb, length, Result, Ok, Err, ⊤}
 use Rattle.std.proofs.Math.Path.{refl}
 use Rattle.std.proofs.Common.{sym, ap, ap₂, ◌∙◌, arith, add-one, lt-ltb, le-ltb, eqb-true, ne_eqb}
 use Rattle.std.proofs.Math.Bool.{and_assoc}
@@ -16,14 +16,12 @@ use Rattle.rules.specs.Readings.{is_inserted}
 use Rattle.checking.specs.Check.{is_path, kept, same_parts, without_paths, Claimed, own, added, scope_claimed, fields_claimed, item_claimed, differs, condition2}
 use Rattle.claim_rows.specs.Added.{is_added_t}
 use Rattle.claim_rows.specs.Same.{depth_behind_t, is_same_t, other_t, same_breaks_t, past_paths, same_next_t, rows_behind_t, rest_t, differs_t}
-use Rattle.claim_rows.specs.declared.Tried.{Tried}
-use Rattle.claim_rows.specs.declared.Tried.TheVariants.{Passes, Breaks}
 use Rattle.claim_laws.specs.RowParts.{of_raw, as_parts, all_parts, code_in, NoDecl, behind_field, operands_no_decl, any_fresh_lem, fields_no_decl, scope_no_decl, Inner, inner_behind}
 
 -- what the rules find, as the code says it
-abbrev pub tried : Option ℕ → Tried
-tried none = Passes
-tried (some row) = Breaks row
+abbrev pub tried : Option ℕ → Result ⊤ ℕ
+tried none = Ok tt
+tried (some row) = Err row
 
 -- ---- rows marked as the code takes them
 
@@ -139,18 +137,18 @@ positive : (k : ℕ) → ltb 0 (suc k) ≡ true
 positive k = lt-ltb 0 (suc k) (omega arith)
 
 added_turn : (t : Bool) (r : Row) (rs : List Row) (n k : ℕ) (qs : List Row) → Settled qs → is_path (encode r) ≡ t → Found (suc n) (suc k) rs
-    → pick (same_breaks_t (as_parts r) (suc k) (all_parts qs)) (Breaks n) (differs_t (suc n) (suc k) (all_parts rs) (rows_behind_t (suc k) (all_parts qs))) ≡ tried (when t then some n else differs (suc n) (marks (suc k) rs) (without_paths qs))
+    → pick (same_breaks_t (as_parts r) (suc k) (all_parts qs)) (Err n) (differs_t (suc n) (suc k) (all_parts rs) (rows_behind_t (suc k) (all_parts qs))) ≡ tried (when t then some n else differs (suc n) (marks (suc k) rs) (without_paths qs))
 unfolding same_breaks_t rows_behind_t pick when◌then◌else◌
 added_turn true r rs n k qs s h f = rw (is_path_lem r, h)
 added_turn false r rs n k qs s h f = rw (is_path_lem r, h, positive k) (f qs s)
 
-missing_turn : (t : Bool) (r : Row) (n : ℕ) (X : Tried) → is_path (encode r) ≡ t → pick (same_breaks_t (as_parts r) 0 []) (Breaks n) X ≡ Breaks n
+missing_turn : (t : Bool) (r : Row) (n : ℕ) (X : Result ⊤ ℕ) → is_path (encode r) ≡ t → pick (same_breaks_t (as_parts r) 0 []) (Err n) X ≡ Err n
 unfolding same_breaks_t other_t pick
 missing_turn true r n X h = rw (is_path_lem r, h)
 missing_turn false r n X h = rw (is_path_lem r, h)
 
 own_turn : (t u : Bool) (r q : Row) (rs qs : List Row) (n : ℕ) → is_path (encode r) ≡ t → same_parts (kept (encode r)) (kept (encode q)) ≡ u → Found (suc n) 0 rs
-    → pick (same_breaks_t (as_parts r) 0 (all_parts (q ∷ qs))) (Breaks n) (differs_t (suc n) 0 (all_parts rs) (rows_behind_t 0 (all_parts (q ∷ qs)))) ≡ tried (when t then some n else when u then differs (suc n) (marks 0 rs) (without_paths qs) else some n)
+    → pick (same_breaks_t (as_parts r) 0 (all_parts (q ∷ qs))) (Err n) (differs_t (suc n) 0 (all_parts rs) (rows_behind_t 0 (all_parts (q ∷ qs)))) ≡ tried (when t then some n else when u then differs (suc n) (marks 0 rs) (without_paths qs) else some n)
 unfolding same_breaks_t rows_behind_t other_t same_next_t all_parts pick when◌then◌else◌
 own_turn true u r q rs qs n h g f = rw (is_path_lem r, h)
 own_turn false true r q rs qs n h g f = rw (is_path_lem r, h, same_row r q, g) (rw (onward_parts qs) (f (onward qs) (onward_settled qs) ∙ rw (onward_without qs)))
@@ -162,7 +160,7 @@ rest_turn n [] s = refl
 rest_turn n (q ∷ qs) s = rw s
 
 turn : (r : Row) (rs : List Row) (n d : ℕ) (qs : List Row) → Settled qs → Found (suc n) d rs
-    → pick (same_breaks_t (as_parts r) d (all_parts qs)) (Breaks n) (differs_t (suc n) d (all_parts rs) (rows_behind_t d (all_parts qs))) ≡ tried (differs n (mark d r ∷ marks d rs) (without_paths qs))
+    → pick (same_breaks_t (as_parts r) d (all_parts qs)) (Err n) (differs_t (suc n) d (all_parts rs) (rows_behind_t d (all_parts qs))) ≡ tried (differs n (mark d r ∷ marks d rs) (without_paths qs))
 unfolding mark differs without_paths when◌then◌else◌
 turn r rs n (suc k) qs s f = added_turn (is_path (encode r)) r rs n k qs s refl f
 turn r rs n zero [] s f = unfold all_parts in missing_turn (is_path (encode r)) r n _ refl

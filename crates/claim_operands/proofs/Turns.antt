@@ -1,4 +1,5 @@
 -- Each way through the code that goes over the rows finds what its twin finds.
+use Rattle.std.specs.Prelude.{Result, Ok, Err, ⊤, ℕ}
 use mathlib.Core.Path.{◌≡◌, refl, sym, ap, ◌∙◌}
 use mathlib.Core.Bool.{Bool, true, false, not}
 use mathlib.Core.List.{List, [], ◌∷◌}
@@ -16,8 +17,6 @@ use Rattle.index.specs.Indexed.{Holds}
 use Rattle.claim_rows.specs.Left.{rows_at}
 use Rattle.claim_rows.specs.Added.{is_added_t}
 use Rattle.claim_rows.specs.Same.{past_paths, same_next_t}
-use Rattle.claim_rows.specs.declared.Tried.{Tried}
-use Rattle.claim_rows.specs.declared.Tried.TheVariants.{Passes, Breaks}
 use Rattle.claim_rows.proofs.Ways.{is_false, is_true, rows_there, rows_past}
 use Rattle.claim_scopes.specs.Open.{open_behind_t, open_in, open_one_t}
 use Rattle.claim_scopes.proofs.Held.{open_behind}
@@ -85,7 +84,7 @@ on_is p i input scopes scopes' c d r o n = record { opened = o; left = n; added 
 -- ---- try_operands
 
 -- what a turn of the loop keeps
-pub record Goes (table : List Slot) (index claim input : List ℕ) (used : ℕ) (scopes : List (List ℕ)) (c : Cursor) (i : ℕ) (T : Tried) : Type 0 where
+pub record Goes (table : List Slot) (index claim input : List ℕ) (used : ℕ) (scopes : List (List ℕ)) (c : Cursor) (i : ℕ) (T : Result ⊤ ℕ) : Type 0 where
   pub goes : try_operands_t (take used table) claim used i c.added (open_in scopes c.depth) (rows_at claim i) (rows_at input c.next) ≡ T
   pub is_used : c.used ≡ used
   pub held : Holds table index c.used
@@ -97,8 +96,8 @@ module _ (table : List Slot) (index claim input : List ℕ) (used : ℕ) where
   unfolding open_in
   goes_start h = record { goes = refl; is_used = refl; held = h; deep = omega arith; long = length-replicate 64 no_scope }
 
-  module _ (scopes : List (List ℕ)) (c : Cursor) (i : ℕ) (T : Tried) (g : Goes table index claim input used scopes c i T) where
-    pub goes_end : length claim / 16 ≤ i → Passes ≡ T
+  module _ (scopes : List (List ℕ)) (c : Cursor) (i : ℕ) (T : Result ⊤ ℕ) (g : Goes table index claim input used scopes c i T) where
+    pub goes_end : length claim / 16 ≤ i → Ok tt ≡ T
     unfolding try_operands_t
     goes_end h = rw (rows_past claim i h) at g.goes
 
@@ -112,13 +111,13 @@ module _ (table : List Slot) (index claim input : List ℕ) (used : ℕ) where
       used_at = rw k g.is_used
 
       module _ (t : Bool) (r : t ≡ is_right_t (take m.used table) claim m.used m.added (open_in scopes m.depth) p (rows_at input m.next)) where
-        turn : pick t (try_operands_t (take used table) claim used (i + 1) m.added (open_one_t 64 (open_in scopes m.depth) p i) (rows_at claim (i + 1)) (next_in m.added (rows_at input m.next))) (Breaks i) ≡ T
+        turn : pick t (try_operands_t (take used table) claim used (i + 1) m.added (open_one_t 64 (open_in scopes m.depth) p i) (rows_at claim (i + 1)) (next_in m.added (rows_at input m.next))) (Err i) ≡ T
         unfolding try_operands_t operand_at_t
         turn =
             let u : t ≡ is_right_t (take used table) claim used m.added (open_in scopes m.depth) p (rows_at input m.next) = r ∙ ap (λ (n : ℕ). is_right_t (take n table) claim n m.added (open_in scopes m.depth) p (rows_at input m.next)) used_at in
             rw (u, k, e) (rw (rows_there claim i h) at g.goes)
 
-        pub goes_breaks : not t ≡ true → Breaks i ≡ T
+        pub goes_breaks : not t ≡ true → Err i ≡ T
         unfolding pick
         goes_breaks z = rw (is_false t z) at turn
 

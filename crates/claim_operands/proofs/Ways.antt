@@ -1,4 +1,5 @@
 -- Each way through the code that tries an operand finds what its twin finds.
+use Rattle.std.specs.Prelude.{Option, Some, None, ℕ}
 use mathlib.Core.Path.{◌≡◌, refl, sym, ap, ◌∙◌}
 use mathlib.Core.Logic.{⊎_elim}
 use mathlib.Core.Bool.{Bool, true, false, ◌&&◌}
@@ -14,17 +15,11 @@ use Rattle.kit.proofs.Laws.{down, lt_or_le}
 use Rattle.parts.specs.PartsAt.{parts_at}
 use Rattle.parts.specs.declared.Parts.{Parts}
 use Rattle.names.specs.Table.{Slot, no_scope, scope_at, named_from}
-use Rattle.names.specs.declared.Met.{Met}
-use Rattle.names.specs.declared.Met.TheVariants.{At, Nowhere}
-use Rattle.names.specs.declared.Named.{Named}
-use Rattle.names.specs.declared.Named.TheVariants as named
 use Rattle.index.specs.Indexed.{Holds}
 use Rattle.claim_rows.specs.Left.{rows_at}
 use Rattle.claim_rows.proofs.Ways.{rows_there, rows_past}
 use Rattle.claim_scopes.specs.Open.{name_in, row_in, open_in, here_t, open_closed_t}
 use Rattle.claim_scopes.specs.Entries.{look_t}
-use Rattle.claim_scopes.specs.declared.entries.Entry.{Entry}
-use Rattle.claim_scopes.specs.declared.entries.Entry.TheVariants.{Value, Nothing}
 use Rattle.claim_scopes.proofs.Held.{open_length}
 use Rattle.claim_reach.specs.Alias.{through_outer_t, through_export_t}
 use Rattle.claim_reach.specs.Outward.{reach_out_t}
@@ -32,6 +27,7 @@ use Rattle.claim_reach.specs.declared.alias.Sought.{Sought}
 use Rattle.claim_operands.specs.Paths.{no_parts, onward, or_stop, through_paths_t, instance_space, is_number, instance_t}
 use Rattle.claim_operands.specs.Reference.{is_met_t, seeking, further_t, own_or, name_right_t, ref_from_t, path_right_t, ref_right_t}
 use Rattle.claim_operands.specs.Outer.{named_in, up_t, at_right_t, up_right_t, outer_right_t}
+use Rattle.names.specs.declared.Met.{Met}
 
 -- ---- rows behind a row
 
@@ -51,7 +47,7 @@ row_behind l first (suc k) =
 -- ---- references with PATHs
 
 -- what a turn of the loop keeps
-pub record Follows (table : List Slot) (index claim input : List ℕ) (first used left : ℕ) (s : Sought) (T : Entry) : Type 0 where
+pub record Follows (table : List Slot) (index claim input : List ℕ) (first used left : ℕ) (s : Sought) (T : Option ℕ) : Type 0 where
   pub goes : through_paths_t (take used table) claim (rows_at input first) left s ≡ T
   pub is_used : s.used ≡ used
   pub held : Holds table index s.used
@@ -59,23 +55,23 @@ pub record Follows (table : List Slot) (index claim input : List ℕ) (first use
 pub follows_start : (table : List Slot) (index claim input : List ℕ) (first left : ℕ) (s : Sought) → Holds table index s.used → Follows table index claim input first s.used left s (through_paths_t (take s.used table) claim (rows_at input first) left s)
 follows_start table index claim input first left s h = record { goes = refl; is_used = refl; held = h }
 
-module _ (table : List Slot) (index claim input : List ℕ) (first used left : ℕ) (s : Sought) (T : Entry) (g : Follows table index claim input first used left s T) where
-  pub follows_end : left ≤ 0 → Value s.number ≡ T
+module _ (table : List Slot) (index claim input : List ℕ) (first used left : ℕ) (s : Sought) (T : Option ℕ) (g : Follows table index claim input first used left s T) where
+  pub follows_end : left ≤ 0 → Some s.number ≡ T
   unfolding through_paths_t
   follows_end h = let z : left ≡ 0 = omega arith in rw z at g.goes
 
-  module _ (h : 0 < left) (q : Parts) (r : q ≡ parts_at input (first + (left - 1))) (e : Entry) (f : e ≡ through_export_t (take s.used table) claim s q.x) where
+  module _ (h : 0 < left) (q : Parts) (r : q ≡ parts_at input (first + (left - 1))) (e : Option ℕ) (f : e ≡ through_export_t (take s.used table) claim s q.x) where
     followed : or_stop e (λ n. through_paths_t (take used table) claim (rows_at input first) (left - 1) (onward s n)) ≡ T
     unfolding through_paths_t
     followed =
         let k : e ≡ through_export_t (take used table) claim s q.x = f ∙ ap (λ (n : ℕ). through_export_t (take n table) claim s q.x) g.is_used in
         rw (k, r, row_behind input first (left - 1)) (rw (down left h) at g.goes)
 
-    pub follows_stop : e ≡ Nothing → Nothing ≡ T
+    pub follows_stop : e ≡ None → None ≡ T
     unfolding or_stop
     follows_stop z = rw z at followed
 
-    pub follows_on : (n : ℕ) (m : Sought) → e ≡ Value n → m ≡ onward s n → Follows table index claim input first used (left - 1) m T
+    pub follows_on : (n : ℕ) (m : Sought) → e ≡ Some n → m ≡ onward s n → Follows table index claim input first used (left - 1) m T
     unfolding or_stop
     follows_on n m z w = record { goes = rw w (rw z at followed); is_used = rw w g.is_used; held = rw w g.held }
 
@@ -94,12 +90,12 @@ module _ (ss : List Slot) (scope : ℕ) (q : Parts) (number : ℕ) where
   unfolding instance_t pick
   instance_written h = rw (eq-eqb _ _ h)
 
-  module _ (h : q.e ≡ 0 → ⊥) (space : ℕ) (k : space ≡ instance_space q.b) (e : Entry) (f : e ≡ look_t ss scope space q.x) where
-    pub instance_named : (own : ℕ) → e ≡ Value own → eqb number own ≡ instance_t ss scope q number
+  module _ (h : q.e ≡ 0 → ⊥) (space : ℕ) (k : space ≡ instance_space q.b) (e : Option ℕ) (f : e ≡ look_t ss scope space q.x) where
+    pub instance_named : (own : ℕ) → e ≡ Some own → eqb number own ≡ instance_t ss scope q number
     unfolding instance_t pick is_number
     instance_named own z = rw (ne_eqb _ _ h, ← k, ← f, z)
 
-    pub instance_none : e ≡ Nothing → false ≡ instance_t ss scope q number
+    pub instance_none : e ≡ None → false ≡ instance_t ss scope q number
     unfolding instance_t pick is_number
     instance_none z = rw (ne_eqb _ _ h, ← k, ← f, z)
 
@@ -107,15 +103,15 @@ pub ruleset instances = (instance_core, instance_other, instance_written, instan
 
 -- ---- other references
 
-pub met_none : (a b : Met) → a ≡ Nowhere → false ≡ is_met_t a b
+pub met_none : (a b : Option Met) → a ≡ None → false ≡ is_met_t a b
 unfolding is_met_t
 met_none a b h = rw h
 
-pub met_first : (a b : Met) (out number : ℕ) → a ≡ At out number → b ≡ Nowhere → false ≡ is_met_t a b
+pub met_first : (a b : Option Met) (out number : ℕ) → a ≡ Some (record { out = out; number = number }) → b ≡ None → false ≡ is_met_t a b
 unfolding is_met_t
 met_first a b out number h g = rw (h, g)
 
-pub met_both : (a b : Met) (out number o n : ℕ) → a ≡ At out number → b ≡ At o n → (eqb out o && eqb number n) ≡ is_met_t a b
+pub met_both : (a b : Option Met) (out number o n : ℕ) → a ≡ Some (record { out = out; number = number }) → b ≡ Some (record { out = o; number = n }) → (eqb out o && eqb number n) ≡ is_met_t a b
 unfolding is_met_t
 met_both a b out number o n h g = rw (h, g)
 
@@ -128,37 +124,37 @@ open_close scopes zero = refl
 open_close scopes (suc k) = let q : suc k - 1 ≡ k = omega arith in rw q
 
 module _ (ss : List Slot) (claim : List ℕ) (used : ℕ) (scopes : List (List ℕ)) (depth : ℕ) (q : Parts) (number : ℕ) where
-  pub further_is : (scope around : ℕ) (m o : Met) (t : Bool) → scope ≡ here_t (open_in scopes depth) → around ≡ depth - 1 → m ≡ through_outer_t ss claim (seeking used scope q.b number) → o ≡ reach_out_t ss (open_in scopes around) 1 q.b q.x → t ≡ is_met_t m o
+  pub further_is : (scope around : ℕ) (m o : Option Met) (t : Bool) → scope ≡ here_t (open_in scopes depth) → around ≡ depth - 1 → m ≡ through_outer_t ss claim (seeking used scope q.b number) → o ≡ reach_out_t ss (open_in scopes around) 1 q.b q.x → t ≡ is_met_t m o
       → t ≡ further_t ss claim used (open_in scopes depth) q number
   unfolding further_t
   further_is scope around m o t h k e f g = rw (← h, ← open_close scopes depth, ← k, ← e, ← f) g
 
-  module _ (scope : ℕ) (h : scope ≡ here_t (open_in scopes depth)) (e : Entry) (f : e ≡ look_t ss scope q.b q.x) where
-    pub name_here : (own : ℕ) → e ≡ Value own → eqb number own ≡ name_right_t ss claim used (open_in scopes depth) q number
+  module _ (scope : ℕ) (h : scope ≡ here_t (open_in scopes depth)) (e : Option ℕ) (f : e ≡ look_t ss scope q.b q.x) where
+    pub name_here : (own : ℕ) → e ≡ Some own → eqb number own ≡ name_right_t ss claim used (open_in scopes depth) q number
     unfolding name_right_t own_or
     name_here own z = rw (← h, ← f, z)
 
-    pub name_further : (t : Bool) → e ≡ Nothing → t ≡ further_t ss claim used (open_in scopes depth) q number → t ≡ name_right_t ss claim used (open_in scopes depth) q number
+    pub name_further : (t : Bool) → e ≡ None → t ≡ further_t ss claim used (open_in scopes depth) q number → t ≡ name_right_t ss claim used (open_in scopes depth) q number
     unfolding name_right_t own_or
     name_further t z g = rw (← h, ← f, z) g
 
 pub ruleset naming = (name_here, name_further, rules)
 
-module _ (ss : List Slot) (claim : List ℕ) (used scope : ℕ) (q : Parts) (qs : List Parts) (number : ℕ) (e : Entry) (f : e ≡ through_paths_t ss claim qs q.y (seeking used scope q.b number)) where
-  pub path_ends : (from : ℕ) (t : Bool) → e ≡ Value from → t ≡ instance_t ss scope q from → t ≡ path_right_t ss claim used scope q qs number
+module _ (ss : List Slot) (claim : List ℕ) (used scope : ℕ) (q : Parts) (qs : List Parts) (number : ℕ) (e : Option ℕ) (f : e ≡ through_paths_t ss claim qs q.y (seeking used scope q.b number)) where
+  pub path_ends : (from : ℕ) (t : Bool) → e ≡ Some from → t ≡ instance_t ss scope q from → t ≡ path_right_t ss claim used scope q qs number
   unfolding path_right_t ref_from_t
   path_ends from t z g = rw (← f, z) g
 
-  pub path_none : e ≡ Nothing → false ≡ path_right_t ss claim used scope q qs number
+  pub path_none : e ≡ None → false ≡ path_right_t ss claim used scope q qs number
   unfolding path_right_t ref_from_t
   path_none z = rw (← f, z)
 
 -- the same of the row itself
-module _ (ss : List Slot) (claim input : List ℕ) (used scope next number : ℕ) (q : Parts) (k : q ≡ parts_at input next) (e : Entry) (f : e ≡ through_paths_t ss claim (rows_at input (next + 1)) q.y (seeking used scope q.b number)) where
-  pub path_leads : (from : ℕ) (t : Bool) → e ≡ Value from → t ≡ instance_t ss scope q from → t ≡ path_right_t ss claim used scope (parts_at input next) (rows_at input (next + 1)) number
+module _ (ss : List Slot) (claim input : List ℕ) (used scope next number : ℕ) (q : Parts) (k : q ≡ parts_at input next) (e : Option ℕ) (f : e ≡ through_paths_t ss claim (rows_at input (next + 1)) q.y (seeking used scope q.b number)) where
+  pub path_leads : (from : ℕ) (t : Bool) → e ≡ Some from → t ≡ instance_t ss scope q from → t ≡ path_right_t ss claim used scope (parts_at input next) (rows_at input (next + 1)) number
   path_leads from t z g = rw (← k) (path_ends ss claim used scope q (rows_at input (next + 1)) number e f from t z g)
 
-  pub path_stops : e ≡ Nothing → false ≡ path_right_t ss claim used scope (parts_at input next) (rows_at input (next + 1)) number
+  pub path_stops : e ≡ None → false ≡ path_right_t ss claim used scope (parts_at input next) (rows_at input (next + 1)) number
   path_stops z = rw (← k) (path_none ss claim used scope q (rows_at input (next + 1)) number e f z)
 
 pub ruleset pathing = (path_leads, path_stops, rules)
@@ -198,19 +194,19 @@ all_named_lem : (scopes : List (List ℕ)) (depth name : ℕ) → named_from sco
 all_named_lem scopes depth name = let e : depth - depth ≡ 0 = omega arith in named_list scopes depth depth name (omega arith) ∙ rw e
 
 module _ (scopes : List (List ℕ)) (depth : ℕ) (q : Parts) where
-  pub up_written : q.e % 2 ≡ 0 → named.Out q.x ≡ up_t (open_in scopes depth) q
+  pub up_written : q.e % 2 ≡ 0 → Some q.x ≡ up_t (open_in scopes depth) q
   unfolding up_t pick
   up_written h = rw (eq-eqb _ _ h)
 
-  module _ (h : q.e % 2 ≡ 0 → ⊥) (n : Named) (f : n ≡ named_from scopes depth depth q.x) where
+  module _ (h : q.e % 2 ≡ 0 → ⊥) (n : Option ℕ) (f : n ≡ named_from scopes depth depth q.x) where
     up_is : n ≡ up_t (open_in scopes depth) q
     unfolding up_t pick
     up_is = rw (ne_eqb _ _ h) (f ∙ all_named_lem scopes depth q.x)
 
-    pub up_named : (up : ℕ) → n ≡ named.Out up → named.Out up ≡ up_t (open_in scopes depth) q
+    pub up_named : (up : ℕ) → n ≡ Some up → Some up ≡ up_t (open_in scopes depth) q
     up_named up z = rw (← z) up_is
 
-    pub up_none : n ≡ named.Nowhere → named.Nowhere ≡ up_t (open_in scopes depth) q
+    pub up_none : n ≡ None → None ≡ up_t (open_in scopes depth) q
     up_none z = rw (← z) up_is
 
 pub ruleset upward = (up_written, up_named, up_none, rules)
@@ -237,16 +233,16 @@ module _ (ss : List Slot) (scopes : List (List ℕ)) (d up : ℕ) (q p : Parts) 
       unfolding at_right_t pick
       at_written k = rw (open_length scopes d, lt-leb _ _ h, eq-eqb _ _ g, lt-ltb _ _ k)
 
-      module _ (k : 2 ≤ q.e) (scope : List ℕ) (s : scope ≡ scope_at scopes (d - 1 - up)) (e : Entry) (f : e ≡ look_t ss (get_or scope 1 0) q.b q.y) where
+      module _ (k : 2 ≤ q.e) (scope : List ℕ) (s : scope ≡ scope_at scopes (d - 1 - up)) (e : Option ℕ) (f : e ≡ look_t ss (get_or scope 1 0) q.b q.y) where
         at_is : is_number e p.y ≡ at_right_t ss (open_in scopes d) up q p
         unfolding at_right_t pick
         at_is = rw (open_length scopes d, lt-leb _ _ h, eq-eqb _ _ g, le-ltb _ _ k, scope_out scopes d up h, ← s, ← f)
 
-        pub at_named : (own : ℕ) → e ≡ Value own → eqb p.y own ≡ at_right_t ss (open_in scopes d) up q p
+        pub at_named : (own : ℕ) → e ≡ Some own → eqb p.y own ≡ at_right_t ss (open_in scopes d) up q p
         unfolding is_number
         at_named own z = rw z at at_is
 
-        pub at_none : e ≡ Nothing → false ≡ at_right_t ss (open_in scopes d) up q p
+        pub at_none : e ≡ None → false ≡ at_right_t ss (open_in scopes d) up q p
         unfolding is_number
         at_none z = rw z at at_is
 
@@ -262,12 +258,12 @@ module _ (ss : List Slot) (st : List (List ℕ)) (q p : Parts) where
     unfolding outer_right_t pick
     outer_written g = rw (le-ltb _ _ h, eq-eqb _ _ g)
 
-    module _ (g : q.e ≡ 0 → ⊥) (n : Named) (f : n ≡ up_t st q) where
-      pub outer_up : (up : ℕ) (t : Bool) → n ≡ named.Out up → t ≡ at_right_t ss st up q p → t ≡ outer_right_t ss st q p
+    module _ (g : q.e ≡ 0 → ⊥) (n : Option ℕ) (f : n ≡ up_t st q) where
+      pub outer_up : (up : ℕ) (t : Bool) → n ≡ Some up → t ≡ at_right_t ss st up q p → t ≡ outer_right_t ss st q p
       unfolding outer_right_t pick up_right_t
       outer_up up t z e = rw (le-ltb _ _ h, ne_eqb _ _ g, ← f, z) e
 
-      pub outer_none : n ≡ named.Nowhere → false ≡ outer_right_t ss st q p
+      pub outer_none : n ≡ None → false ≡ outer_right_t ss st q p
       unfolding outer_right_t pick up_right_t
       outer_none z = rw (le-ltb _ _ h, ne_eqb _ _ g, ← f, z)
 

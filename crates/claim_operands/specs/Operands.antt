@@ -1,5 +1,5 @@
 -- Condition 4 as the code tries it: the claim's rows and the input's, one after another.
-use Rattle.std.specs.Prelude.{◌≡◌, Bool, true, List, [], ◌∷◌, ℕ, ◌+◌, eqb}
+use Rattle.std.specs.Prelude.{◌≡◌, Bool, true, List, [], ◌∷◌, ℕ, ◌+◌, eqb, Result, Ok, Err, ⊤}
 use Rattle.kit.specs.Pick.{pick}
 use Rattle.kit.specs.Out.{◌&◌}
 use Rattle.parts.specs.declared.Parts.{Parts}
@@ -7,8 +7,6 @@ use Rattle.names.specs.Table.{Slot}
 use Rattle.claim_rows.specs.Left.{rows_at}
 use Rattle.claim_rows.specs.Added.{is_added_t}
 use Rattle.claim_rows.specs.Same.{same_next_t}
-use Rattle.claim_rows.specs.declared.Tried.{Tried}
-use Rattle.claim_rows.specs.declared.Tried.TheVariants.{Passes, Breaks}
 use Rattle.claim_scopes.specs.Open.{open_behind_t, open_one_t}
 use Rattle.claim_operands.specs.Reference.{ref_right_t}
 use Rattle.claim_operands.specs.Outer.{outer_right_t}
@@ -41,8 +39,8 @@ module _ (ss : List Slot) (claim : List ℕ) (used : ℕ) where
       true))
 
   -- the claim's rows from row i on, and what is left of the input's
-  unfoldable pub try_operands_t : (i : ℕ) (added : Bool) (st : List (List ℕ)) (ps qs : List Parts) → Tried
-  try_operands_t i added st [] qs = Passes
+  unfoldable pub try_operands_t : (i : ℕ) (added : Bool) (st : List (List ℕ)) (ps qs : List Parts) → Result ⊤ ℕ
+  try_operands_t i added st [] qs = Ok tt
   try_operands_t i added st (p ∷ ps) qs =
       let a = is_added_t added p.code ps in
-      pick (is_right_t a st p qs) (try_operands_t (i + 1) a (open_one_t 64 st p i) ps (next_in a qs)) (Breaks i)
+      pick (is_right_t a st p qs) (try_operands_t (i + 1) a (open_one_t 64 st p i) ps (next_in a qs)) (Err i)

@@ -1,33 +1,30 @@
 -- REFs, as the code tries them: `ss` are the slots that were entered for the claim, `st` the scopes that are open, `q` is the input's REF and
 -- `qs` are the rows behind it.
-use Rattle.std.specs.Prelude.{Bool, true, false, ◌&&◌, List, ℕ, eqb, ltb}
+use Rattle.std.specs.Prelude.{Bool, true, false, ◌&&◌, List, ℕ, eqb, ltb, Option, Some, None}
 use Rattle.kit.specs.Pick.{pick}
 use Rattle.parts.specs.declared.Parts.{Parts}
 use Rattle.names.specs.Table.{Slot}
-use Rattle.names.specs.declared.Met.{Met}
-use Rattle.names.specs.declared.Met.TheVariants.{At, Nowhere}
 use Rattle.claim_scopes.specs.Open.{here_t, open_closed_t}
 use Rattle.claim_scopes.specs.Entries.{look_t}
-use Rattle.claim_scopes.specs.declared.entries.Entry.{Entry}
-use Rattle.claim_scopes.specs.declared.entries.Entry.TheVariants.{Value, Nothing}
 use Rattle.claim_reach.specs.Alias.{through_outer_t}
 use Rattle.claim_reach.specs.Outward.{reach_out_t}
 use Rattle.claim_reach.specs.declared.alias.Sought.{Sought}
 use Rattle.claim_operands.specs.Paths.{through_paths_t, instance_t}
+use Rattle.names.specs.declared.Met.{Met}
 
 -- do both lead to the same?
-unfoldable pub is_met_t : Met → Met → Bool
-is_met_t Nowhere b = false
-is_met_t (At out number) Nowhere = false
-is_met_t (At out number) (At o n) = eqb out o && eqb number n
+unfoldable pub is_met_t : Option Met → Option Met → Bool
+is_met_t None b = false
+is_met_t (Some (record { out = out; number = number })) None = false
+is_met_t (Some (record { out = out; number = number })) (Some (record { out = o; number = n })) = eqb out o && eqb number n
 
 abbrev pub seeking : (used scope space number : ℕ) → Sought
 seeking used scope space number = record { used = used; scope = scope; space = space; number = number }
 
 -- is it the number of its declaration here, or else so?
-unfoldable pub own_or : Entry → (number : ℕ) → Bool → Bool
-own_or (Value own) number else = eqb number own
-own_or Nothing number else = else
+unfoldable pub own_or : Option ℕ → (number : ℕ) → Bool → Bool
+own_or (Some own) number else = eqb number own
+own_or None number else = else
 
 module _ (ss : List Slot) (claim : List ℕ) (used : ℕ) where
   -- a name that is not declared here
@@ -39,9 +36,9 @@ module _ (ss : List Slot) (claim : List ℕ) (used : ℕ) where
   name_right_t st q number = own_or (look_t ss (here_t st) q.b q.x) number (further_t st q number)
 
   -- what a path starts from
-  unfoldable pub ref_from_t : Entry → (scope : ℕ) → Parts → Bool
-  ref_from_t (Value number) scope q = instance_t ss scope q number
-  ref_from_t Nothing scope q = false
+  unfoldable pub ref_from_t : Option ℕ → (scope : ℕ) → Parts → Bool
+  ref_from_t (Some number) scope q = instance_t ss scope q number
+  ref_from_t None scope q = false
 
   -- does a number reach what the input's REF with PATHs starts from?
   unfoldable pub path_right_t : (scope : ℕ) → Parts → List Parts → (number : ℕ) → Bool

@@ -5,20 +5,20 @@ ghost use Rattle.claim_scopes.specs.Open.{open_in};
 ghost use Rattle.claim_operands.specs.Outer.{up_t, at_right_t, outer_right_t};
 
 use crate::Cursor;
-use claim_scopes::entries::{Entry, look_up};
-use names::{Named, Scope, Slot, scope_at, scope_named};
+use claim_scopes::entries::look_up;
+use names::{Scope, Slot, scope_at, scope_named};
 use parts::Parts;
 
 // How far out the input's OUTER leads: as it is written, or to the innermost open scope of its name.
-fn up_of(scopes: &[Scope], depth: usize, q: Parts) -> Named
+fn up_of(scopes: &[Scope], depth: usize, q: Parts) -> Option<usize>
     ensures { result ≡ up_t (open_in scopes.now depth) q }
 {
     if q.e % 2 == 0 {
-        return Named::Out(q.x as usize);
+        return Some(q.x as usize);
     }
     match scope_named(scopes, depth, q.x as usize) {
-        Named::Out(up) => Named::Out(up),
-        Named::Nowhere => Named::Nowhere,
+        Some(up) => Some(up),
+        None => None,
     }
 }
 
@@ -46,8 +46,8 @@ fn at_right(
     }
     let scope = scope_at(scopes, c.depth - 1 - up);
     match look_up(table, index, c.used, scope[1], q.b, q.y) {
-        Entry::Value(own) => p.y == own,
-        Entry::Nothing => false,
+        Some(own) => p.y == own,
+        None => false,
     }
 }
 
@@ -70,7 +70,7 @@ pub(crate) fn outer_right(
         return (p.x == q.x) & (p.y == q.y);
     }
     match up_of(scopes, c.depth, q) {
-        Named::Out(up) => at_right(table, index, scopes, c, up, q, p),
-        Named::Nowhere => false,
+        Some(up) => at_right(table, index, scopes, c, up, q, p),
+        None => false,
     }
 }

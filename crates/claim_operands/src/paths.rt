@@ -5,7 +5,7 @@ ghost use Rattle.claim_rows.specs.Left.{rows_at};
 ghost use Rattle.claim_operands.specs.Paths.{onward, instance_space, through_paths_t, instance_t};
 
 use claim_reach::alias::{Sought, through_export};
-use claim_scopes::entries::{Entry, look_up};
+use claim_scopes::entries::look_up;
 use fixed::{CORE_INSTANCE, INSTANCE};
 use names::Slot;
 use parts::{Parts, parts_at};
@@ -32,7 +32,7 @@ pub(crate) fn through_paths(
     table: &[Slot],
     index: &[u16],
     sought: Sought,
-) -> Entry
+) -> Option<u32>
     requires { Holds table.now index.now sought.used × (first + count < 18446744073709551616) }
     ensures { result ≡ through_paths_t (take sought.used table.now) claim.now (rows_at input.now first) count sought }
 {
@@ -42,13 +42,13 @@ pub(crate) fn through_paths(
         left -= 1;
         let path = parts_at(input, first + left);
         match through_export(claim, table, index, s, path.x) {
-            Entry::Nothing => return Entry::Nothing,
-            Entry::Value(number) => {
+            None => return None,
+            Some(number) => {
                 s = instance_in(s, number);
             }
         }
     }
-    Entry::Value(s.number)
+    Some(s.number)
 }
 
 // The space of the instance that a path to an item of this space starts from.
@@ -78,7 +78,7 @@ pub(crate) fn is_instance(
         return number == q.x;
     }
     match look_up(table, index, used, scope, instance_space(q.b), q.x) {
-        Entry::Value(own) => number == own,
-        Entry::Nothing => false,
+        Some(own) => number == own,
+        None => false,
     }
 }

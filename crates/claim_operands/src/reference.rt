@@ -10,20 +10,20 @@ use crate::Cursor;
 use crate::paths::{is_instance, through_paths};
 use claim_reach::alias::{Sought, through_outer};
 use claim_reach::outward::outward;
-use claim_scopes::entries::{Entry, look_up};
+use claim_scopes::entries::look_up;
 use claim_scopes::open::here;
 use names::{Met, Scope, Slot};
 use parts::{Parts, parts_at};
 
 // Whether both lead to the same.
-fn is_met(a: Met, b: Met) -> bool
+fn is_met(a: Option<Met>, b: Option<Met>) -> bool
     ensures { result ≡ is_met_t a b }
 {
     match a {
-        Met::Nowhere => false,
-        Met::At { out, number } => match b {
-            Met::Nowhere => false,
-            Met::At { out: o, number: n } => (out == o) & (number == n),
+        None => false,
+        Some(Met { out, number }) => match b {
+            None => false,
+            Some(Met { out: o, number: n }) => (out == o) & (number == n),
         },
     }
 }
@@ -74,8 +74,8 @@ fn name_right(
     ensures { result ≡ name_right_t (take c.used table.now) claim.now c.used (open_in scopes.now c.depth) q number }
 {
     match look_up(table, index, c.used, here(scopes, c.depth), q.b, q.x) {
-        Entry::Value(own) => number == own,
-        Entry::Nothing => further_right(claim, table, index, scopes, c, q, number),
+        Some(own) => number == own,
+        None => further_right(claim, table, index, scopes, c, q, number),
     }
 }
 
@@ -100,8 +100,8 @@ fn path_right(
         number,
     };
     match through_paths(input, c.next + 1, q.y, claim, table, index, s) {
-        Entry::Value(from) => is_instance(table, index, c.used, scope, q, from),
-        Entry::Nothing => false,
+        Some(from) => is_instance(table, index, c.used, scope, q, from),
+        None => false,
     }
 }
 

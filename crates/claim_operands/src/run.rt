@@ -8,7 +8,6 @@ ghost use Rattle.claim_operands.specs.Operands.{operand_at_t, is_right_t, next_i
 use crate::Cursor;
 use crate::outer::outer_right;
 use crate::reference::ref_right;
-use claim_rows::Tried;
 use claim_rows::added::is_added;
 use claim_rows::same::past_paths;
 use claim_scopes::open::behind_row;
@@ -87,7 +86,13 @@ fn go_on(p: Parts, i: usize, input: &[u8], scopes: &mut [Scope], c: Cursor) -> C
 }
 
 // Tries condition 4 on the rows of an input and of a claim whose declarations were entered in the first `used` slots.
-pub fn try_operands(input: &[u8], claim: &[u8], table: &[Slot], index: &[u16], used: usize) -> Tried
+pub fn try_operands(
+    input: &[u8],
+    claim: &[u8],
+    table: &[Slot],
+    index: &[u16],
+    used: usize,
+) -> Result<(), usize>
     requires { Holds table.now index.now used }
     ensures { result ≡ try_operands_t (take used table.now) claim.now used 0 false [] (rows_at claim.now 0) (rows_at input.now 0) }
 {
@@ -105,10 +110,10 @@ pub fn try_operands(input: &[u8], claim: &[u8], table: &[Slot], index: &[u16], u
         let behind = i + 1;
         let at = at_row(p, claim, behind, c);
         if !is_right(input, claim, table, index, &scopes, at, p) {
-            return Tried::Breaks(i);
+            return Err(i);
         }
         c = go_on(p, i, input, &mut scopes, at);
         i = behind;
     }
-    Tried::Passes
+    Ok(())
 }

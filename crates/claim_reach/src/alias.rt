@@ -4,7 +4,7 @@ ghost use Rattle.std.specs.Prelude.{◌≡◌, take};
 ghost use Rattle.index.specs.Indexed.{Holds};
 ghost use Rattle.claim_reach.specs.Alias.{reach_counted_t, reached_t, reach_code_t, export_code, outer_at, export_at, through_outer_t, through_export_t};
 
-use claim_scopes::entries::{Entry, look_up};
+use claim_scopes::entries::look_up;
 use names::{Met, Slot};
 use parts::parts_at;
 
@@ -35,7 +35,7 @@ fn counted(number: u32) -> u32
 }
 
 // The row of the DECL of the added alias that is reached.
-fn reached(table: &[Slot], index: &[u16], s: Sought) -> Entry
+fn reached(table: &[Slot], index: &[u16], s: Sought) -> Option<u32>
     requires { Holds table.now index.now s.used }
     ensures { result ≡ reached_t (take s.used table.now) s }
 {
@@ -71,52 +71,58 @@ fn export_code(space: u8) -> u8
 }
 
 // How far out the alias whose DECL is that row leads, and the number there, if it is one of an outer item.
-fn outer_at(claim: &[u8], row: u32) -> Met
+fn outer_at(claim: &[u8], row: u32) -> Option<Option<Met>>
     ensures { result ≡ outer_at claim.now row }
 {
     let i = row as usize;
     if code_of(claim, i) != OUTER_ALIAS {
-        return Met::Nowhere;
+        return None;
     }
     let p = parts_at(claim, i + 1);
-    Met::At {
+    Some(Met {
         out: p.x as usize,
         number: p.y,
-    }
+    })
 }
 
 // The number of the instance of the alias whose DECL is that row, if it is one of this export.
-fn export_at(claim: &[u8], row: u32, space: u8, name: u32) -> Entry
+fn export_at(claim: &[u8], row: u32, space: u8, name: u32) -> Option<u32>
     ensures { result ≡ export_at claim.now row space name }
 {
     let i = row as usize;
     if code_of(claim, i) != export_code(space) {
-        return Entry::Nothing;
+        return None;
     }
     if parts_at(claim, i + 2).x != name {
-        return Entry::Nothing;
+        return None;
     }
-    Entry::Value(parts_at(claim, i + 1).x)
+    Some(parts_at(claim, i + 1).x)
 }
 
 // What is reached through one added outer alias: how far out, and the number there.
-pub fn through_outer(claim: &[u8], table: &[Slot], index: &[u16], s: Sought) -> Met
+pub fn through_outer(claim: &[u8], table: &[Slot], index: &[u16], s: Sought) -> Option<Option<Met>>
     requires { Holds table.now index.now s.used }
     ensures { result ≡ through_outer_t (take s.used table.now) claim.now s }
 {
     match reached(table, index, s) {
-        Entry::Value(row) => outer_at(claim, row),
-        Entry::Nothing => Met::Nowhere,
+        Some(row) => outer_at(claim, row),
+        None => None,
     }
 }
 
 // What is reached through one added alias of this export: the number of its instance.
-pub fn through_export(claim: &[u8], table: &[Slot], index: &[u16], s: Sought, name: u32) -> Entry
+pub fn through_export(
+    claim: &[u8],
+    table: &[Slot],
+    index: &[u16],
+    s: Sought,
+    name: u32,
+) -> Option<u32>
     requires { Holds table.now index.now s.used }
     ensures { result ≡ through_export_t (take s.used table.now) claim.now s name }
 {
     match reached(table, index, s) {
-        Entry::Value(row) => export_at(claim, row, s.space, name),
-        Entry::Nothing => Entry::Nothing,
+        Some(row) => export_at(claim, row, s.space, name),
+        None => None,
     }
 }

@@ -4,7 +4,7 @@ ghost use Rattle.index.specs.Indexed.{Holds};
 ghost use Rattle.claim_scopes.specs.Open.{open_in};
 ghost use Rattle.claim_reach.specs.Outward.{reach_out_t};
 
-use claim_scopes::entries::{Entry, look_up};
+use claim_scopes::entries::look_up;
 use names::{Met, Scope, Slot, scope_at};
 
 // Walks the `depth` open scopes outward, the innermost first as one scope out, and stops at the first that has the name.
@@ -16,7 +16,7 @@ pub fn outward(
     depth: usize,
     space: u8,
     name: u32,
-) -> Met
+) -> Option<Option<Met>>
     requires { Holds table.now index.now used }
     ensures { result ≡ reach_out_t (take used table.now) (open_in scopes.now depth) 1 space name }
 {
@@ -25,14 +25,14 @@ pub fn outward(
         left -= 1;
         let scope = scope_at(scopes, left);
         match look_up(table, index, used, scope[1], space, name) {
-            Entry::Value(number) => {
-                return Met::At {
+            Some(number) => {
+                return Some(Met {
                     out: depth - left,
                     number,
-                };
+                });
             }
-            Entry::Nothing => {}
+            None => {}
         }
     }
-    Met::Nowhere
+    None
 }

@@ -1,4 +1,5 @@
 -- Each way through the code finds what its twin finds.
+use Rattle.std.specs.Prelude.{Result, Ok, Err, ⊤, ℕ}
 use mathlib.Core.Path.{◌≡◌, refl, sym, ◌∙◌}
 use mathlib.Core.Bool.{Bool, true, false, not}
 use mathlib.Core.List.{List, [], ◌∷◌}
@@ -15,8 +16,6 @@ use Rattle.parts.specs.declared.Parts.{Parts}
 use Rattle.claim_rows.specs.Left.{rows_from, rows_at}
 use Rattle.claim_rows.specs.Added.{any_fresh, is_added_t}
 use Rattle.claim_rows.specs.Same.{depth_behind_t, is_same_t, other_t, same_breaks_t, past_paths, same_next_t, rows_behind_t, rest_t, differs_t}
-use Rattle.claim_rows.specs.declared.Tried.{Tried}
-use Rattle.claim_rows.specs.declared.Tried.TheVariants.{Passes, Breaks}
 
 -- ---- a test that is turned round
 
@@ -177,13 +176,13 @@ pub ruleset following = (behind_added, behind_past, behind_own, rules)
 
 -- ---- try_rows
 
-module _ (l w : List ℕ) (T : Tried) (i d j : ℕ) (inv : differs_t i d (rows_at l i) (rows_at w j) ≡ T) where
+module _ (l w : List ℕ) (T : Result ⊤ ℕ) (i d j : ℕ) (inv : differs_t i d (rows_at l i) (rows_at w j) ≡ T) where
   module _ (h : i < length l / 16) (p : Parts) (e : p ≡ parts_at l i) (b : Bool) (f : b ≡ is_added_t false p.code (rows_at l (i + 1))) (d' : ℕ) (g : d' ≡ depth_behind_t d p.code b) (t : Bool) (k : t ≡ same_breaks_t p d' (rows_at w j)) where
-    turn : pick t (Breaks i) (differs_t (i + 1) d' (rows_at l (i + 1)) (rows_behind_t d' (rows_at w j))) ≡ T
+    turn : pick t (Err i) (differs_t (i + 1) d' (rows_at l (i + 1)) (rows_behind_t d' (rows_at w j))) ≡ T
     unfolding differs_t
     turn = let q : d' ≡ depth_behind_t d p.code (is_added_t false p.code (rows_at l (i + 1))) = rw (← f) g in rw (k, q, e) (rw (rows_there l i h) at inv)
 
-    pub row_breaks : t ≡ true → Breaks i ≡ T
+    pub row_breaks : t ≡ true → Err i ≡ T
     unfolding pick
     row_breaks z = rw z at turn
 
@@ -192,11 +191,11 @@ module _ (l w : List ℕ) (T : Tried) (i d j : ℕ) (inv : differs_t i d (rows_a
     row_passes j' z q = rw q (rw z at turn)
 
   module _ (h : length l / 16 ≤ i) where
-    pub rows_missing : i ≤ length l / 16 → j < length w / 16 → Breaks (length l / 16) ≡ T
+    pub rows_missing : i ≤ length l / 16 → j < length w / 16 → Err (length l / 16) ≡ T
     unfolding differs_t rest_t
     rows_missing g k = let q : length l / 16 ≡ i = omega arith in rw q (rw (rows_past l i h, rows_there w j k) at inv)
 
-    pub all_passed : length w / 16 ≤ j → Passes ≡ T
+    pub all_passed : length w / 16 ≤ j → Ok tt ≡ T
     unfolding differs_t rest_t
     all_passed k = rw (rows_past l i h, rows_past w j k) at inv
 

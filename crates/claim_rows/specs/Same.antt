@@ -1,10 +1,8 @@
 -- Condition 2 as the code tries it: the claim's rows and the input's, one after another.
-use Rattle.std.specs.Prelude.{Bool, true, false, ◌&&◌, ◌||◌, not, List, [], ◌∷◌, ℕ, ◌+◌, ◌-◌, eqb, ltb}
+use Rattle.std.specs.Prelude.{Bool, true, false, ◌&&◌, ◌||◌, not, List, [], ◌∷◌, ℕ, ◌+◌, ◌-◌, eqb, ltb, Result, Ok, Err, ⊤}
 use Rattle.kit.specs.Pick.{pick}
 use Rattle.parts.specs.declared.Parts.{Parts}
 use Rattle.claim_rows.specs.Added.{is_added_t}
-use Rattle.claim_rows.specs.declared.Tried.{Tried}
-use Rattle.claim_rows.specs.declared.Tried.TheVariants.{Passes, Breaks}
 
 -- how deep in an added field the claim is behind a row: 0 outside, 1 in one, one more for each scope that is open in it
 unfoldable pub depth_behind_t : (depth code : ℕ) (begins : Bool) → ℕ
@@ -42,13 +40,13 @@ unfoldable pub rows_behind_t : (depth : ℕ) → List Parts → List Parts
 rows_behind_t depth qs = pick (ltb 0 depth) qs (same_next_t qs)
 
 -- no claimed row is left, and the next would be row i
-unfoldable pub rest_t : (i : ℕ) → List Parts → Tried
-rest_t i [] = Passes
-rest_t i (q ∷ qs) = Breaks i
+unfoldable pub rest_t : (i : ℕ) → List Parts → Result ⊤ ℕ
+rest_t i [] = Ok tt
+rest_t i (q ∷ qs) = Err i
 
 -- the claim's rows from row i on, and what is left of the input's
-unfoldable pub differs_t : (i depth : ℕ) (ps qs : List Parts) → Tried
+unfoldable pub differs_t : (i depth : ℕ) (ps qs : List Parts) → Result ⊤ ℕ
 differs_t i depth [] qs = rest_t i qs
 differs_t i depth (p ∷ ps) qs =
     let d = depth_behind_t depth p.code (is_added_t false p.code ps) in
-    pick (same_breaks_t p d qs) (Breaks i) (differs_t (i + 1) d ps (rows_behind_t d qs))
+    pick (same_breaks_t p d qs) (Err i) (differs_t (i + 1) d ps (rows_behind_t d qs))

@@ -3,10 +3,3 @@
 
 pub mod added;
 pub mod same;
-
-// A condition that was tried on a claim: it holds, or this is the first claimed row that breaks it.
-#[derive(Clone, Copy)]
-pub enum Tried {
-    Passes,
-    Breaks(usize),
-}

@@ -4,7 +4,6 @@ ghost use Rattle.std.specs.Prelude.{◌≡◌, ◌+◌, ◌/◌, ◌<◌, ◌≤
 ghost use Rattle.claim_rows.specs.Left.{rows_at};
 ghost use Rattle.claim_rows.specs.Same.{depth_behind_t, is_same_t, same_breaks_t, past_paths, rows_behind_t, differs_t};
 
-use crate::Tried;
 use crate::added::is_added;
 use parts::{Parts, parts_at};
 use rows::row::{CLOSE, FIELD, OPEN, OUTER, PATH, REF};
@@ -86,7 +85,7 @@ fn behind(depth: usize, input: &[u8], j: usize) -> usize
 }
 
 // Tries condition 2 on the rows of an input and of a claim: two cursors, row by row.
-pub fn try_rows(input: &[u8], claim: &[u8]) -> Tried
+pub fn try_rows(input: &[u8], claim: &[u8]) -> Result<(), usize>
     ensures { result ≡ differs_t 0 0 (rows_at claim.now 0) (rows_at input.now 0) }
 {
     let n = claim.len() / 16;
@@ -97,13 +96,13 @@ pub fn try_rows(input: &[u8], claim: &[u8]) -> Tried
         let p = parts_at(claim, i);
         depth = depth_behind(depth, p.code, is_added(false, p.code, claim, i + 1));
         if breaks(p, depth, input, j) {
-            return Tried::Breaks(i);
+            return Err(i);
         }
         j = behind(depth, input, j);
         i += 1;
     }
     if j < input.len() / 16 {
-        return Tried::Breaks(n);
+        return Err(n);
     }
-    Tried::Passes
+    Ok(())
 }

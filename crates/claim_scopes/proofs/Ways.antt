@@ -1,4 +1,5 @@
 -- Each way through the code finds what its twin finds.
+use Rattle.std.specs.Prelude.{Option, Some, None, ℕ}
 use mathlib.Core.Path.{◌≡◌, refl, sym, ap, ◌∙◌}
 use mathlib.Core.List.{List, [], ◌∷◌}
 use Prim.Native.Nat.{ℕ, zero, suc, ◌+◌, ◌-◌, ◌*◌, ◌%◌, ◌<◌, ◌≤◌}
@@ -11,14 +12,10 @@ use Rattle.kit.specs.Out.{◌&◌}
 use Rattle.kit.proofs.Laws.{down_suc}
 use Rattle.parts.specs.declared.Parts.{Parts}
 use Rattle.names.specs.Table.{Slot, between, find_in, pushed, no_scope, scope_at, innermost_t}
-use Rattle.names.specs.declared.Found.{Found}
-use Rattle.names.specs.declared.Found.TheVariants as found
 use Rattle.index.specs.Indexed.{Holds, Covers}
 use Rattle.index.proofs.Storey.{covers_all}
 use Rattle.claim_scopes.specs.Open.{open_scope_t, open_behind_t, open_in, here_t}
 use Rattle.claim_scopes.specs.Entries.{entry_key_t, slot_t, entry_of, look_t}
-use Rattle.claim_scopes.specs.declared.entries.Entry.{Entry}
-use Rattle.claim_scopes.specs.declared.entries.Entry.TheVariants.{Value, Nothing}
 
 -- ---- behind_row
 
@@ -58,16 +55,16 @@ between_all : (used : ℕ) (table : List Slot) → between 0 used table ≡ take
 unfolding between
 between_all used table = let e : used - 0 ≡ used = omega arith in rw e
 
-module _ (table : List Slot) (used scope space name key : ℕ) (k : key ≡ entry_key_t scope space) (f : Found) (e : f ≡ find_in (between 0 used table) key name) where
+module _ (table : List Slot) (used scope space name key : ℕ) (k : key ≡ entry_key_t scope space) (f : Option ℕ) (e : f ≡ find_in (between 0 used table) key name) where
   look_is : entry_of f ≡ look_t (take used table) scope space name
   unfolding look_t
   look_is = rw (e, k, between_all)
 
-  pub look_value : (v : ℕ) → f ≡ found.At v → Value v ≡ look_t (take used table) scope space name
+  pub look_value : (v : ℕ) → f ≡ Some v → Some v ≡ look_t (take used table) scope space name
   unfolding entry_of
   look_value v h = rw h at look_is
 
-  pub look_nothing : f ≡ found.Nothing → Nothing ≡ look_t (take used table) scope space name
+  pub look_nothing : f ≡ None → None ≡ look_t (take used table) scope space name
   unfolding entry_of
   look_nothing h = rw h at look_is
 

@@ -1,11 +1,7 @@
 -- What was entered for the scopes of a claim: slots with a space of a scope, a name or number, and a value.
-use Rattle.std.specs.Prelude.{List, [], ◌∷◌, ◌++◌, ℕ, ◌+◌, ◌*◌, ◌%◌, ltb, length, drop}
+use Rattle.std.specs.Prelude.{List, [], ◌∷◌, ◌++◌, ℕ, ◌+◌, ◌*◌, ◌%◌, ltb, length, drop, Option, Some, None}
 use Rattle.kit.specs.Pick.{pick}
 use Rattle.names.specs.Table.{Slot, find_in}
-use Rattle.names.specs.declared.Found.{Found}
-use Rattle.names.specs.declared.Found.TheVariants as found
-use Rattle.claim_scopes.specs.declared.entries.Entry.{Entry}
-use Rattle.claim_scopes.specs.declared.entries.Entry.TheVariants.{Value, Nothing}
 
 -- a space of a scope, by the row of its OPEN
 unfoldable pub entry_key_t : (scope space : ℕ) → ℕ
@@ -16,12 +12,12 @@ unfoldable pub slot_t : (scope space name value : ℕ) → Slot
 slot_t scope space name value = entry_key_t scope space ∷ name ∷ value ∷ 0 ∷ 0 ∷ 0 ∷ []
 
 -- what was found, as the value that was entered
-unfoldable pub entry_of : Found → Entry
-entry_of (found.At value) = Value value
-entry_of found.Nothing = Nothing
+unfoldable pub entry_of : Option ℕ → Option ℕ
+entry_of (Some value) = Some value
+entry_of None = None
 
 -- the first of the slots that were entered so
-unfoldable pub look_t : List Slot → (scope space name : ℕ) → Entry
+unfoldable pub look_t : List Slot → (scope space name : ℕ) → Option ℕ
 look_t ss scope space name = entry_of (find_in ss (entry_key_t scope space) name)
 
 -- one slot more, where there is room

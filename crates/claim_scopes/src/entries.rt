@@ -7,18 +7,11 @@ ghost use Rattle.index.specs.Indexed.{Holds};
 ghost use Rattle.claim_scopes.specs.Entries.{entry_key_t, slot_t, look_t};
 
 use index::{find, push};
-use names::{Found, Slot};
+use names::Slot;
 
 // More than a byte can say, so that no two scopes have a space in common, whatever stands for a space. It is odd, so that the
 // chains of one name in several scopes differ.
 const SPACES: u32 = 257;
-
-// What was entered.
-#[derive(Clone, Copy)]
-pub enum Entry {
-    Value(u32),
-    Nothing,
-}
 
 // A space of a scope, which is known by the row of its OPEN: no two scopes have one in common.
 fn key(scope: usize, space: u8) -> u32
@@ -35,13 +28,13 @@ pub fn look_up(
     scope: usize,
     space: u8,
     name: u32,
-) -> Entry
+) -> Option<u32>
     requires { Holds table.now index.now used }
     ensures { result ≡ look_t (take used table.now) scope space name }
 {
     match find(table, index, 0, used, key(scope, space), name) {
-        Found::At(value) => Entry::Value(value),
-        Found::Nothing => Entry::Nothing,
+        Some(value) => Some(value),
+        None => None,
     }
 }
 

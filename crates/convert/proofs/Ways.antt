@@ -1,4 +1,5 @@
 -- The ways through a conversion: what each refusal and each acceptance of the code is in the rules.
+use Rattle.std.specs.Prelude.{Result, Ok, Err, ⊤, ℕ}
 use mathlib.Core.Path.{◌≡◌, refl, ap, sym, ◌∙◌}
 use mathlib.Core.Bool.{Bool, true, false, ◌&&◌, ◌||◌, not}
 use mathlib.Core.Option.{Option, none, some}
@@ -35,19 +36,16 @@ use Rattle.limits.specs.declared.Limits.{Limits}
 use Rattle.limits.specs.Held.{setting_in, limits_of, setting}
 use Rattle.limits.proofs.Laws.{stand_for, few_rows}
 use Rattle.reader.specs.ReadTo.{answer_of, read_to}
-use Rattle.reader.specs.declared.RowsRead.{RowsRead}
-use Rattle.reader.specs.declared.RowsRead.TheVariants as rows_read
 use Rattle.whole_form.specs.Asked.{asked_of}
 use Rattle.whole_form.specs.Whole.{form_of}
-use Rattle.whole_form.specs.declared.asked.Asked.{Asked}
-use Rattle.whole_form.specs.declared.asked.Asked.TheVariants as asked
-use Rattle.whole_form.specs.declared.read.Form.{Form}
-use Rattle.whole_form.specs.declared.read.Form.TheVariants as whole
 use Rattle.whole_form.proofs.Laws.{among, plain_at, unsized, asked_for, asked_wrong, asked_count, whole_read, refused_read}
 use Rattle.convert.specs.Meaning.{meaning, Says}
 use Rattle.convert.specs.Run.{refused_t, place_of_t, lacks_t, Sized, Sound}
-use Rattle.convert.specs.declared.run.Answer.{Answer}
-use Rattle.convert.specs.declared.run.Answer.TheVariants.{Converted, Refused}
+use Rattle.form.specs.declared.header.BadHeader.TheVariants as asked
+use Rattle.reader.specs.declared.BadRows.TheVariants as rows_read
+use Rattle.form.specs.declared.header.BadHeader.{BadHeader}
+use Rattle.reader.specs.declared.BadRows.{BadRows}
+use Rattle.whole_form.specs.declared.asked.Asked.{Asked}
 
 -- ---- answers
 
@@ -107,7 +105,7 @@ module _ (from : ℕ) (form : List ℕ) (rows : ℕ) (S : Sized from form rows) 
   behind = take_all (length form - header) (drop header form) (omega (arith, length-drop header form)) ∙ ap (λ n. drop n form) is
 
   module _ (to : ℕ) (l : Limits) (e : l ≡ limits_of (setting to)) where
-    pub rows_read_lem : (r : RowsRead) → r ≡ read_to l (take (length form - header) (drop header form)) → r ≡ answer_of (read (setting to).rules (setting to).version.scopes (rows_in (setting from) form))
+    pub rows_read_lem : (r : Result ⊤ BadRows) → r ≡ read_to l (take (length form - header) (drop header form)) → r ≡ answer_of (read (setting to).rules (setting to).version.scopes (rows_in (setting from) form))
     unfolding read_to
     rows_read_lem r q =
         let long = S.long in
@@ -151,7 +149,7 @@ module _ (from : ℕ) (form : List ℕ) (rows : ℕ) (S : Sound from form rows) 
   abbrev x : tree.RowsRead
   x = read t.rules t.version.scopes (rows_in s form)
 
-  abbrev Said : Answer → List ℕ → Type 0
+  abbrev Said : Result ℕ Refusal → List ℕ → Type 0
   Said = Says (converted all t.version.number form (length out)) out
 
   count : row_count s.version form ≡ rows
@@ -171,11 +169,11 @@ module _ (from : ℕ) (form : List ℕ) (rows : ℕ) (S : Sound from form rows) 
   answer y p =
       limited all all_coherent s form S.tree (among from) S.reads t (among to) same (length out) few_to (omega (arith, count)) ∙ ap (within_scopes s t form) p
 
-  module _ (r : RowsRead) (e : r ≡ answer_of x) where
-    pub to_broken : (row : ℕ) (v : Answer) → r ≡ rows_read.Broken row → v ≡ refused_t 4 (row % 4294967296) → Said v out
+  module _ (r : Result ⊤ BadRows) (e : r ≡ answer_of x) where
+    pub to_broken : (row : ℕ) (v : Result ℕ Refusal) → r ≡ Err (rows_read.Broken row) → v ≡ refused_t 4 (row % 4294967296) → Said v out
     to_broken row v q w = go x refl (sym q ∙ e)
       where
-        go : (y : tree.RowsRead) → x ≡ y → rows_read.Broken row ≡ answer_of y → Said v out
+        go : (y : tree.RowsRead) → x ≡ y → Err (rows_read.Broken row) ≡ answer_of y → Said v out
         go (tree.bad p) i z = unfold answer_of in
             let at : row ≡ p = cc in
             let in_range = ((read_right t.rules t.version.scopes (rows_in s form) (tree.bad p)).0 i).in_range in
@@ -184,10 +182,10 @@ module _ (from : ℕ) (form : List ℕ) (rows : ℕ) (S : Sound from form rows) 
         go (tree.deep p) i z = unfold answer_of in (let no_way : ◌≡◌ {A = ℕ} 0 1 = cc in absurd (omega arith))
         go (tree.form y) i z = unfold answer_of in (let no_way : ◌≡◌ {A = ℕ} 0 1 = cc in absurd (omega arith))
 
-    pub to_deep : (row : ℕ) (v : Answer) → r ≡ rows_read.Deep row → v ≡ refused_t 5 (row % 4294967296) → Said v out
+    pub to_deep : (row : ℕ) (v : Result ℕ Refusal) → r ≡ Err (rows_read.Deep row) → v ≡ refused_t 5 (row % 4294967296) → Said v out
     to_deep row v q w = go x refl (sym q ∙ e)
       where
-        go : (y : tree.RowsRead) → x ≡ y → rows_read.Deep row ≡ answer_of y → Said v out
+        go : (y : tree.RowsRead) → x ≡ y → Err (rows_read.Deep row) ≡ answer_of y → Said v out
         go (tree.bad p) i z = unfold answer_of in (let no_way : ◌≡◌ {A = ℕ} 0 1 = cc in absurd (omega arith))
         go (tree.deep p) i z = unfold answer_of in
             let at : row ≡ p = cc in
@@ -196,10 +194,10 @@ module _ (from : ℕ) (form : List ℕ) (rows : ℕ) (S : Sound from form rows) 
             rw w (says_refused _ 5 (row % 4294967296) out (answer (tree.deep p) i ∙ scopes_deep s t form p (row % 4294967296) place))
         go (tree.form y) i z = unfold answer_of in (let no_way : ◌≡◌ {A = ℕ} 0 1 = cc in absurd (omega arith))
 
-    accepts : r ≡ rows_read.Whole → converted all t.version.number form (length out) ≡ accepted (recast s t form)
+    accepts : r ≡ Ok tt → converted all t.version.number form (length out) ≡ accepted (recast s t form)
     accepts q = go x refl (sym q ∙ e)
       where
-        go : (y : tree.RowsRead) → x ≡ y → rows_read.Whole ≡ answer_of y → converted all t.version.number form (length out) ≡ accepted (recast s t form)
+        go : (y : tree.RowsRead) → x ≡ y → Ok tt ≡ answer_of y → converted all t.version.number form (length out) ≡ accepted (recast s t form)
         go (tree.bad p) i z = unfold answer_of in (let no_way : ◌≡◌ {A = ℕ} 0 1 = cc in absurd (omega arith))
         go (tree.deep p) i z = unfold answer_of in (let no_way : ◌≡◌ {A = ℕ} 0 1 = cc in absurd (omega arith))
         go (tree.form y) i z = answer (tree.form y) i ∙ unfold within_scopes in refl
@@ -215,7 +213,7 @@ module _ (from : ℕ) (form : List ℕ) (rows : ℕ) (S : Sound from form rows) 
     long : length (recast s t form) ≡ t.version.header + 16 * rows
     long = let e = recast_length s t (plain_at from) (plain_at to) form few_to (omega (arith, S.sized.long, count)) in omega (arith, count)
 
-    pub to_whole : (new : List ℕ) → r ≡ rows_read.Whole → new ≡ sets out 0 (recast s t form) → Said (Converted rows) new
+    pub to_whole : (new : List ℕ) → r ≡ Ok tt → new ≡ sets out 0 (recast s t form) → Said (Ok rows) new
     unfolding meaning map_answer buffer_after
     to_whole new q w =
         let none_before : 0 + length (recast s t form) ≡ length (recast s t form) = omega arith in
@@ -249,7 +247,7 @@ pub ruleset place_ways = (place_one, place_newer, place_two, lacks_is, rules)
 
 module _ (version : ℕ) (one : 1 ≤ version) (two : version ≤ 2) (from : ℕ) (form : List ℕ) (rows : ℕ) where
   module _ (S : Sound from form rows) (out : List ℕ) (roomy : (setting (place_of_t version from)).version.header + 16 * rows ≤ length out) (b : Bool) (lacks : b ≡ lacks_t version from) where
-    pub form_lacks : (v : Answer) → b ≡ true → v ≡ refused_t 1 0 → Says (converted all version form (length out)) out v out
+    pub form_lacks : (v : Result ℕ Refusal) → b ≡ true → v ≡ refused_t 1 0 → Says (converted all version form (length out)) out v out
     form_lacks v e w =
         let k = S.sized.known in
         let count = S.sized.counted in
@@ -262,7 +260,7 @@ module _ (version : ℕ) (one : 1 ≤ version) (two : version ≤ 2) (from : ℕ
       is_version : (setting to).version.number ≡ version
       is_version = rw p (number_placed version from one two S.sized.known)
 
-      pub form_many : (v : Answer) → l.rows < rows → v ≡ refused_t 2 0 → Says (converted all version form (length out)) out v out
+      pub form_many : (v : Result ℕ Refusal) → l.rows < rows → v ≡ refused_t 2 0 → Says (converted all version form (length out)) out v out
       form_many v h w =
           let count = S.sized.counted in
           let more : (setting to).version.rows < rows = rw q at h in
@@ -277,7 +275,7 @@ module _ (version : ℕ) (one : 1 ≤ version) (two : version ≤ 2) (from : ℕ
       pub form_room : (setting to).version.header + 16 * rows ≤ length out
       form_room = rw p roomy
 
-      pub form_done : (v : Answer) (out₁ : List ℕ) → Says (converted all (setting to).version.number form (length out)) out v out₁ → Says (converted all version form (length out)) out v out₁
+      pub form_done : (v : Result ℕ Refusal) (out₁ : List ℕ) → Says (converted all (setting to).version.number form (length out)) out v out₁ → Says (converted all version form (length out)) out v out₁
       form_done v out₁ w = rw is_version at w
 
 pub ruleset form_ways = (form_lacks, form_many, same_rules, form_few, form_room, form_done, rules)
@@ -295,7 +293,7 @@ module _ (version : ℕ) (one : 1 ≤ version) (two : version ≤ 2) (from : ℕ
   asked_version : version_of all version ≡ some v
   asked_version = version_placed version from one two S.known
 
-  pub sized_room : (a : Answer) → length out < header + 16 * rows → a ≡ refused_t 3 0 → Says (converted all version form (length out)) out a out
+  pub sized_room : (a : Result ℕ Refusal) → length out < header + 16 * rows → a ≡ refused_t 3 0 → Says (converted all version form (length out)) out a out
   sized_room a h w = rw w (says_refused _ 3 0 out is)
     where
       fits : unsized (setting from) form ≡ false
@@ -315,13 +313,13 @@ module _ (version : ℕ) (one : 1 ≤ version) (two : version ≤ 2) (from : ℕ
     room_said : v.header + 16 * row_count (setting from).version form ≤ length out
     room_said = omega (arith, S.counted, header_to_lem)
 
-    module _ (f : Form) (e : f ≡ form_of (read_form (setting from) form)) where
-      pub sized_refused : (why : Refusal) (a : Answer) → f ≡ whole.Refused why → a ≡ Refused why → Says (converted all version form (length out)) out a out
+    module _ (f : Result ℕ Refusal) (e : f ≡ form_of (read_form (setting from) form)) where
+      pub sized_refused : (why : Refusal) (a : Result ℕ Refusal) → f ≡ Err why → a ≡ Err why → Says (converted all version form (length out)) out a out
       sized_refused why a g w =
           let is = refused_read (setting from) form why (sym g ∙ e) in
           rw w (says_refused _ why.number why.place out (refused_alike all all_coherent (setting from) form why.number why.place S.asks is version v asked_version (length out) room_said))
 
-      pub sized_sound : (n : ℕ) → f ≡ whole.Whole n → Sound from form rows
+      pub sized_sound : (n : ℕ) → f ≡ Ok n → Sound from form rows
       sized_sound n g = let r = whole_read (setting from) form n (sym g ∙ e) in record { sized = S; tree = r.0; reads = r.1 }
 
     pub sized_fits : v.header + 16 * rows ≤ length out
@@ -336,10 +334,10 @@ pub ruleset sized_ways = (sized_low, sized_room, sized_refused, sized_sound, siz
 -- ---- convert
 
 module _ (version : ℕ) (form out : List ℕ) where
-  abbrev Told : Answer → List ℕ → Type 0
+  abbrev Told : Result ℕ Refusal → List ℕ → Type 0
   Told = Says (converted all version form (length out)) out
 
-  pub says : (a : Answer) (new : List ℕ) → Told a new → (meaning a ≡ map_answer (rows_said all) (converted all version form (length out))) × (new ≡ converted_output all version form out)
+  pub says : (a : Result ℕ Refusal) (new : List ℕ) → Told a new → (meaning a ≡ map_answer (rows_said all) (converted all version form (length out))) × (new ≡ converted_output all version form out)
   unfolding converted_output
   says a new w = (w.answers, w.leaves)
 
@@ -359,27 +357,27 @@ module _ (version : ℕ) (form out : List ℕ) where
   unfolding version_of only ◌or_else◌
   later_version h = rw (ne_eqb 1 version (λ e. omega arith), ne_eqb 2 version (λ e. omega arith))
 
-  pub version_none : (a : Answer) → version < 1 → a ≡ refused_t 1 0 → Told a out
+  pub version_none : (a : Result ℕ Refusal) → version < 1 → a ≡ refused_t 1 0 → Told a out
   version_none a h w = rw w (says_refused _ 1 0 out (no_version (other_version h)))
 
-  pub version_later : (a : Answer) → 2 < version → a ≡ refused_t 1 0 → Told a out
+  pub version_later : (a : Result ℕ Refusal) → 2 < version → a ≡ refused_t 1 0 → Told a out
   version_later a h w = rw w (says_refused _ 1 0 out (no_version (later_version h)))
 
-  module _ (k : Asked) (e : k ≡ asked_of form) where
-    pub asked_none : (a : Answer) → k ≡ asked.Wrong → a ≡ refused_t 1 0 → Told a out
+  module _ (k : Result Asked BadHeader) (e : k ≡ asked_of form) where
+    pub asked_none : (a : Result ℕ Refusal) → k ≡ Err asked.Wrong → a ≡ refused_t 1 0 → Told a out
     asked_none a h w = rw w (says_refused _ 1 0 out is)
       where
         is : converted all version form (length out) ≡ refused 1 0 []
         is = unfold converted converted_for in rw (asked_wrong form (sym h ∙ e))
 
     module _ (one : 1 ≤ version) (two : version ≤ 2) where
-      pub asked_sized : (i rows : ℕ) → k ≡ asked.For i rows → Sized i form rows
+      pub asked_sized : (i rows : ℕ) → k ≡ Ok (record { setting = i; rows = rows }) → Sized i form rows
       asked_sized i rows h =
           let g = asked_for form i rows (sym h ∙ e) in
           let said = g.said in
           record { known = g.known; asks = g.asks; counted = said.counted; some_rows = said.some_rows; few = said.few; long = said.long }
 
-      pub asked_unsized : (a : Answer) → k ≡ asked.Count → a ≡ refused_t 2 0 → Told a out
+      pub asked_unsized : (a : Result ℕ Refusal) → k ≡ Err asked.Count → a ≡ refused_t 2 0 → Told a out
       asked_unsized a h w = rw w (says_refused _ 2 0 out is)
         where
           counts : (s : Setting) → setting_of all form ≡ some s → unsized s form ≡ true → converted all version form (length out) ≡ refused 2 0 []

@@ -1,5 +1,5 @@
 -- The version asked for by the place of its setting, and what is known of bytes whose header was read.
-use Rattle.std.specs.Prelude.{◌≡◌, Bool, ◌&&◌, List, ℕ, ◌+◌, ◌*◌, ◌≤◌, ◌<◌, eqb, length}
+use Rattle.std.specs.Prelude.{◌≡◌, Bool, ◌&&◌, List, ℕ, ◌+◌, ◌*◌, ◌≤◌, ◌<◌, eqb, length, Result, Err}
 use Rattle.std.proofs.Math.Option.{some}
 use Rattle.kit.specs.Pick.{pick}
 use Rattle.rules.specs.Versions.{all}
@@ -7,12 +7,11 @@ use Rattle.rules.specs.Tree.{Scope}
 use Rattle.rules.specs.Answer.{accepted, setting_of, row_count}
 use Rattle.read_form.specs.ReadForm.{read_form}
 use Rattle.limits.specs.Held.{setting}
-use Rattle.convert.specs.declared.run.Answer.{Answer}
-use Rattle.convert.specs.declared.run.Answer.TheVariants.{Refused}
+use Rattle.refusal.specs.declared.Refusal.{Refusal}
 
 -- a refusal whose number document 01 gives, and its place
-abbrev pub refused_t : (number place : ℕ) → Answer
-refused_t number place = Refused (record { number = number; place = place })
+abbrev pub refused_t : (number place : ℕ) → Result ℕ Refusal
+refused_t number place = Err (record { number = number; place = place })
 
 -- the place in the list of all settings of the version asked for, 1 or 2, with the rule set of the form's setting if it has that
 unfoldable pub place_of_t : (version from : ℕ) → ℕ

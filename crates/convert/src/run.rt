@@ -11,25 +11,19 @@ ghost use Rattle.convert.specs.Meaning.{meaning, Says};
 ghost use Rattle.convert.specs.Run.{refused_t, place_of_t, lacks_t, Sized, Sound};
 
 use copy::copy;
+use form::header::BadHeader;
 use limits::of_input;
-use reader::{RowsRead, read_to};
+use reader::{BadRows, read_to};
 use refusal::{BROKEN, DEEP, NOT_A_FORM, ROOM, ROW_COUNT, Refusal};
 use whole_form::asked::{Asked, setting_of};
 use whole_form::header::{header_at, put_header};
-use whole_form::read::{Form, read_input};
-
-#[derive(Clone, Copy)]
-pub enum Answer {
-    // The output begins with the form that was asked for, which has this many rows.
-    Converted(u32),
-    Refused(Refusal),
-}
+use whole_form::read::read_input;
 
 // A refusal whose number document 01 gives, and its place.
-fn refused(number: u32, place: u32) -> Answer
+fn refused(number: u32, place: u32) -> Result<u32, Refusal>
     ensures { result ≡ refused_t number place }
 {
-    Answer::Refused(Refusal { number, place })
+    Err(Refusal { number, place })
 }
 
 // The place in the list of all settings of the version asked for, 1 or 2, with the rule set of the form's setting if it has that.
@@ -50,7 +44,7 @@ fn lacks(version: u32, from: usize) -> bool
 }
 
 // What the rows of bytes of the setting at `from` are by the limits of the setting at `to`.
-fn read_as(form: &[u8], from: usize, rows: usize, to: usize) -> RowsRead
+fn read_as(form: &[u8], from: usize, rows: usize, to: usize) -> Result<(), BadRows>
     requires { Sized from form.now rows }
     ensures { result ≡ answer_of (read (setting to).rules (setting to).version.scopes (rows_in (setting from) form.now)) }
 {
@@ -69,23 +63,35 @@ fn put_form(form: &[u8], from: usize, rows: usize, to: usize, out: &mut [u8])
 }
 
 // A form of the setting at `from` as one of the setting at `to`, which has the same rule set: refusal 5 if it has too many scopes.
-fn convert_to(form: &[u8], from: usize, rows: usize, to: usize, out: &mut [u8]) -> Answer
+fn convert_to(
+    form: &[u8],
+    from: usize,
+    rows: usize,
+    to: usize,
+    out: &mut [u8],
+) -> Result<u32, Refusal>
     requires sound { Sound from form.now rows }
     requires to_value { ((setting to).rules.number ≡ (setting from).rules.number) × (rows ≤ (setting to).version.rows) × ((setting to).version.header + 16 * rows ≤ length out.old) }
     ensures { Says (converted all (setting to).version.number form.now (length out.old)) out.old result out.new }
 {
     match read_as(form, from, rows, to) {
-        RowsRead::Broken(row) => refused(BROKEN, (row % 4294967296) as u32),
-        RowsRead::Deep(row) => refused(DEEP, (row % 4294967296) as u32),
-        RowsRead::Whole => {
+        Err(BadRows::Broken(row)) => refused(BROKEN, (row % 4294967296) as u32),
+        Err(BadRows::Deep(row)) => refused(DEEP, (row % 4294967296) as u32),
+        Ok(()) => {
             put_form(form, from, rows, to, out);
-            Answer::Converted(rows as u32)
+            Ok(rows as u32)
         }
     }
 }
 
 // A form, by the version asked for: refusal 1 if that version lacks the form's rule set, 2 if the form has more rows than it allows.
-fn convert_form(form: &[u8], from: usize, rows: usize, version: u32, out: &mut [u8]) -> Answer
+fn convert_form(
+    form: &[u8],
+    from: usize,
+    rows: usize,
+    version: u32,
+    out: &mut [u8],
+) -> Result<u32, Refusal>
     requires sound { Sound from form.now rows }
     requires le_version { (1 ≤ version) × (version ≤ 2) × ((setting (place_of_t version from)).version.header + 16 * rows ≤ length out.old) }
     ensures { Says (converted all version form.now (length out.old)) out.old result out.new }
@@ -102,7 +108,13 @@ fn convert_form(form: &[u8], from: usize, rows: usize, version: u32, out: &mut [
 }
 
 // Bytes as long as their header says: refusal 3, then 4 and 5 of the form as it is.
-fn convert_sized(form: &[u8], from: usize, rows: usize, version: u32, out: &mut [u8]) -> Answer
+fn convert_sized(
+    form: &[u8],
+    from: usize,
+    rows: usize,
+    version: u32,
+    out: &mut [u8],
+) -> Result<u32, Refusal>
     requires sized { Sized from form.now rows }
     requires le_version { (1 ≤ version) × (version ≤ 2) }
     ensures { Says (converted all version form.now (length out.old)) out.old result out.new }
@@ -112,13 +124,13 @@ fn convert_sized(form: &[u8], from: usize, rows: usize, version: u32, out: &mut 
         return refused(ROOM, 0);
     }
     match read_input(form, from) {
-        Form::Refused(refusal) => Answer::Refused(refusal),
-        Form::Whole(_) => convert_form(form, from, rows, version, out),
+        Err(refusal) => Err(refusal),
+        Ok(_) => convert_form(form, from, rows, version, out),
     }
 }
 
 // Writes the form to the front of `out`, as a form of the version with this number. A refusal leaves `out` as it was.
-pub fn convert(form: &[u8], version: u32, out: &mut [u8]) -> Answer
+pub fn convert(form: &[u8], version: u32, out: &mut [u8]) -> Result<u32, Refusal>
     ensures { (meaning result ≡ map_answer (rows_said all) (converted all version form.now (length out.old))) × (out.new ≡ converted_output all version form.now out.old) }
 {
     if version < 1 {
@@ -128,8 +140,8 @@ pub fn convert(form: &[u8], version: u32, out: &mut [u8]) -> Answer
         return refused(NOT_A_FORM, 0);
     }
     match setting_of(form) {
-        Asked::Wrong => refused(NOT_A_FORM, 0),
-        Asked::Count => refused(ROW_COUNT, 0),
-        Asked::For { setting, rows } => convert_sized(form, setting, rows, version, out),
+        Err(BadHeader::Wrong) => refused(NOT_A_FORM, 0),
+        Err(BadHeader::Count) => refused(ROW_COUNT, 0),
+        Ok(Asked { setting, rows }) => convert_sized(form, setting, rows, version, out),
     }
 }

@@ -1,4 +1,5 @@
 -- What the code answers and leaves is what the rules say.
+use Rattle.std.specs.Prelude.{Result, Ok, Err, ℕ}
 use mathlib.Core.Path.{◌≡◌, refl, sym, ap, ◌∙◌}
 use mathlib.Core.Bool.{Bool, true, false}
 use mathlib.Core.Option.{none, some}
@@ -32,17 +33,14 @@ use Rattle.limits.specs.Held.{setting}
 use Rattle.limits.proofs.Laws.{few_rows}
 use Rattle.whole_form.specs.Asked.{claimed_of}
 use Rattle.whole_form.specs.Whole.{form_of}
-use Rattle.whole_form.specs.declared.asked.Asked.{Asked}
-use Rattle.whole_form.specs.declared.asked.Asked.TheVariants as asked
-use Rattle.whole_form.specs.declared.read.Form.{Form}
-use Rattle.whole_form.specs.declared.read.Form.TheVariants as form
 use Rattle.whole_form.proofs.Laws.{plain_at, unsized, claimed_for, claimed_wrong, claimed_count, whole_read, refused_read}
 use Rattle.matched.proofs.Ends.{At}
 use Rattle.diff.specs.Meaning.{meaning, bytes_of, Says}
 use Rattle.diff.specs.Run.{list_t, refusing, list_rows_t}
-use Rattle.diff.specs.declared.run.Answer.{Answer}
-use Rattle.diff.specs.declared.run.Answer.TheVariants.{Listed, Refused}
 use Rattle.diff.proofs.Lists.{Held, at_rows, whole_list}
+use Rattle.form.specs.declared.header.BadHeader.TheVariants as asked
+use Rattle.form.specs.declared.header.BadHeader.{BadHeader}
+use Rattle.whole_form.specs.declared.asked.Asked.{Asked}
 
 -- ---- a form that is read as an output of the setting at place i
 
@@ -93,7 +91,7 @@ module _ (i : ℕ) where
         record { more = []; holds = behind ∙ sym (append-nil (rows_bytes (flatten t))) }
 
 -- and what its length is
-module _ (i : ℕ) (l : List ℕ) (v : Form) (e : v ≡ form_of (read_form (as_claimed (setting i)) l)) (n : ℕ) (w : v ≡ form.Whole n) (h : ℕ) (g : h ≡ (setting i).version.header) where
+module _ (i : ℕ) (l : List ℕ) (v : Result ℕ Refusal) (e : v ≡ form_of (read_form (as_claimed (setting i)) l)) (n : ℕ) (w : v ≡ Ok n) (h : ℕ) (g : h ≡ (setting i).version.header) where
   is_read : (t : Scope) × (read_form (as_claimed (setting i)) l ≡ accepted t)
   is_read = let r = whole_read (as_claimed (setting i)) l n (sym w ∙ e) in (r.0, r.1)
 
@@ -116,25 +114,25 @@ all_bytes (b ∷ l) h =
     let low : b < 256 = omega arith in
     low also all_bytes l (λ i. h (suc i))
 
-answer_in : Out Answer (List ℕ) → Answer
+answer_in : Out (Result ℕ Refusal) (List ℕ) → Result ℕ Refusal
 answer_in (a & l) = a
 
-list_in : Out Answer (List ℕ) → List ℕ
+list_in : Out (Result ℕ Refusal) (List ℕ) → List ℕ
 list_in (a & l) = l
 
-says_refused : (x : AnswerOf (List Entry)) (why : Refusal) (list : List ℕ) → x ≡ refused why.number why.place [] → Says x list (Refused why) list
+says_refused : (x : AnswerOf (List Entry)) (why : Refusal) (list : List ℕ) → x ≡ refused why.number why.place [] → Says x list (Err why) list
 unfolding meaning map_answer list_after
 says_refused x why list e = rw e (record { answers = refl; leaves = refl })
 
 -- with room, or without
-says_list : (list w : List ℕ) (es : List Entry) → w ≡ list_bytes es → (a : Answer) (out : List ℕ) → (a & out) ≡ pick (ltb (length list) (length w)) (refusing 3 0 & list) (Listed (length w) & sets list 0 w)
+says_list : (list w : List ℕ) (es : List Entry) → w ≡ list_bytes es → (a : Result ℕ Refusal) (out : List ℕ) → (a & out) ≡ pick (ltb (length list) (length w)) (refusing 3 0 & list) (Ok (length w) & sets list 0 w)
     → Says (when ltb (length list) (length w) then refused 3 0 [] else accepted es) list a out
 says_list list w es p a out = go (ltb (length list) (length w)) refl
   where
-    go : (b : Bool) → ltb (length list) (length w) ≡ b → (a & out) ≡ pick b (refusing 3 0 & list) (Listed (length w) & sets list 0 w) → Says (when b then refused 3 0 [] else accepted es) list a out
+    go : (b : Bool) → ltb (length list) (length w) ≡ b → (a & out) ≡ pick b (refusing 3 0 & list) (Ok (length w) & sets list 0 w) → Says (when b then refused 3 0 [] else accepted es) list a out
     go true h e = unfold pick when◌then◌else◌ in (let q : a ≡ refusing 3 0 = unfold answer_in in ap answer_in e in let r : out ≡ list = unfold list_in in ap list_in e in rw (q, r) (says_refused _ _ list refl))
     go false h e = unfold pick when◌then◌else◌ meaning map_answer bytes_of list_after in (
-        let q : a ≡ Listed (length w) = unfold answer_in in ap answer_in e in
+        let q : a ≡ Ok (length w) = unfold answer_in in ap answer_in e in
         let r : out ≡ sets list 0 w = unfold list_in in ap list_in e in
         let z : 0 + length w ≡ length w = omega arith in
         let n : length w ≤ length list = ltb-false _ _ h in
@@ -146,32 +144,32 @@ module _ (c : Choice) (i : ℕ) (left right list : List ℕ) (asks : setting_of 
   abbrev said : AnswerOf (List Entry)
   said = listed all c left right (length list)
 
-  module _ (v : Form) (e : v ≡ form_of (read_form (as_claimed (setting i)) left)) where
-    pub left_refused : (why : Refusal) → v ≡ form.Refused why → Says said list (Refused why) list
+  module _ (v : Result ℕ Refusal) (e : v ≡ form_of (read_form (as_claimed (setting i)) left)) where
+    pub left_refused : (why : Refusal) → v ≡ Err why → Says said list (Err why) list
     left_refused why w = says_refused _ why list (is (refused_read (as_claimed (setting i)) left why (sym w ∙ e)))
       where
         is : read_form (as_claimed (setting i)) left ≡ refused why.number why.place [] → said ≡ refused why.number why.place []
         is q = unfold listed compared both_read ◌and_then◌ in rw (asks, q)
 
-    module _ (n : ℕ) (w : v ≡ form.Whole n) (v' : Form) (e' : v' ≡ form_of (read_form (as_claimed (setting i)) right)) where
+    module _ (n : ℕ) (w : v ≡ Ok n) (v' : Result ℕ Refusal) (e' : v' ≡ form_of (read_form (as_claimed (setting i)) right)) where
       left_read : (t : Scope) × (read_form (as_claimed (setting i)) left ≡ accepted t)
       left_read = let r = whole_read (as_claimed (setting i)) left n (sym w ∙ e) in (r.0, r.1)
 
-      pub right_refused : (why : Refusal) → v' ≡ form.Refused why → Says said list (Refused why) list
+      pub right_refused : (why : Refusal) → v' ≡ Err why → Says said list (Err why) list
       right_refused why w' = says_refused _ why list (is left_read.0 left_read.1 (refused_read (as_claimed (setting i)) right why (sym w' ∙ e')))
         where
           is : (t : Scope) → read_form (as_claimed (setting i)) left ≡ accepted t → read_form (as_claimed (setting i)) right ≡ refused why.number why.place [] → said ≡ refused why.number why.place []
           is t p q = unfold listed compared both_read ◌and_then◌ in rw (asks, p, q)
 
-      module _ (m : ℕ) (w' : v' ≡ form.Whole m) (h : ℕ) (g : h ≡ (setting i).version.header) where
+      module _ (m : ℕ) (w' : v' ≡ Ok m) (h : ℕ) (g : h ≡ (setting i).version.header) where
         right_read : (t : Scope) × (read_form (as_claimed (setting i)) right ≡ accepted t)
         right_read = let r = whole_read (as_claimed (setting i)) right m (sym w' ∙ e') in (r.0, r.1)
 
-        rows_are : (l r : List ℕ) → list_rows_t c l r list ≡ pick (ltb (length list) (length (list_t c l r))) (refusing 3 0 & list) (Listed (length (list_t c l r)) & sets list 0 (list_t c l r))
+        rows_are : (l r : List ℕ) → list_rows_t c l r list ≡ pick (ltb (length list) (length (list_t c l r))) (refusing 3 0 & list) (Ok (length (list_t c l r)) & sets list 0 (list_t c l r))
         unfolding list_rows_t
         rows_are l r = refl
 
-        pub both_listed : ((k : ℕ) → Fits w8 (get_or right k 0)) → (a : Answer) (out : List ℕ) → (a & out) ≡ list_rows_t c (drop h left) (drop h right) list → Says said list a out
+        pub both_listed : ((k : ℕ) → Fits w8 (get_or right k 0)) → (a : Result ℕ Refusal) (out : List ℕ) → (a & out) ≡ list_rows_t c (drop h left) (drop h right) list → Says said list a out
         both_listed b a out q = go left_read.0 right_read.0 left_read.1 right_read.1
           where
             is_listed : (s t : Scope) → read_form (as_claimed (setting i)) left ≡ accepted s → read_form (as_claimed (setting i)) right ≡ accepted t
@@ -191,27 +189,27 @@ pub ruleset as_ways = (whole_low, whole_some, whole_high, left_refused, right_re
 -- ---- compare
 
 module _ (c : Choice) (left right list : List ℕ) where
-  abbrev Told : Answer → List ℕ → Type 0
+  abbrev Told : Result ℕ Refusal → List ℕ → Type 0
   Told = Says (listed all c left right (length list)) list
 
-  pub says : (a : Answer) (out : List ℕ) → Told a out → (meaning a ≡ map_answer bytes_of (listed all c left right (length list))) × (out ≡ list_output all c left right list)
+  pub says : (a : Result ℕ Refusal) (out : List ℕ) → Told a out → (meaning a ≡ map_answer bytes_of (listed all c left right (length list))) × (out ≡ list_output all c left right list)
   unfolding list_output
   says a out w = (w.answers, w.leaves)
 
-  module _ (k : Asked) (e : k ≡ claimed_of left) where
-    pub asked_none : (a : Answer) → k ≡ asked.Wrong → a ≡ refusing 1 0 → Told a list
+  module _ (k : Result Asked BadHeader) (e : k ≡ claimed_of left) where
+    pub asked_none : (a : Result ℕ Refusal) → k ≡ Err asked.Wrong → a ≡ refusing 1 0 → Told a list
     asked_none a h w = rw w (says_refused _ _ list is)
       where
         is : listed all c left right (length list) ≡ refused 1 0 []
         is = unfold listed compared both_read ◌and_then◌ in rw (claimed_wrong left (sym h ∙ e))
 
-    pub asked_unsized : (a : Answer) → k ≡ asked.Count → a ≡ refusing 2 0 → Told a list
+    pub asked_unsized : (a : Result ℕ Refusal) → k ≡ Err asked.Count → a ≡ refusing 2 0 → Told a list
     asked_unsized a h w = rw w (says_refused _ _ list (let g = claimed_count left (sym h ∙ e) in is g.0 g.1 (claimed_header g.0 left (found_in all left g.0 all_in_force g.1).has) g.2))
       where
         is : (s : Setting) → setting_of all left ≡ some s → has_header (as_claimed s) left ≡ true → unsized (as_claimed s) left ≡ true → listed all c left right (length list) ≡ refused 2 0 []
         is s x has y = unfold listed compared both_read read_form when◌then◌else◌ ◌and_then◌ in rw (x, has, y)
 
-pub asked_known : (left : List ℕ) (k : Asked) → k ≡ claimed_of left → (i rows : ℕ) → k ≡ asked.For i rows → setting_of all left ≡ some (setting i)
+pub asked_known : (left : List ℕ) (k : Result Asked BadHeader) → k ≡ claimed_of left → (i rows : ℕ) → k ≡ Ok (record { setting = i; rows = rows }) → setting_of all left ≡ some (setting i)
 asked_known left k e i rows h = (claimed_for left i rows (sym h ∙ e)).asks
 
 pub ruleset ways = (asked_none, asked_unsized, asked_known, rules)

@@ -1,4 +1,5 @@
 -- The list written in its parts, and the run.
+use Rattle.std.specs.Prelude.{Result, Ok, ℕ}
 use mathlib.Core.Path.{◌≡◌, refl, sym, ap, ◌∙◌}
 use mathlib.Core.Bool.{Bool, true, false}
 use mathlib.Core.List.{List, [], ◌++◌}
@@ -19,9 +20,8 @@ use Rattle.matched.specs.Alike.{field_end, middle_t}
 use Rattle.matched.specs.declared.fields.Rest.{Rest}
 use Rattle.diff.specs.Written.{entry_size, size_t, entry_t, left_entry, left_t, rows_held, right_entry, right_t, lone_t, code_t, pair_t}
 use Rattle.diff.specs.Run.{opening, pair_bytes, rest_bytes, rest_of, both_bytes, list_t, refusing, list_rows_t}
-use Rattle.diff.specs.declared.run.Answer.{Answer}
-use Rattle.diff.specs.declared.run.Answer.TheVariants.{Listed}
 use Rattle.diff.proofs.Ways.{length_entry, length_held, length_right, end_within, fields_long_lem}
+use Rattle.refusal.specs.declared.Refusal.{Refusal}
 
 -- ---- an entry and its rows
 
@@ -202,14 +202,14 @@ module _ (c : Choice) (l r : List ℕ) (same : Bool) (m : Rest) (p : same ≡ sa
     long : o + n ≡ length (list_t c l r)
     long = both_long l r same m o n k po pn ∙ ap length both_is
 
-    pub rows_short : (list : List ℕ) (a : Answer) → length list < o + n → a ≡ refusing 3 0 → a & list ≡ list_rows_t c l r list
+    pub rows_short : (list : List ℕ) (a : Result ℕ Refusal) → length list < o + n → a ≡ refusing 3 0 → a & list ≡ list_rows_t c l r list
     unfolding list_rows_t pick
     rows_short list a h e = let w : length list < length (list_t c l r) = omega (arith, long) in rw (lt-ltb _ _ w, e)
 
     pub rows_room : (list : List ℕ) → o + n ≤ length list → length (both_bytes l r same m) ≤ length list
     rows_room list h = omega (arith, long, ap length both_is)
 
-    pub rows_listed : (list list' : List ℕ) → o + n ≤ length list → list' ≡ sets list 0 (both_bytes l r same m) → Listed (o + n) & list' ≡ list_rows_t c l r list
+    pub rows_listed : (list list' : List ℕ) → o + n ≤ length list → list' ≡ sets list 0 (both_bytes l r same m) → Ok (o + n) & list' ≡ list_rows_t c l r list
     unfolding list_rows_t pick
     rows_listed list list' h e =
         let w : length (list_t c l r) ≤ length list = omega (arith, long) in
@@ -218,7 +218,7 @@ module _ (c : Choice) (l r : List ℕ) (same : Bool) (m : Rest) (p : same ≡ sa
 all_behind : (l : List ℕ) (h : ℕ) → take (length l - h) (drop h l) ≡ drop h l
 all_behind l h = take_all (length l - h) (drop h l) (omega (arith, length-drop h l))
 
-pub forms_listed : (c : Choice) (l r list list' : List ℕ) (h : ℕ) (a : Answer) → (a & list') ≡ list_rows_t c (take (length l - h) (drop h l)) (take (length r - h) (drop h r)) list → (a & list') ≡ list_rows_t c (drop h l) (drop h r) list
+pub forms_listed : (c : Choice) (l r list list' : List ℕ) (h : ℕ) (a : Result ℕ Refusal) → (a & list') ≡ list_rows_t c (take (length l - h) (drop h l)) (take (length r - h) (drop h r)) list → (a & list') ≡ list_rows_t c (drop h l) (drop h r) list
 forms_listed c l r list list' h a e = rw (all_behind l h, all_behind r h) at e
 
 -- ---- open_size

@@ -1,5 +1,5 @@
 -- The whole run as the code takes it.
-use Rattle.std.specs.Prelude.{Bool, List, [], ◌++◌, ℕ, ◌-◌, ltb, length}
+use Rattle.std.specs.Prelude.{Bool, List, [], ◌++◌, ℕ, ◌-◌, ltb, length, Result, Ok, Err}
 use Rattle.std.proofs.lemmas.List.Edits.{sets}
 use Rattle.kit.specs.Pick.{pick}
 use Rattle.kit.specs.Out.{Out, ◌&◌}
@@ -9,8 +9,7 @@ use Rattle.matched.specs.Counted.{same_t}
 use Rattle.matched.specs.Alike.{middle_t}
 use Rattle.matched.specs.declared.fields.Rest.{Rest}
 use Rattle.diff.specs.Written.{entry_t, rows_held, left_t, right_t, pair_t}
-use Rattle.diff.specs.declared.run.Answer.{Answer}
-use Rattle.diff.specs.declared.run.Answer.TheVariants.{Listed, Refused}
+use Rattle.refusal.specs.declared.Refusal.{Refusal}
 
 -- ---- the list
 
@@ -42,13 +41,13 @@ list_t c l r = both_bytes l r (same_t c (parts_at l 0) (parts_at r 0)) (middle_t
 
 -- an answer, and the buffer for the list
 abbrev pub Ran : Type 0
-Ran = Out Answer (List ℕ)
+Ran = Out (Result ℕ Refusal) (List ℕ)
 
 -- a refusal at place 0 whose number document 01 gives
-abbrev pub refusing : (number place : ℕ) → Answer
-refusing number place = Refused (record { number = number; place = place })
+abbrev pub refusing : (number place : ℕ) → Result ℕ Refusal
+refusing number place = Err (record { number = number; place = place })
 
 -- the list for two forms whose rows these are
 unfoldable pub list_rows_t : Choice → (l r list : List ℕ) → Ran
 list_rows_t c l r list =
-    pick (ltb (length list) (length (list_t c l r))) (refusing 3 0 & list) (Listed (length (list_t c l r)) & sets list 0 (list_t c l r))
+    pick (ltb (length list) (length (list_t c l r))) (refusing 3 0 & list) (Ok (length (list_t c l r)) & sets list 0 (list_t c l r))

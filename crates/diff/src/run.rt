@@ -14,25 +14,19 @@ ghost use Rattle.diff.specs.Run.{refusing, opening, pair_bytes, rest_bytes, rest
 
 use crate::list::{fields_size, is_pair, put_entry, put_left, put_right};
 use copy::copy;
+use form::header::BadHeader;
 use matched::fields::{Rest, middle};
 use matched::row::same_row;
 use refusal::{NOT_A_FORM, ROOM, ROW_COUNT, Refusal};
 use whole_form::asked::{Asked, claim_of};
 use whole_form::header::header_at;
-use whole_form::read::{Form, read_claim};
-
-#[derive(Clone, Copy)]
-pub enum Answer {
-    // The list has this many bytes.
-    Listed(u32),
-    Refused(Refusal),
-}
+use whole_form::read::read_claim;
 
 // A refusal at place 0 whose number document 01 gives.
-fn refused(number: u32) -> Answer
+fn refused(number: u32) -> Result<u32, Refusal>
     ensures { result ≡ refusing number 0 }
 {
-    Answer::Refused(Refusal { number, place: 0 })
+    Err(Refusal { number, place: 0 })
 }
 
 // ---- how long the list is
@@ -108,7 +102,7 @@ fn put_list(left: &[u8], right: &[u8], same: bool, rest: Rest, list: &mut [u8])
 }
 
 // The list for two forms whose rows these are.
-fn list_rows(left: &[u8], right: &[u8], choice: u32, list: &mut [u8]) -> Answer
+fn list_rows(left: &[u8], right: &[u8], choice: u32, list: &mut [u8]) -> Result<u32, Refusal>
     requires { (length left.now ≤ 1048576) × (length right.now ≤ 1048576) × (16 ≤ length right.now) }
     ensures { (result & list.new) ≡ list_rows_t (choice_of choice) left.now right.now list.old }
 {
@@ -119,11 +113,17 @@ fn list_rows(left: &[u8], right: &[u8], choice: u32, list: &mut [u8]) -> Answer
         return refused(ROOM);
     }
     put_list(left, right, same, rest, list);
-    Answer::Listed(size as u32)
+    Ok(size as u32)
 }
 
 // The list for two forms with headers of this many bytes.
-fn list_forms(left: &[u8], right: &[u8], header: usize, choice: u32, list: &mut [u8]) -> Answer
+fn list_forms(
+    left: &[u8],
+    right: &[u8],
+    header: usize,
+    choice: u32,
+    list: &mut [u8],
+) -> Result<u32, Refusal>
     requires { (header ≤ length left.now) × (length left.now ≤ header + 1048576) × (header + 16 ≤ length right.now) × (length right.now ≤ header + 1048576) }
     ensures { (result & list.new) ≡ list_rows_t (choice_of choice) (drop header left.now) (drop header right.now) list.old }
 {
@@ -131,27 +131,33 @@ fn list_forms(left: &[u8], right: &[u8], header: usize, choice: u32, list: &mut 
 }
 
 // Compares two forms as outputs of the setting at this place, which the left's header asks for.
-fn compare_as(left: &[u8], right: &[u8], i: usize, choice: u32, list: &mut [u8]) -> Answer
+fn compare_as(
+    left: &[u8],
+    right: &[u8],
+    i: usize,
+    choice: u32,
+    list: &mut [u8],
+) -> Result<u32, Refusal>
     requires { setting_of all left.now ≡ some (setting i) }
     ensures { Says (listed all (choice_of choice) left.now right.now (length list.old)) list.old result list.new }
 {
     match read_claim(left, i) {
-        Form::Refused(refusal) => Answer::Refused(refusal),
-        Form::Whole(_) => match read_claim(right, i) {
-            Form::Refused(refusal) => Answer::Refused(refusal),
-            Form::Whole(_) => list_forms(left, right, header_at(i), choice, list),
+        Err(refusal) => Err(refusal),
+        Ok(_) => match read_claim(right, i) {
+            Err(refusal) => Err(refusal),
+            Ok(_) => list_forms(left, right, header_at(i), choice, list),
         },
     }
 }
 
 // Compares two resolved forms: `list` then holds what differs. Bit 0 of the choice ignores places, bit 1 which fresh name it
 // is. After a refusal nothing is written.
-pub fn compare(left: &[u8], right: &[u8], choice: u32, list: &mut [u8]) -> Answer
+pub fn compare(left: &[u8], right: &[u8], choice: u32, list: &mut [u8]) -> Result<u32, Refusal>
     ensures { (meaning result ≡ map_answer bytes_of (listed all (choice_of choice) left.now right.now (length list.old))) × (list.new ≡ list_output all (choice_of choice) left.now right.now list.old) }
 {
     match claim_of(left) {
-        Asked::Wrong => refused(NOT_A_FORM),
-        Asked::Count => refused(ROW_COUNT),
-        Asked::For { setting, rows: _ } => compare_as(left, right, setting, choice, list),
+        Err(BadHeader::Wrong) => refused(NOT_A_FORM),
+        Err(BadHeader::Count) => refused(ROW_COUNT),
+        Ok(Asked { setting, .. }) => compare_as(left, right, setting, choice, list),
     }
 }

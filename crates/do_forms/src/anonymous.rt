@@ -1,11 +1,11 @@
 // The command anonymise: a form whose names become 1, 2, 3, and so on, and the key to them.
-use anonymise::run::{Answer, anonymise};
+use anonymise::run::{Fault, anonymise};
 use command::arguments::{behind, has_words, wrong_count};
 use command::forms::{part, talk_beside};
 use command::status::{DONE, FAILED, said};
 use command::topic::{Task, say_topic};
 use files::host::{Host, arg};
-use files::read::{Loaded, load};
+use files::read::load;
 use files::standard::error_noted;
 use files::write::save;
 use known::file::refuse_form;
@@ -55,18 +55,12 @@ fn anonymise_form(host: Host<'_>, form: &[u8], path: &[u8]) -> u8 {
     let mut buffer = io::large_buffer();
     let mut key = [0u32; 2048];
     match anonymise(form, &mut buffer, &mut key) {
-        Answer::Accepted(names) => save_anonymous(
-            host,
-            part(&buffer, form.len()),
-            path,
-            &key,
-            names,
-        ),
-        Answer::Header => refuse(host, form, path, NOT_A_FORM, 0),
-        Answer::RowCount => refuse(host, form, path, ROW_COUNT, 0),
-        Answer::Room => refuse(host, form, path, ROOM, 0),
-        Answer::Broken(row) => refuse(host, form, path, BROKEN, row),
-        Answer::Deep(row) => refuse(host, form, path, DEEP, row),
+        Ok(names) => save_anonymous(host, part(&buffer, form.len()), path, &key, names),
+        Err(Fault::Header) => refuse(host, form, path, NOT_A_FORM, 0),
+        Err(Fault::RowCount) => refuse(host, form, path, ROW_COUNT, 0),
+        Err(Fault::Room) => refuse(host, form, path, ROOM, 0),
+        Err(Fault::Broken(row)) => refuse(host, form, path, BROKEN, row),
+        Err(Fault::Deep(row)) => refuse(host, form, path, DEEP, row),
     }
 }
 
@@ -74,8 +68,8 @@ fn anonymise_form(host: Host<'_>, form: &[u8], path: &[u8]) -> u8 {
 fn anonymise_paths(host: Host<'_>, from: &[u8], to: &[u8]) -> u8 {
     let mut buffer = io::large_buffer();
     match load(host, from, &mut buffer) {
-        Loaded::Bytes(length) => anonymise_form(host, part(&buffer, length), to),
-        Loaded::Failed => FAILED,
+        Some(length) => anonymise_form(host, part(&buffer, length), to),
+        None => FAILED,
     }
 }
 

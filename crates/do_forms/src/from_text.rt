@@ -4,14 +4,15 @@ use command::forms::{part, talk_beside};
 use command::status::{DONE, FAILED, NO, said};
 use command::topic::{Task, say_topic};
 use files::host::{Host, arg};
-use files::read::{Loaded, load};
+use files::read::load;
 use files::standard::error_noted;
 use files::write::save;
 use fixed::bytes_of;
 use known::file::say_told;
-use resolver::run::{Answer, resolve};
+use refusal::Refused;
+use resolver::run::resolve;
 use texts::load::{load_text, text_part};
-use texts::make::{Made, make_form};
+use texts::make::make_form;
 use texts::print::print;
 use texts::whole::is_whole;
 use words::{say, say_number};
@@ -22,8 +23,8 @@ use words::{say, say_number};
 fn refuse_rows(host: Host<'_>, form: &[u8]) -> u8 {
     let mut buffer = io::large_buffer();
     match resolve(form, &mut buffer) {
-        Answer::Accepted(_) => DONE,
-        Answer::Refused(refusal, told) => {
+        Ok(_) => DONE,
+        Err(Refused { refusal, told }) => {
             say_told(host.out(), form, refusal, told);
             NO
         }
@@ -43,11 +44,11 @@ fn print_form(host: Host<'_>, form: &[u8]) -> u8 {
 fn rows_path(host: Host<'_>, path: &[u8]) -> u8 {
     let mut buffer = io::large_buffer();
     match load(host, path, &mut buffer) {
-        Loaded::Bytes(length) => {
+        Some(length) => {
             let before = error_noted(host);
             said(host, print_form(host, part(&buffer, length)), before)
         }
-        Loaded::Failed => FAILED,
+        None => FAILED,
     }
 }
 
@@ -93,8 +94,8 @@ fn form_text(host: Host<'_>, text: &[u8], from: &[u8], to: &[u8]) -> u8 {
     let mut buffer = io::large_buffer();
     let before = error_noted(host);
     match make_form(host.to(talk_beside(to)), from, text, &mut buffer) {
-        Made::Form(rows) => save_rows(host, part(&buffer, bytes_of(rows)), rows, to),
-        Made::Nothing => said(host, NO, before),
+        Some(rows) => save_rows(host, part(&buffer, bytes_of(rows)), rows, to),
+        None => said(host, NO, before),
     }
 }
 
@@ -102,8 +103,8 @@ fn form_text(host: Host<'_>, text: &[u8], from: &[u8], to: &[u8]) -> u8 {
 fn form_paths(host: Host<'_>, from: &[u8], to: &[u8]) -> u8 {
     let mut buffer = [0u8; 524289];
     match load_text(host, from, &mut buffer) {
-        Loaded::Bytes(length) => form_text(host, text_part(&buffer, length), from, to),
-        Loaded::Failed => FAILED,
+        Some(length) => form_text(host, text_part(&buffer, length), from, to),
+        None => FAILED,
     }
 }
 

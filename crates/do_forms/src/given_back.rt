@@ -4,12 +4,11 @@ use command::forms::{part, talk_beside};
 use command::status::{DONE, FAILED, NO, said};
 use command::topic::{Task, say_topic};
 use files::host::{Host, arg};
-use files::read::{Loaded, load};
+use files::read::load;
 use files::standard::error_noted;
 use files::write::save;
 use fixed::bytes_of;
 use known::version::{is_second, say_second};
-use resolver::run::Answer;
 use unresolve::run::unresolve;
 use words::{say, say_number};
 
@@ -44,8 +43,8 @@ fn unresolve_form(host: Host<'_>, form: &[u8], path: &[u8]) -> u8 {
     let mut restored = io::large_buffer();
     let mut again = io::large_buffer();
     match unresolve(form, &mut out, &mut restored, &mut again) {
-        Answer::Accepted(rows) => save_input(host, part(&out, bytes_of(rows)), rows, path),
-        Answer::Refused(_, _) => refuse(host, form, path),
+        Ok(rows) => save_input(host, part(&out, bytes_of(rows)), rows, path),
+        Err(_) => refuse(host, form, path),
     }
 }
 
@@ -53,8 +52,8 @@ fn unresolve_form(host: Host<'_>, form: &[u8], path: &[u8]) -> u8 {
 fn unresolve_paths(host: Host<'_>, from: &[u8], to: &[u8]) -> u8 {
     let mut buffer = io::large_buffer();
     match load(host, from, &mut buffer) {
-        Loaded::Bytes(length) => unresolve_form(host, part(&buffer, length), to),
-        Loaded::Failed => FAILED,
+        Some(length) => unresolve_form(host, part(&buffer, length), to),
+        None => FAILED,
     }
 }
 

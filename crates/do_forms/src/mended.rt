@@ -5,12 +5,12 @@ use command::forms::{part, talk_beside};
 use command::status::{DONE, FAILED, said};
 use command::topic::{Task, say_topic};
 use files::host::{Host, arg};
-use files::read::{Loaded, load};
+use files::read::load;
 use files::standard::error_noted;
 use files::write::save;
 use fixed::bytes_of;
 use known::file::refuse_form;
-use mend::run::{Answer, mend};
+use mend::run::mend;
 use refusal::{NOT_A_FORM, Refusal};
 use row_parts::rows_said;
 use words::{Talk, say};
@@ -49,11 +49,11 @@ fn mend_loaded(host: Host<'_>, mut buffer: [u8; 65536], length: usize, path: &[u
     }
     let mut list = [0u8; 163840];
     match mend(&mut buffer, length, &mut list) {
-        Answer::Mended(changes) => {
+        Ok(changes) => {
             let rows = rows_said(&buffer);
             save_mended(host, part(&buffer, bytes_of(rows)), path, &list, changes)
         }
-        Answer::Refused(refusal) => refuse_form(host, part(&buffer, length), path, refusal),
+        Err(refusal) => refuse_form(host, part(&buffer, length), path, refusal),
     }
 }
 
@@ -61,8 +61,8 @@ fn mend_loaded(host: Host<'_>, mut buffer: [u8; 65536], length: usize, path: &[u
 fn mend_paths(host: Host<'_>, from: &[u8], to: &[u8]) -> u8 {
     let mut buffer = io::large_buffer();
     match load(host, from, &mut buffer) {
-        Loaded::Bytes(length) => mend_loaded(host, buffer, length, to),
-        Loaded::Failed => FAILED,
+        Some(length) => mend_loaded(host, buffer, length, to),
+        None => FAILED,
     }
 }
 

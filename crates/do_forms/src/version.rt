@@ -4,10 +4,9 @@ use command::arguments::{behind, has_words, wrong_count};
 use command::forms::talk_beside;
 use command::status::{DONE, FAILED, NO, said};
 use command::topic::{Task, say_topic};
-use convert::run::{Answer, convert};
+use convert::run::convert;
 use files::host::{Host, arg};
 use files::path_parts::front;
-use files::read::Loaded;
 use files::standard::error_noted;
 use files::write::save;
 use fixed::{HEADER_NARROW, LONG_HEADER_NARROW, bytes_with};
@@ -16,20 +15,13 @@ use texts::load::{load_text, text_part};
 use words::refusals::{say_meaning, say_where};
 use words::{Talk, say, say_number};
 
-// The versions that there are.
-#[derive(Clone, Copy)]
-enum Version {
-    Number(u32),
-    Unknown,
-}
-
-fn version_of(word: &[u8]) -> Version {
+fn version_of(word: &[u8]) -> Option<u32> {
     if same(word, b"1") {
-        Version::Number(1)
+        Some(1)
     } else if same(word, b"2") {
-        Version::Number(2)
+        Some(2)
     } else {
-        Version::Unknown
+        None
     }
 }
 
@@ -86,7 +78,7 @@ fn save_form(host: Host<'_>, form: &[u8], path: &[u8], version: u32, rows: u32) 
 fn convert_form(host: Host<'_>, form: &[u8], version: u32, path: &[u8]) -> u8 {
     let mut out = [0u8; 262160];
     match convert(form, version, &mut out) {
-        Answer::Converted(rows) => {
+        Ok(rows) => {
             save_form(
                 host,
                 front(&out, bytes_with(header_of(version), rows)),
@@ -95,19 +87,19 @@ fn convert_form(host: Host<'_>, form: &[u8], version: u32, path: &[u8]) -> u8 {
                 rows,
             )
         }
-        Answer::Refused(refusal) => refuse(host, path, refusal),
+        Err(refusal) => refuse(host, path, refusal),
     }
 }
 
 fn convert_paths(host: Host<'_>, from: &[u8], version: u32, to: &[u8]) -> u8 {
     let mut buffer = [0u8; 524289];
     match load_text(host, from, &mut buffer) {
-        Loaded::Bytes(length) => convert_form(host, text_part(&buffer, length), version, to),
-        Loaded::Failed => FAILED,
+        Some(length) => convert_form(host, text_part(&buffer, length), version, to),
+        None => FAILED,
     }
 }
 
-fn version_in(host: Host<'_>, i: usize) -> Version {
+fn version_in(host: Host<'_>, i: usize) -> Option<u32> {
     let mut word = [0u8; 16];
     let length = arg(host, i, &mut word);
     version_of(&word[..length])
@@ -127,8 +119,8 @@ fn run_convert(host: Host<'_>, first: u8) -> u8 {
         return FAILED;
     }
     match version_in(host, behind(first, 2)) {
-        Version::Number(version) => convert_to(host, first, version),
-        Version::Unknown => {
+        Some(version) => convert_to(host, first, version),
+        None => {
             say(host.err(), b"A version is 1 or 2.\n");
             FAILED
         }

@@ -51,13 +51,8 @@ fn say_row(fd: Talk<'_>, names: &[u8], form: &[u8], decl: u16) {
 // What an inserted outer alias leads to: the declaration that its OUTER counts to.
 fn say_outer_item(fd: Talk<'_>, names: &[u8], out: &[u8], outer: u16) {
     match through_outer(out, outer) {
-        Meaning::At {
-            row,
-            number: _,
-            out: _,
-            name: _,
-        } => say_row(fd, names, out, row),
-        Meaning::Nowhere => say(fd, b"no declaration"),
+        Some(Meaning { row, .. }) => say_row(fd, names, out, row),
+        None => say(fd, b"no declaration"),
     }
 }
 

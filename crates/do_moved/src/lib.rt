@@ -9,14 +9,15 @@ use command::status::{DONE, FAILED, NO, said};
 use command::topic::{Task, say_topic};
 use entries::{say_apart, say_moved, tell_apart, tell_moved};
 use files::host::{Host, arg};
-use files::read::{Loaded, load};
+use files::read::load;
 use files::standard::error_noted;
 use known::file::say_told;
-use moved::run::{Answer, moved as list_moved};
+use moved::run::moved as list_moved;
 use moved_list::Listed;
-use options::given::{Given, JSON, NAMES, Options, has, read_options};
+use options::given::{JSON, NAMES, Options, has, read_options};
 use options::names::load_names;
-use resolver::run::{Answer as Resolved, resolve};
+use refusal::Refused;
+use resolver::run::resolve;
 use view_json::tell_form;
 use words::say;
 
@@ -58,8 +59,8 @@ fn tell_lists(host: Host<'_>, form: &[u8], moved: &[u8], apart: &[u8], listed: L
 fn refuse(host: Host<'_>, form: &[u8], is_json: bool) -> u8 {
     let mut out = io::large_buffer();
     match resolve(form, &mut out) {
-        Resolved::Accepted(_) => FAILED,
-        Resolved::Refused(refusal, told) => {
+        Ok(_) => FAILED,
+        Err(Refused { refusal, told }) => {
             if is_json {
                 tell_form(host.out(), form, refusal.number, refusal.place);
             } else {
@@ -76,21 +77,21 @@ fn say_of_form(host: Host<'_>, names: &[u8], form: &[u8], is_json: bool) -> u8 {
     let mut moved = [0u8; 16384];
     let mut apart = [0u8; 12288];
     match list_moved(form, &mut out, &mut moved, &mut apart) {
-        Answer::Listed(listed) => {
+        Ok(listed) => {
             if is_json {
                 tell_lists(host, form, &moved, &apart, listed)
             } else {
                 say_lists(host, names, form, &out, &moved, &apart, listed)
             }
         }
-        Answer::Refused(_) => refuse(host, form, is_json),
+        Err(_) => refuse(host, form, is_json),
     }
 }
 
 fn say_of_path(host: Host<'_>, names: &[u8], path: &[u8], is_json: bool) -> u8 {
     let mut buffer = io::large_buffer();
     match load(host, path, &mut buffer) {
-        Loaded::Bytes(length) => {
+        Some(length) => {
             let before = error_noted(host);
             said(
                 host,
@@ -98,7 +99,7 @@ fn say_of_path(host: Host<'_>, names: &[u8], path: &[u8], is_json: bool) -> u8 {
                 before,
             )
         }
-        Loaded::Failed => FAILED,
+        None => FAILED,
     }
 }
 
@@ -106,7 +107,7 @@ fn say_with(host: Host<'_>, options: Options) -> u8 {
     let mut names = io::large_buffer();
     let mut path = io::buffer();
     match load_names(host, options, &mut names) {
-        Loaded::Bytes(count) => {
+        Some(count) => {
             let length = arg(host, behind(options.first, 1), &mut path);
             say_of_path(
                 host,
@@ -115,7 +116,7 @@ fn say_with(host: Host<'_>, options: Options) -> u8 {
                 has(options.set, JSON),
             )
         }
-        Loaded::Failed => FAILED,
+        None => FAILED,
     }
 }
 
@@ -129,8 +130,8 @@ fn moved_with(host: Host<'_>, options: Options) -> u8 {
 
 fn run_moved(host: Host<'_>, first: u8) -> u8 {
     match read_options(host, first, NAMES | JSON) {
-        Given::Options(given) => moved_with(host, given),
-        Given::Wrong => FAILED,
+        Some(given) => moved_with(host, given),
+        None => FAILED,
     }
 }
 

@@ -6,13 +6,13 @@ use command::arguments::{behind, has_words, wrong_count};
 use command::forms::part;
 use command::status::{DONE, FAILED, NO, said};
 use command::topic::{Task, say_topic};
-use diff::run::{Answer, compare};
+use diff::run::compare;
 use files::host::{Host, arg};
 use files::path_parts::front;
-use files::read::{Loaded, load};
+use files::read::load;
 use files::standard::error_noted;
 use known::version::{is_second, say_second};
-use options::given::{FRESH, Given, JSON, NAMES, Options, PLACES, has, read_options};
+use options::given::{FRESH, JSON, NAMES, Options, PLACES, has, read_options};
 use options::names::load_names;
 use refusal::{NOT_A_FORM, Refusal};
 use words::refusals::{say_meaning, say_where};
@@ -62,8 +62,8 @@ fn refuse_second(host: Host<'_>, path: &[u8]) -> u8 {
 fn is_refused(left: &[u8]) -> bool {
     let mut none = [0u8; 1];
     match compare(left, left, 0, &mut none) {
-        Answer::Listed(_) => false,
-        Answer::Refused(_) => true,
+        Ok(_) => false,
+        Err(_) => true,
     }
 }
 
@@ -109,10 +109,8 @@ fn compare_forms(
 ) -> u8 {
     let mut list = [0u8; 229376];
     match compare(left, right, set as u32, &mut list) {
-        Answer::Listed(bytes) => {
-            say_listed(host, names, left, right, front(&list, bytes as usize), set)
-        }
-        Answer::Refused(refusal) => {
+        Ok(bytes) => { say_listed(host, names, left, right, front(&list, bytes as usize), set) }
+        Err(refusal) => {
             if is_refused(left) {
                 say_trouble(host, left_path, refusal, true);
             } else {
@@ -146,10 +144,10 @@ fn compare_paths(host: Host<'_>, names: &[u8], left_path: &[u8], right_path: &[u
     let mut left = io::large_buffer();
     let mut right = io::large_buffer();
     match load(host, left_path, &mut left) {
-        Loaded::Failed => FAILED,
-        Loaded::Bytes(one) => match load(host, right_path, &mut right) {
-            Loaded::Failed => FAILED,
-            Loaded::Bytes(other) => compare_first(
+        None => FAILED,
+        Some(one) => match load(host, right_path, &mut right) {
+            None => FAILED,
+            Some(other) => compare_first(
                 host,
                 names,
                 part(&left, one),
@@ -186,15 +184,15 @@ fn diff_with(host: Host<'_>, options: Options) -> u8 {
     }
     let mut names = io::large_buffer();
     match load_names(host, options, &mut names) {
-        Loaded::Bytes(count) => compare_named(host, options, part(&names, count)),
-        Loaded::Failed => FAILED,
+        Some(count) => compare_named(host, options, part(&names, count)),
+        None => FAILED,
     }
 }
 
 fn run_diff(host: Host<'_>, first: u8) -> u8 {
     match read_options(host, first, PLACES | FRESH | NAMES | JSON) {
-        Given::Options(given) => diff_with(host, given),
-        Given::Wrong => FAILED,
+        Some(given) => diff_with(host, given),
+        None => FAILED,
     }
 }
 

@@ -10,14 +10,15 @@ use command::forms::part;
 use command::status::{DONE, FAILED, NO, said};
 use command::topic::{Task, say_topic};
 use files::host::{Host, arg};
-use files::read::{Loaded, load};
+use files::read::load;
 use files::standard::error_noted;
 use json_parts::{say_count, say_null};
 use known::file::say_told;
 use names::Slot;
-use options::given::{Given, JSON, NAMES, Options, has, read_options};
+use options::given::{JSON, NAMES, Options, has, read_options};
 use options::names::load_names;
-use resolver::run::{Answer as Resolved, resolve};
+use refusal::Refused;
+use resolver::run::resolve;
 use words::say;
 
 // ---- as an object of JSON
@@ -39,19 +40,19 @@ fn tell_refusal(host: Host<'_>, number: u32, place: u32) {
     say(host.out(), b"}\n");
 }
 
-fn tell_verdict(host: Host<'_>, verdict: Verdict) -> u8 {
+fn tell_verdict(host: Host<'_>, verdict: Result<Verdict, Refusal>) -> u8 {
     match verdict {
-        Verdict::Yes => {
+        Ok(Verdict::Yes) => {
             tell(host, b"{\"answer\":\"yes\"", 0, 0);
             tell_refusal(host, 0, 0);
             DONE
         }
-        Verdict::No { condition, row } => {
+        Ok(Verdict::No { condition, row }) => {
             tell(host, b"{\"answer\":\"no\"", condition as u32, row);
             tell_refusal(host, 0, 0);
             NO
         }
-        Verdict::Refused(refusal) => {
+        Err(refusal) => {
             tell(host, b"{\"answer\":\"refused\"", 0, 0);
             tell_refusal(host, refusal.number, refusal.place);
             NO
@@ -65,8 +66,8 @@ fn tell_verdict(host: Host<'_>, verdict: Verdict) -> u8 {
 fn refuse(host: Host<'_>, form: &[u8]) -> u8 {
     let mut out = io::large_buffer();
     match resolve(form, &mut out) {
-        Resolved::Accepted(_) => FAILED,
-        Resolved::Refused(refusal, told) => {
+        Ok(_) => FAILED,
+        Err(Refused { refusal, told }) => {
             say(host.out(), b"the form is refused, so it has no output: ");
             say_told(host.out(), form, refusal, told);
             NO
@@ -74,24 +75,30 @@ fn refuse(host: Host<'_>, form: &[u8]) -> u8 {
     }
 }
 
-fn say_verdict(host: Host<'_>, names: &[u8], form: &[u8], claim: &[u8], verdict: Verdict) -> u8 {
+fn say_verdict(
+    host: Host<'_>,
+    names: &[u8],
+    form: &[u8],
+    claim: &[u8],
+    verdict: Result<Verdict, Refusal>,
+) -> u8 {
     match verdict {
-        Verdict::Yes => {
+        Ok(Verdict::Yes) => {
             say(host.out(), b"yes: the claim is an output of the form\n");
             DONE
         }
-        Verdict::No { condition, row } => {
+        Ok(Verdict::No { condition, row }) => {
             say_no(host.out(), names, form, claim, condition as u32, row);
             NO
         }
-        Verdict::Refused(_) => refuse(host, form),
+        Err(_) => refuse(host, form),
     }
 }
 
 // ---- the run
 
 // The areas have the sizes of version 1.
-fn verdict_on(form: &[u8], claim: &[u8]) -> Verdict {
+fn verdict_on(form: &[u8], claim: &[u8]) -> Result<Result<Verdict, Refusal>, Refusal> {
     let mut table: [Slot; 2046] = [[0u32; 6]; 2046];
     let mut index = [0u16; 3070];
     check(form, claim, &mut table, &mut index)
@@ -120,10 +127,10 @@ fn verify_paths(
     let mut form = io::large_buffer();
     let mut claim = io::large_buffer();
     match load(host, form_path, &mut form) {
-        Loaded::Failed => FAILED,
-        Loaded::Bytes(one) => match load(host, claim_path, &mut claim) {
-            Loaded::Failed => FAILED,
-            Loaded::Bytes(other) => {
+        None => FAILED,
+        Some(one) => match load(host, claim_path, &mut claim) {
+            None => FAILED,
+            Some(other) => {
                 verify_forms(host, names, part(&form, one), part(&claim, other), is_json)
             }
         },
@@ -151,15 +158,15 @@ fn verify_with(host: Host<'_>, options: Options) -> u8 {
     }
     let mut names = io::large_buffer();
     match load_names(host, options, &mut names) {
-        Loaded::Bytes(count) => verify_named(host, options, part(&names, count)),
-        Loaded::Failed => FAILED,
+        Some(count) => verify_named(host, options, part(&names, count)),
+        None => FAILED,
     }
 }
 
 fn run_verify(host: Host<'_>, first: u8) -> u8 {
     match read_options(host, first, NAMES | JSON) {
-        Given::Options(given) => verify_with(host, given),
-        Given::Wrong => FAILED,
+        Some(given) => verify_with(host, given),
+        None => FAILED,
     }
 }
 

@@ -5,15 +5,15 @@ use command::forms::{part, talk_beside};
 use command::status::{DONE, FAILED, NO, said, worse};
 use command::topic::{Task, say_topic};
 use files::host::{Host, arg, arg_count};
-use files::read::{Loaded, load};
+use files::read::load;
 use files::standard::error_noted;
 use files::write::save;
 use fixed::bytes_of;
 use inside::run::resolve_inside;
 use known::file::say_told;
 use member::rows_of;
-use refusal::{Refusal, Told};
-use resolver::run::{Answer, resolve};
+use refusal::{Refusal, Refused, Told};
+use resolver::run::resolve;
 use view::accepted::say_accepted;
 use words::{Talk, say};
 
@@ -60,16 +60,16 @@ fn refuse_named(
 fn resolve_member(host: Host<'_>, root: &[u8], form: &[u8], name: &[u8], path: &[u8]) -> u8 {
     let mut buffer = io::large_buffer();
     match resolve_inside(root, form, &mut buffer) {
-        Answer::Accepted(rows) => save_named(host, part(&buffer, bytes_of(rows)), name, path),
-        Answer::Refused(refusal, told) => refuse_named(host, form, name, path, refusal, told),
+        Ok(rows) => save_named(host, part(&buffer, bytes_of(rows)), name, path),
+        Err(Refused { refusal, told }) => refuse_named(host, form, name, path, refusal, told),
     }
 }
 
 fn member_paths(host: Host<'_>, root: &[u8], name: &[u8], path: &[u8]) -> u8 {
     let mut buffer = io::large_buffer();
     match load(host, name, &mut buffer) {
-        Loaded::Bytes(length) => resolve_member(host, root, part(&buffer, length), name, path),
-        Loaded::Failed => FAILED,
+        Some(length) => resolve_member(host, root, part(&buffer, length), name, path),
+        None => FAILED,
     }
 }
 
@@ -119,16 +119,16 @@ fn with_members(
 fn batch_form(host: Host<'_>, form: &[u8], name: &[u8], path: &[u8], first: u8) -> u8 {
     let mut buffer = io::large_buffer();
     match resolve(form, &mut buffer) {
-        Answer::Accepted(rows) => with_members(host, &buffer, rows, name, path, first),
-        Answer::Refused(refusal, told) => refuse_named(host, form, name, path, refusal, told),
+        Ok(rows) => with_members(host, &buffer, rows, name, path, first),
+        Err(Refused { refusal, told }) => refuse_named(host, form, name, path, refusal, told),
     }
 }
 
 fn batch_paths(host: Host<'_>, name: &[u8], path: &[u8], first: u8) -> u8 {
     let mut buffer = io::large_buffer();
     match load(host, name, &mut buffer) {
-        Loaded::Bytes(length) => batch_form(host, part(&buffer, length), name, path, first),
-        Loaded::Failed => FAILED,
+        Some(length) => batch_form(host, part(&buffer, length), name, path, first),
+        None => FAILED,
     }
 }
 

@@ -8,17 +8,18 @@ use command::forms::{part, talk_beside};
 use command::status::{DONE, FAILED, NO, said, worse};
 use command::topic::{Task, say_topic};
 use files::host::{Host, arg, arg_count};
-use files::read::{Loaded, load};
+use files::read::load;
 use files::standard::error_noted;
 use files::write::save;
 use fixed::bytes_of;
 use json_parts::say_string;
 use known::file::{refuse_told, say_told};
-use moved::run::{Answer as Listing, moved as list_moved};
+use moved::run::moved as list_moved;
 use moved_list::list_numbers;
 use names::Slot;
-use options::given::{Given, JSON, Options, SHARED, has, read_options};
-use resolver::run::{Answer, resolve};
+use options::given::{JSON, Options, SHARED, has, read_options};
+use refusal::Refused;
+use resolver::run::resolve;
 use share::share;
 use view::accepted::say_accepted;
 use view_json::{say_answer, say_size};
@@ -69,21 +70,16 @@ fn moved_in(form: &[u8]) -> u32 {
     let mut moved = [0u8; 16384];
     let mut apart = [0u8; 12288];
     match list_moved(form, &mut buffer, &mut moved, &mut apart) {
-        Listing::Listed(listed) => listed.moved,
-        Listing::Refused(_) => 0,
+        Ok(listed) => listed.moved,
+        Err(_) => 0,
     }
 }
 
 fn resolve_form(host: Host<'_>, form: &[u8], path: &[u8]) -> u8 {
     let mut buffer = io::large_buffer();
     match resolve(form, &mut buffer) {
-        Answer::Accepted(rows) => save_form(
-            host,
-            part(&buffer, bytes_of(rows)),
-            path,
-            moved_in(form),
-        ),
-        Answer::Refused(refusal, told) => refuse_told(host, form, path, refusal, told),
+        Ok(rows) => save_form(host, part(&buffer, bytes_of(rows)), path, moved_in(form)),
+        Err(Refused { refusal, told }) => refuse_told(host, form, path, refusal, told),
     }
 }
 
@@ -98,8 +94,8 @@ fn moved_to(form: &[u8], out: &[u8]) -> u32 {
 fn spared_in(form: &[u8], rows: u32) -> u32 {
     let mut buffer = io::large_buffer();
     match resolve(form, &mut buffer) {
-        Answer::Accepted(own) => { if rows < own { (own - rows) / 3 } else { 0 } }
-        Answer::Refused(_, _) => 0,
+        Ok(own) => { if rows < own { (own - rows) / 3 } else { 0 } }
+        Err(_) => 0,
     }
 }
 
@@ -108,11 +104,11 @@ fn share_form(host: Host<'_>, form: &[u8], path: &[u8]) -> u8 {
     let mut table: [Slot; 2046] = [[0u32; 6]; 2046];
     let mut index = [0u16; 3070];
     match share(form, &mut buffer, &mut table, &mut index) {
-        Answer::Accepted(rows) => {
+        Ok(rows) => {
             let out = part(&buffer, bytes_of(rows));
             save_shared(host, out, path, moved_to(form, out), spared_in(form, rows))
         }
-        Answer::Refused(refusal, told) => refuse_told(host, form, path, refusal, told),
+        Err(Refused { refusal, told }) => refuse_told(host, form, path, refusal, told),
     }
 }
 
@@ -120,14 +116,14 @@ fn share_form(host: Host<'_>, form: &[u8], path: &[u8]) -> u8 {
 fn resolve_paths(host: Host<'_>, from: &[u8], to: &[u8], is_shared: bool) -> u8 {
     let mut buffer = io::large_buffer();
     match load(host, from, &mut buffer) {
-        Loaded::Bytes(length) => {
+        Some(length) => {
             if is_shared {
                 share_form(host, part(&buffer, length), to)
             } else {
                 resolve_form(host, part(&buffer, length), to)
             }
         }
-        Loaded::Failed => FAILED,
+        None => FAILED,
     }
 }
 
@@ -151,8 +147,8 @@ fn resolve_with(host: Host<'_>, options: Options) -> u8 {
 
 fn run_resolve(host: Host<'_>, first: u8) -> u8 {
     match read_options(host, first, SHARED) {
-        Given::Options(given) => resolve_with(host, given),
-        Given::Wrong => FAILED,
+        Some(given) => resolve_with(host, given),
+        None => FAILED,
     }
 }
 
@@ -175,11 +171,11 @@ pub fn resolve_command(host: Host<'_>, task: Task, first: u8) -> u8 {
 fn check_form(host: Host<'_>, form: &[u8]) -> u8 {
     let mut buffer = io::large_buffer();
     match resolve(form, &mut buffer) {
-        Answer::Accepted(rows) => {
+        Ok(rows) => {
             say_accepted(host.out(), part(&buffer, bytes_of(rows)));
             DONE
         }
-        Answer::Refused(refusal, told) => {
+        Err(Refused { refusal, told }) => {
             say_told(host.out(), form, refusal, told);
             NO
         }
@@ -204,11 +200,11 @@ fn tell_checked(host: Host<'_>, number: u32, place: u32, form: &[u8]) {
 fn tell_form(host: Host<'_>, form: &[u8]) -> u8 {
     let mut buffer = io::large_buffer();
     match resolve(form, &mut buffer) {
-        Answer::Accepted(rows) => {
+        Ok(rows) => {
             tell_checked(host, 0, 0, part(&buffer, bytes_of(rows)));
             DONE
         }
-        Answer::Refused(refusal, _) => {
+        Err(Refused { refusal, .. }) => {
             tell_checked(host, refusal.number, refusal.place, form);
             NO
         }
@@ -225,14 +221,14 @@ fn tell_named(host: Host<'_>, path: &[u8], form: &[u8]) -> u8 {
 fn check_path(host: Host<'_>, path: &[u8], is_json: bool) -> u8 {
     let mut buffer = io::large_buffer();
     match load(host, path, &mut buffer) {
-        Loaded::Bytes(length) => {
+        Some(length) => {
             if is_json {
                 tell_named(host, path, part(&buffer, length))
             } else {
                 check_named(host, path, part(&buffer, length))
             }
         }
-        Loaded::Failed => FAILED,
+        None => FAILED,
     }
 }
 
@@ -264,8 +260,8 @@ fn check_with(host: Host<'_>, options: Options) -> u8 {
 
 fn run_check(host: Host<'_>, first: u8) -> u8 {
     match read_options(host, first, JSON) {
-        Given::Options(given) => check_with(host, given),
-        Given::Wrong => FAILED,
+        Some(given) => check_with(host, given),
+        None => FAILED,
     }
 }
 

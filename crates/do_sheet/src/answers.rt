@@ -36,13 +36,8 @@ fn say_row(fd: Talk<'_>, names: &[u8], form: &[u8], decl: u16) {
 
 fn say_meaning(fd: Talk<'_>, names: &[u8], form: &[u8], reference: u16) {
     match final_meaning(form, reference) {
-        Meaning::At {
-            row,
-            number: _,
-            out: _,
-            name: _,
-        } => say_row(fd, names, form, row),
-        Meaning::Nowhere => say(fd, b"nothing is reached"),
+        Some(Meaning { row, .. }) => say_row(fd, names, form, row),
+        None => say(fd, b"nothing is reached"),
     }
 }
 

@@ -10,13 +10,14 @@ use command::forms::part;
 use command::status::{DONE, FAILED, NO, said};
 use command::topic::{Task, say_topic};
 use files::host::{Host, arg};
-use files::read::{Loaded, load};
+use files::read::load;
 use files::standard::error_noted;
 use known::file::say_told;
-use options::given::{Given, JSON, NAMES, Options, has, read_options};
+use options::given::{JSON, NAMES, Options, has, read_options};
 use options::names::load_names;
-use resolver::run::{Answer as Resolved, resolve};
-use sheet::{Answer, check};
+use refusal::Refused;
+use resolver::run::resolve;
+use sheet::check;
 use slots::{SLOT, is_sound};
 use told::{tell_slots, tell_whole};
 use words::{say, say_number};
@@ -49,11 +50,11 @@ fn say_why(host: Host<'_>, form: &[u8], sheet: &[u8]) {
     }
     let mut out = io::large_buffer();
     match resolve(form, &mut out) {
-        Resolved::Accepted(_) => say(
+        Ok(_) => say(
             host.out(),
             b"refused 15: the second form is not what wnt resolve writes for the first\n",
         ),
-        Resolved::Refused(refusal, told) => say_told(host.out(), form, refusal, told),
+        Err(Refused { refusal, told }) => say_told(host.out(), form, refusal, told),
     }
 }
 
@@ -69,8 +70,8 @@ fn tell_why(host: Host<'_>, form: &[u8], sheet: &[u8]) {
     }
     let mut out = io::large_buffer();
     match resolve(form, &mut out) {
-        Resolved::Accepted(_) => tell_refusal(host, NO_SHEET, 0),
-        Resolved::Refused(refusal, _) => tell_refusal(host, refusal.number, refusal.place),
+        Ok(_) => tell_refusal(host, NO_SHEET, 0),
+        Err(Refused { refusal, .. }) => tell_refusal(host, refusal.number, refusal.place),
     }
 }
 
@@ -128,14 +129,14 @@ fn say_of_forms(
     let mut answers = [0u8; 1600];
     let mut work = io::large_buffer();
     match check(form, resolved, sheet, &mut answers, &mut work) {
-        Answer::Answered(failing) => {
+        Ok(failing) => {
             if is_json {
                 tell_answered(host, names, resolved, sheet, &answers, failing)
             } else {
                 say_answered(host, names, resolved, sheet, &answers, failing)
             }
         }
-        Answer::Refused(_) => refuse(host, form, sheet, is_json),
+        Err(_) => refuse(host, form, sheet, is_json),
     }
 }
 
@@ -149,7 +150,7 @@ fn say_with_sheet(
 ) -> u8 {
     let mut buffer = io::large_buffer();
     match load(host, path, &mut buffer) {
-        Loaded::Bytes(length) => {
+        Some(length) => {
             let before = error_noted(host);
             said(
                 host,
@@ -157,7 +158,7 @@ fn say_with_sheet(
                 before,
             )
         }
-        Loaded::Failed => FAILED,
+        None => FAILED,
     }
 }
 
@@ -171,10 +172,8 @@ fn say_with_resolved(
 ) -> u8 {
     let mut buffer = io::large_buffer();
     match load(host, path, &mut buffer) {
-        Loaded::Bytes(length) => {
-            say_with_sheet(host, names, form, part(&buffer, length), sheet, is_json)
-        }
-        Loaded::Failed => FAILED,
+        Some(length) => { say_with_sheet(host, names, form, part(&buffer, length), sheet, is_json) }
+        None => FAILED,
     }
 }
 
@@ -188,10 +187,10 @@ fn say_of_paths(
 ) -> u8 {
     let mut buffer = io::large_buffer();
     match load(host, form, &mut buffer) {
-        Loaded::Bytes(length) => {
+        Some(length) => {
             say_with_resolved(host, names, part(&buffer, length), resolved, sheet, is_json)
         }
-        Loaded::Failed => FAILED,
+        None => FAILED,
     }
 }
 
@@ -223,15 +222,15 @@ fn sheet_with(host: Host<'_>, options: Options) -> u8 {
     }
     let mut names = io::large_buffer();
     match load_names(host, options, &mut names) {
-        Loaded::Bytes(count) => say_called(host, options, part(&names, count)),
-        Loaded::Failed => FAILED,
+        Some(count) => say_called(host, options, part(&names, count)),
+        None => FAILED,
     }
 }
 
 fn run_sheet(host: Host<'_>, first: u8) -> u8 {
     match read_options(host, first, NAMES | JSON) {
-        Given::Options(given) => sheet_with(host, given),
-        Given::Wrong => FAILED,
+        Some(given) => sheet_with(host, given),
+        None => FAILED,
     }
 }
 

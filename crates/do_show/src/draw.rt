@@ -8,14 +8,14 @@ use command::status::{DONE, FAILED, NO, said};
 use command::topic::{Task, say_topic};
 use drawing::whole::{begin_heading, draw, end, write_rows};
 use files::host::{Host, arg};
-use files::read::{Loaded, load};
+use files::read::load;
 use files::standard::error_noted;
 use known::file::{Known, say_told, what_is};
-use moved::run::{Answer, moved as list_moved};
-use options::given::{Given, NAMES, Options, read_options};
+use moved::run::moved as list_moved;
+use options::given::{NAMES, Options, read_options};
 use options::names::load_names;
-use refusal::{Refusal, Told};
-use resolver::run::{Answer as Resolved, resolve};
+use refusal::{Refusal, Refused, Told};
+use resolver::run::resolve;
 use view::accepted::{is_resolved, say_resolved};
 
 // How wide a picture is at least: as the legend, or as a refusal in words.
@@ -72,8 +72,8 @@ fn draw_known(host: Host<'_>, names: &[u8], form: &[u8], refusal: Refusal, told:
 fn draw_other(host: Host<'_>, names: &[u8], form: &[u8]) -> u8 {
     let mut out = io::large_buffer();
     match resolve(form, &mut out) {
-        Resolved::Accepted(_) => FAILED,
-        Resolved::Refused(refusal, told) => draw_known(host, names, form, refusal, told),
+        Ok(_) => FAILED,
+        Err(Refused { refusal, told }) => draw_known(host, names, form, refusal, told),
     }
 }
 
@@ -83,25 +83,25 @@ fn draw_form(host: Host<'_>, names: &[u8], form: &[u8]) -> u8 {
     let mut moved = [0u8; 16384];
     let mut apart = [0u8; 12288];
     match list_moved(form, &mut out, &mut moved, &mut apart) {
-        Answer::Listed(listed) => {
+        Ok(listed) => {
             draw(host.out(), names, form, &moved, listed.moved, LEGEND);
             begin_heading(host.out());
             write_rows(host.out(), form);
             end(host.out());
             DONE
         }
-        Answer::Refused(_) => draw_other(host, names, form),
+        Err(_) => draw_other(host, names, form),
     }
 }
 
 fn draw_path(host: Host<'_>, names: &[u8], path: &[u8]) -> u8 {
     let mut buffer = io::large_buffer();
     match load(host, path, &mut buffer) {
-        Loaded::Bytes(length) => {
+        Some(length) => {
             let before = error_noted(host);
             said(host, draw_form(host, names, part(&buffer, length)), before)
         }
-        Loaded::Failed => FAILED,
+        None => FAILED,
     }
 }
 
@@ -121,15 +121,15 @@ fn draw_with(host: Host<'_>, options: Options) -> u8 {
     }
     let mut names = io::large_buffer();
     match load_names(host, options, &mut names) {
-        Loaded::Bytes(count) => draw_called(host, options, part(&names, count)),
-        Loaded::Failed => FAILED,
+        Some(count) => draw_called(host, options, part(&names, count)),
+        None => FAILED,
     }
 }
 
 fn run_draw(host: Host<'_>, first: u8) -> u8 {
     match read_options(host, first, NAMES) {
-        Given::Options(given) => draw_with(host, given),
-        Given::Wrong => FAILED,
+        Some(given) => draw_with(host, given),
+        None => FAILED,
     }
 }
 

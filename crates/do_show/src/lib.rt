@@ -6,33 +6,32 @@ mod digits;
 pub mod draw;
 mod told;
 
-use asked::Asked;
 use command::arguments::{behind, has_words, wrong_count};
 use command::forms::part;
 use command::status::{DONE, FAILED, NO, said};
 use command::topic::{Task, say_topic};
-use digits::{Parsed, number_in};
+use digits::number_in;
 use files::host::{Host, arg};
-use files::read::{Loaded, load};
+use files::read::load;
 use files::standard::error_noted;
 use known::file::{Known, say_refused, what_is};
-use options::given::{Given, JSON, NAMES, Options, has, read_options};
+use options::given::{JSON, NAMES, Options, has, read_options};
 use options::names::load_names;
-use refusal::Refusal;
-use resolver::run::{Answer, resolve};
+use refusal::{Refusal, Refused};
+use resolver::run::resolve;
 use told::tell;
 use view::accepted::{is_resolved, say_resolved};
 use view::explain::explain;
 use view::show::show;
 use words::say;
 
-fn say_asked(host: Host<'_>, form: &[u8], names: &[u8], asked: Asked) -> u8 {
+fn say_asked(host: Host<'_>, form: &[u8], names: &[u8], asked: Option<u32>) -> u8 {
     match asked {
-        Asked::All => {
+        None => {
             show(host.out(), names, form);
             DONE
         }
-        Asked::At(place) => {
+        Some(place) => {
             if explain(host.out(), names, form, place) {
                 DONE
             } else {
@@ -43,7 +42,13 @@ fn say_asked(host: Host<'_>, form: &[u8], names: &[u8], asked: Asked) -> u8 {
 }
 
 // What is asked of a file that the resolver refuses: first what it is.
-fn say_of_refused(host: Host<'_>, form: &[u8], names: &[u8], asked: Asked, refusal: Refusal) -> u8 {
+fn say_of_refused(
+    host: Host<'_>,
+    form: &[u8],
+    names: &[u8],
+    asked: Option<u32>,
+    refusal: Refusal,
+) -> u8 {
     match what_is(refusal.number, is_resolved(form)) {
         Known::NoForm => {
             say_refused(host.out(), form, refusal);
@@ -62,20 +67,20 @@ fn say_of_refused(host: Host<'_>, form: &[u8], names: &[u8], asked: Asked, refus
     }
 }
 
-fn say_of_form(host: Host<'_>, form: &[u8], names: &[u8], asked: Asked) -> u8 {
+fn say_of_form(host: Host<'_>, form: &[u8], names: &[u8], asked: Option<u32>) -> u8 {
     let mut buffer = io::large_buffer();
     match resolve(form, &mut buffer) {
-        Answer::Accepted(_) => say_asked(host, form, names, asked),
-        Answer::Refused(refusal, _) => say_of_refused(host, form, names, asked, refusal),
+        Ok(_) => say_asked(host, form, names, asked),
+        Err(Refused { refusal, .. }) => say_of_refused(host, form, names, asked, refusal),
     }
 }
 
 // The same as objects of JSON.
-fn tell_of_form(host: Host<'_>, form: &[u8], names: &[u8], asked: Asked) -> u8 {
+fn tell_of_form(host: Host<'_>, form: &[u8], names: &[u8], asked: Option<u32>) -> u8 {
     let mut buffer = io::large_buffer();
     match resolve(form, &mut buffer) {
-        Answer::Accepted(_) => tell(host, form, names, asked, 0, 0),
-        Answer::Refused(refusal, _) => tell(
+        Ok(_) => tell(host, form, names, asked, 0, 0),
+        Err(Refused { refusal, .. }) => tell(
             host,
             form,
             names,
@@ -86,7 +91,7 @@ fn tell_of_form(host: Host<'_>, form: &[u8], names: &[u8], asked: Asked) -> u8 {
     }
 }
 
-fn answer(host: Host<'_>, form: &[u8], names: &[u8], asked: Asked, is_json: bool) -> u8 {
+fn answer(host: Host<'_>, form: &[u8], names: &[u8], asked: Option<u32>, is_json: bool) -> u8 {
     let before = error_noted(host);
     if is_json {
         said(host, tell_of_form(host, form, names, asked), before)
@@ -96,20 +101,20 @@ fn answer(host: Host<'_>, form: &[u8], names: &[u8], asked: Asked, is_json: bool
 }
 
 // Says of the form in a file what is asked.
-fn say_of_path(host: Host<'_>, path: &[u8], names: &[u8], asked: Asked, is_json: bool) -> u8 {
+fn say_of_path(host: Host<'_>, path: &[u8], names: &[u8], asked: Option<u32>, is_json: bool) -> u8 {
     let mut buffer = io::large_buffer();
     match load(host, path, &mut buffer) {
-        Loaded::Bytes(length) => answer(host, part(&buffer, length), names, asked, is_json),
-        Loaded::Failed => FAILED,
+        Some(length) => answer(host, part(&buffer, length), names, asked, is_json),
+        None => FAILED,
     }
 }
 
 // Says it of the form in the argument behind the options.
-fn say_with(host: Host<'_>, options: Options, asked: Asked) -> u8 {
+fn say_with(host: Host<'_>, options: Options, asked: Option<u32>) -> u8 {
     let mut names = io::large_buffer();
     let mut path = io::buffer();
     match load_names(host, options, &mut names) {
-        Loaded::Bytes(count) => {
+        Some(count) => {
             let length = arg(host, behind(options.first, 1), &mut path);
             say_of_path(
                 host,
@@ -119,7 +124,7 @@ fn say_with(host: Host<'_>, options: Options, asked: Asked) -> u8 {
                 has(options.set, JSON),
             )
         }
-        Loaded::Failed => FAILED,
+        None => FAILED,
     }
 }
 
@@ -128,17 +133,17 @@ fn show_with(host: Host<'_>, options: Options) -> u8 {
         wrong_count(host, b"wnt show [--names FILE] [--json] FORM");
         return FAILED;
     }
-    say_with(host, options, Asked::All)
+    say_with(host, options, None)
 }
 
 fn run_show(host: Host<'_>, first: u8) -> u8 {
     match read_options(host, first, NAMES | JSON) {
-        Given::Options(given) => show_with(host, given),
-        Given::Wrong => FAILED,
+        Some(given) => show_with(host, given),
+        None => FAILED,
     }
 }
 
-fn place_in(host: Host<'_>, i: usize) -> Parsed {
+fn place_in(host: Host<'_>, i: usize) -> Option<u32> {
     let mut text = [0u8; 16];
     let length = arg(host, i, &mut text);
     number_in(&text[..length])
@@ -150,8 +155,8 @@ fn explain_with(host: Host<'_>, options: Options) -> u8 {
         return FAILED;
     }
     match place_in(host, behind(options.first, 2)) {
-        Parsed::Number(place) => say_with(host, options, Asked::At(place)),
-        Parsed::NoNumber => {
+        Some(place) => say_with(host, options, Some(place)),
+        None => {
             say(host.err(), b"A place is a number from 0 to 4294967295.\n");
             FAILED
         }
@@ -160,8 +165,8 @@ fn explain_with(host: Host<'_>, options: Options) -> u8 {
 
 fn run_explain(host: Host<'_>, first: u8) -> u8 {
     match read_options(host, first, NAMES | JSON) {
-        Given::Options(given) => explain_with(host, given),
-        Given::Wrong => FAILED,
+        Some(given) => explain_with(host, given),
+        None => FAILED,
     }
 }
 

@@ -1,18 +1,17 @@
 // The same as objects of JSON: first what the form is, then its rows or the references with a place.
-use crate::asked::Asked;
 use command::status::{DONE, NO};
 use files::host::Host;
 use known::file::{Known, what_is};
 use view::accepted::is_resolved;
 use view_json::{tell_form, tell_place, tell_rows};
 
-fn tell_asked(host: Host<'_>, form: &[u8], names: &[u8], asked: Asked) -> u8 {
+fn tell_asked(host: Host<'_>, form: &[u8], names: &[u8], asked: Option<u32>) -> u8 {
     match asked {
-        Asked::All => {
+        None => {
             tell_rows(host.out(), names, form);
             DONE
         }
-        Asked::At(place) => {
+        Some(place) => {
             if tell_place(host.out(), names, form, place) {
                 DONE
             } else {
@@ -27,7 +26,7 @@ pub(crate) fn tell(
     host: Host<'_>,
     form: &[u8],
     names: &[u8],
-    asked: Asked,
+    asked: Option<u32>,
     number: u32,
     place: u32,
 ) -> u8 {

@@ -10,15 +10,10 @@ use row_parts::rows_in;
 use words::Talk;
 
 // Whether what a reference means stands in a scope further out.
-fn leads_out(meaning: Meaning) -> bool {
+fn leads_out(meaning: Option<Meaning>) -> bool {
     match meaning {
-        Meaning::At {
-            row: _,
-            number: _,
-            out,
-            name: _,
-        } => 0 < out,
-        Meaning::Nowhere => false,
+        Some(Meaning { out, .. }) => 0 < out,
+        None => false,
     }
 }
 

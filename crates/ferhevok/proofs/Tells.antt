@@ -1,4 +1,5 @@
 -- What is told besides: the ways through the code.
+use Rattle.std.specs.Prelude.{Result, Ok, Err, ℕ}
 use mathlib.Core.Path.{◌≡◌, refl, sym, ◌∙◌}
 use mathlib.Core.Bool.{Bool, true, false}
 use mathlib.Core.List.{List, [], ◌∷◌}
@@ -15,10 +16,9 @@ use Rattle.refusal.specs.declared.Refusal.{Refusal}
 use Rattle.refusal.specs.declared.Told.{Told}
 use Rattle.refusal.specs.Refusals.{tells}
 use Rattle.resolver.specs.Meaning.{meaning, ruled}
-use Rattle.resolver.specs.declared.run.Answer.{Answer}
-use Rattle.resolver.specs.declared.run.Answer.TheVariants.{Accepted, Refused}
 use Rattle.ferhevok.specs.Packed.{packed}
 use Rattle.ferhevok.specs.Telling.{answer_told, output_told, told_after}
+use Rattle.refusal.specs.declared.Refused.{Refused}
 
 -- ---- put_told
 
@@ -35,16 +35,16 @@ told_put (a ∷ b ∷ old) space first h = let e : leb 2 (length (a ∷ b ∷ ol
 
 -- ---- telling
 
-module _ (a : Answer) (old new : List ℕ) where
-  pub tells_accepted : (n : ℕ) → a ≡ Accepted n → new ≡ told_after (tells 0 0) old → new ≡ told_after (meaning a).told old
+module _ (a : Result ℕ Refused) (old new : List ℕ) where
+  pub tells_accepted : (n : ℕ) → a ≡ Ok n → new ≡ told_after (tells 0 0) old → new ≡ told_after (meaning a).told old
   tells_accepted n e h = rw e h
 
-  pub tells_refused : (r : Refusal) (t : Told) → a ≡ Refused r t → new ≡ told_after (tells t.space t.first) old → new ≡ told_after (meaning a).told old
+  pub tells_refused : (r : Refusal) (t : Told) → a ≡ Err (record { refusal = r; told = t }) → new ≡ told_after (tells t.space t.first) old → new ≡ told_after (meaning a).told old
   tells_refused r t e h = rw e h
 
 -- ---- wnt_resolve_told
 
-module _ (form out told : List ℕ) (a : Answer) (r : ℕ) (said : r ≡ packed (meaning a).plain) where
+module _ (form out told : List ℕ) (a : Result ℕ Refused) (r : ℕ) (said : r ≡ packed (meaning a).plain) where
   -- nothing can be told
   module _ (short : length told < 2) (q : meaning a ≡ ruled (answer base form 0)) where
     none : leb 2 (length told) ≡ false

@@ -10,16 +10,16 @@ ghost use Rattle.ferhevok.specs.Packed.{packed};
 
 use names::Slot;
 use packed::packed_refusal;
-use sheet::{Answer, check};
+use sheet::check;
 use sheet_with::check_with;
 
 // The refusal's number times 2^32 plus its place; else how many slots are not bound as written.
-fn packed_slots(answer: Answer) -> u64
+fn packed_slots(answer: Result<usize, Refusal>) -> u64
     ensures { result ≡ packed (meaning answer) }
 {
     match answer {
-        Answer::Answered(failing) => failing as u64,
-        Answer::Refused(refusal) => packed_refusal(refusal),
+        Ok(failing) => failing as u64,
+        Err(refusal) => packed_refusal(refusal),
     }
 }
 

@@ -7,16 +7,16 @@ ghost use Rattle.matched.specs.Counted.{choice_of};
 ghost use Rattle.diff.specs.Meaning.{meaning, bytes_of};
 ghost use Rattle.ferhevok.specs.Packed.{packed_answer};
 
-use diff::run::{Answer, compare};
+use diff::run::compare;
 use packed::packed_refusal;
 
 // The refusal's number times 2^32 plus its place; else the bytes of the list.
-fn packed_list(answer: Answer) -> u64
+fn packed_list(answer: Result<u32, Refusal>) -> u64
     ensures { result ≡ packed_answer (meaning answer) }
 {
     match answer {
-        Answer::Listed(bytes) => bytes as u64,
-        Answer::Refused(refusal) => packed_refusal(refusal),
+        Ok(bytes) => bytes as u64,
+        Err(refusal) => packed_refusal(refusal),
     }
 }
 

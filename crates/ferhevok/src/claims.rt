@@ -15,13 +15,13 @@ use names::Slot;
 use packed::{packed_no, packed_refusal};
 
 // 0 for yes; for no 100 and the condition, for a refusal its number, times 2^32, plus the row or the place.
-fn packed_verdict(verdict: Verdict) -> u64
+fn packed_verdict(verdict: Result<Verdict, Refusal>) -> u64
     ensures { result ≡ packed_verdict (meaning verdict) }
 {
     match verdict {
-        Verdict::Yes => 0,
-        Verdict::No { condition, row } => packed_no(condition, row),
-        Verdict::Refused(refusal) => packed_refusal(refusal),
+        Ok(Verdict::Yes) => 0,
+        Ok(Verdict::No { condition, row }) => packed_no(condition, row),
+        Err(refusal) => packed_refusal(refusal),
     }
 }
 

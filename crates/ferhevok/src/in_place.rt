@@ -5,16 +5,16 @@ ghost use Rattle.mending.specs.Mend.{mend_buffer, buffer_after, list_after};
 ghost use Rattle.mend.specs.Meaning.{meaning, ruled};
 ghost use Rattle.ferhevok.specs.Packed.{packed_mending};
 
-use mend::run::{Answer, mend};
+use mend::run::mend;
 use packed::packed_refusal;
 
 // The refusal's number times 2^32 plus its place; else the number of changes.
-fn packed_in(answer: Answer) -> u64
+fn packed_in(answer: Result<u32, Refusal>) -> u64
     ensures { result ≡ packed_mending (meaning answer) }
 {
     match answer {
-        Answer::Mended(changes) => changes as u64,
-        Answer::Refused(refusal) => packed_refusal(refusal),
+        Ok(changes) => changes as u64,
+        Err(refusal) => packed_refusal(refusal),
     }
 }
 

@@ -20,15 +20,16 @@ ghost use Rattle.resolver.specs.Meaning.{meaning, ruled};
 ghost use Rattle.ferhevok.specs.Packed.{packed};
 
 use packed::packed_refusal;
-use resolver::run::{Answer, resolve};
+use refusal::Refused;
+use resolver::run::resolve;
 
 // The refusal's number times 2^32 plus its place; on acceptance the number of rows written.
-pub(crate) fn packed_in(answer: Answer) -> u64
+pub(crate) fn packed_in(answer: Result<u32, Refused>) -> u64
     ensures { result ≡ packed (meaning answer).plain }
 {
     match answer {
-        Answer::Accepted(rows) => rows as u64,
-        Answer::Refused(refusal, _) => packed_refusal(refusal),
+        Ok(rows) => rows as u64,
+        Err(Refused { refusal, .. }) => packed_refusal(refusal),
     }
 }
 

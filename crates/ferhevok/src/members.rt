@@ -25,13 +25,13 @@ const MEMBER: u8 = 1;
 const PRELUDE: u8 = 2;
 
 // The form of the declaration, 1 for the member and 2 for the prelude, times 2^32 plus its row; 0 where there is none.
-fn packed_declared(declared: Declared) -> u64
+fn packed_declared(declared: Option<Declared>) -> u64
     ensures { result ≡ packed_declared declared }
 {
     match declared {
-        Declared::Member(row) => packed_row(MEMBER, row),
-        Declared::Prelude(row) => packed_row(PRELUDE, row),
-        Declared::Nowhere => 0,
+        Some(Declared::Member(row)) => packed_row(MEMBER, row),
+        Some(Declared::Prelude(row)) => packed_row(PRELUDE, row),
+        None => 0,
     }
 }
 

@@ -8,18 +8,18 @@ ghost use Rattle.resolver_with.specs.Asked.{asked};
 ghost use Rattle.resolver_with.specs.Areas.{lent_of, Cleared};
 ghost use Rattle.ferhevok.specs.Packed.{packed};
 
-use moved::run::{Answer, moved as list_moved};
+use moved::run::moved as list_moved;
 use moved_with::moved_with as list_moved_with;
 use names::Slot;
 use packed::{packed_counts, packed_refusal};
 
 // The refusal's number times 2^32 plus its place; else how many numbers are apart times 65536 plus how many have moved.
-fn packed_lists(answer: Answer) -> u64
+fn packed_lists(answer: Result<Listed, Refusal>) -> u64
     ensures { result ≡ packed (meaning answer) }
 {
     match answer {
-        Answer::Listed(lists) => packed_counts(lists.apart, lists.moved),
-        Answer::Refused(refusal) => packed_refusal(refusal),
+        Ok(lists) => packed_counts(lists.apart, lists.moved),
+        Err(refusal) => packed_refusal(refusal),
     }
 }
 

@@ -6,7 +6,8 @@ ghost use Rattle.ferhevok.specs.Packed.{packed};
 ghost use Rattle.ferhevok.specs.Telling.{answer_told, output_told, told_after};
 
 use packed::packed_refusal;
-use resolver::run::{Answer, resolve};
+use refusal::Refused;
+use resolver::run::resolve;
 
 // How many numbers are told: the space, and the place of the first declaration.
 const TOLD: usize = 2;
@@ -23,15 +24,20 @@ fn put_told(told: &mut [u32], space: u32, first: u32)
 }
 
 // The number of an answer, and in `told` what it tells.
-fn telling(answer: Answer, told: &mut [u32]) -> u64
+fn telling(answer: Result<u32, Refused>, told: &mut [u32]) -> u64
     ensures { (result ≡ packed (meaning answer).plain) × (told.new ≡ told_after (meaning answer).told told.old) }
 {
     match answer {
-        Answer::Accepted(rows) => {
+        Ok(rows) => {
             put_told(told, 0, 0);
             rows as u64
         }
-        Answer::Refused(refusal, besides) => {
+        Err(
+            Refused {
+                refusal,
+                told: besides,
+            },
+        ) => {
             put_told(told, besides.space, besides.first);
             packed_refusal(refusal)
         }

@@ -6,16 +6,16 @@ ghost use Rattle.converting.specs.Convert.{converted, converted_output, rows_sai
 ghost use Rattle.convert.specs.Meaning.{meaning};
 ghost use Rattle.ferhevok.specs.Packed.{packed_answer};
 
-use convert::run::{Answer, convert};
+use convert::run::convert;
 use packed::packed_refusal;
 
 // The refusal's number times 2^32 plus its place; else the rows of the converted form.
-fn packed_rows(answer: Answer) -> u64
+fn packed_rows(answer: Result<u32, Refusal>) -> u64
     ensures { result ≡ packed_answer (meaning answer) }
 {
     match answer {
-        Answer::Converted(rows) => rows as u64,
-        Answer::Refused(refusal) => packed_refusal(refusal),
+        Ok(rows) => rows as u64,
+        Err(refusal) => packed_refusal(refusal),
     }
 }
 

@@ -7,13 +7,6 @@ ghost use Rattle.rules.specs.Shapes as rules;
 ghost use Rattle.rules.specs.Shapes.{builtin_ok, here_only};
 ghost use Rattle.field_codes.specs.Values.{as_option};
 
-// The kind of scope that a field opens.
-#[derive(Clone, Copy)]
-pub enum Inner {
-    Nothing,
-    Kind(usize),
-}
-
 // What e of a FIELD may be: a builtin code in field 19, in field 22 whether there is an ascribed type, and zero elsewhere.
 #[tactic(auto, using(crate::proofs::Laws::if_yes, crate::proofs::Laws::if_no, kit::proofs::Laws::tests), unfolding(rules::specs::Shapes::builtin_ok))]
 pub fn builtin_ok(code: usize, e: usize) -> bool
@@ -43,14 +36,14 @@ pub fn here_only(code: u8) -> bool
 }
 
 // The kind of scope that the field opens.
-pub fn opens(code: usize) -> Inner
+pub fn opens(code: usize) -> Option<usize>
     ensures { as_option result ≡ rules.opens code }
 {
     match code {
-        6 => Inner::Kind(0),
-        14 => Inner::Kind(1),
-        15 => Inner::Kind(2),
-        17 => Inner::Kind(3),
-        _ => Inner::Nothing,
+        6 => Some(0),
+        14 => Some(1),
+        15 => Some(2),
+        17 => Some(3),
+        _ => None,
     }
 }

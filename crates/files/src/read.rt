@@ -11,13 +11,6 @@ use std::os::fd::AsRawFd;
 // The most bytes that a form has: those of an output of 4,092 rows.
 const LARGEST: usize = 65480;
 
-// What reading a file came to: this many bytes, or a sentence on standard error that says why not.
-#[derive(Clone, Copy)]
-pub enum Loaded {
-    Bytes(usize),
-    Failed,
-}
-
 // Whether all of a file was read: one more read finds nothing. io::read_full stops where a read fails, too.
 fn is_at_end<F: Read>(file: &mut F) -> std::io::Result<bool> {
     let mut probe = [0u8; 1];
@@ -40,19 +33,19 @@ fn read_whole<F: Read + AsRawFd>(
     buffer: &mut [u8],
     most: usize,
     long: &[u8],
-) -> Loaded
+) -> Option<usize>
     ensures { Fits most result }
 {
     let length = io::read_full(file.as_raw_fd(), buffer);
     if most < length {
         say_wrong(host, path, long);
-        return Loaded::Failed;
+        return None;
     }
     if let Some(error) = unread(file) {
         say_failure(host, path, b" cannot be read", error);
-        return Loaded::Failed;
+        return None;
     }
-    Loaded::Bytes(length)
+    Some(length)
 }
 
 fn open(host: Host<'_>, path: &[u8]) -> std::io::Result<File> {
@@ -66,7 +59,7 @@ pub fn load_within(
     buffer: &mut [u8],
     most: usize,
     long: &[u8],
-) -> Loaded
+) -> Option<usize>
     ensures { Fits most result }
 {
     if is_dash(path) {
@@ -83,13 +76,13 @@ pub fn load_within(
         Ok(mut file) => read_whole(host, &mut file, path, buffer, most, long),
         Err(error) => {
             say_failure(host, path, b" cannot be opened", error);
-            Loaded::Failed
+            None
         }
     }
 }
 
 // Reads a file that is no longer than a form can be.
-pub fn load(host: Host<'_>, path: &[u8], form: &mut [u8; 65536]) -> Loaded
+pub fn load(host: Host<'_>, path: &[u8], form: &mut [u8; 65536]) -> Option<usize>
     ensures { Fits 65480 result }
 {
     load_within(

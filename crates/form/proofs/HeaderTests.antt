@@ -1,4 +1,5 @@
 -- The header as the code tests it is the rules' header.
+use Rattle.std.specs.Prelude.{Result, Ok, Err, ℕ}
 use mathlib.Core.Path.{◌≡◌, refl, sym, ap, ◌∙◌}
 use mathlib.Core.Bool.{Bool, true, false, ◌&&◌, not, and-true, and-false, and_assoc}
 use mathlib.Core.Option.{Option, none, some}
@@ -22,8 +23,8 @@ use Rattle.limits.specs.declared.Limits.{Limits}
 use Rattle.limits.specs.Held.{setting_in, limits_of, setting}
 use Rattle.form.specs.Header.{header_in, header_for, header_to, header_of}
 use Rattle.form.specs.HeaderTests.{is_marked_t, row_count_t}
-use Rattle.form.specs.declared.header.Header.{Header}
-use Rattle.form.specs.declared.header.Header.TheVariants.{Rows, Wrong, Count}
+use Rattle.form.specs.declared.header.BadHeader.TheVariants.{Wrong, Count}
+use Rattle.form.specs.declared.header.BadHeader.{BadHeader}
 
 -- ---- zeros
 
@@ -156,7 +157,7 @@ module _ (lim : Limits) (l : List ℕ) (h : ℕ) (is : h ≡ lim.header) where
 pub ruleset mark_ways = (header_short, header_other, header_rest, rules)
 
 module _ (lim : Limits) (l : List ℕ) (m : Bool) (is : m ≡ has_header (setting_in lim) l) where
-  pub not_headed : not m ≡ true → Wrong ≡ header_to lim l
+  pub not_headed : not m ≡ true → Err Wrong ≡ header_to lim l
   unfolding header_to header_for only
   not_headed e = rw (← is, not-true m e) refl
 
@@ -169,11 +170,11 @@ module _ (lim : Limits) (l : List ℕ) (m : Bool) (is : m ≡ has_header (settin
       counted : row_count (setting_in lim).version l ≡ n
       counted = count_right lim l ∙ sym got
 
-      pub no_rows_lem : n ≡ 0 → Count ≡ header_to lim l
+      pub no_rows_lem : n ≡ 0 → Err Count ≡ header_to lim l
       unfolding header_in when◌then◌else◌
       no_rows_lem h = sym (sym headed ∙ rw (counted, h))
 
-      pub many_rows : lim.rows < n → Count ≡ header_to lim l
+      pub many_rows : lim.rows < n → Err Count ≡ header_to lim l
       unfolding header_in when◌then◌else◌
       many_rows h =
           let t : leb 1 n ≡ true = omega tests in
@@ -188,13 +189,13 @@ module _ (lim : Limits) (l : List ℕ) (m : Bool) (is : m ≡ has_header (settin
             let u : leb n lim.rows ≡ true = omega tests in
             rw (t, u) refl
 
-        pub other_length : (length l ≡ b + 16 * n → ⊥) → Count ≡ header_to lim l
+        pub other_length : (length l ≡ b + 16 * n → ⊥) → Err Count ≡ header_to lim l
         unfolding header_in when◌then◌else◌
         other_length h =
             let v : eqb (length l) ((setting_in lim).version.header + 16 * n) ≡ false = unfold setting_in in rw (← bs) (omega tests) in
             sym (sym headed ∙ rw (counted, within, v))
 
-        pub right_length : length l ≡ b + 16 * n → Rows n ≡ header_to lim l
+        pub right_length : length l ≡ b + 16 * n → Ok n ≡ header_to lim l
         unfolding header_in when◌then◌else◌
         right_length h =
             let v : eqb (length l) ((setting_in lim).version.header + 16 * n) ≡ true = unfold setting_in in rw (← bs) (omega tests) in
@@ -209,5 +210,5 @@ unfolding ◌or_else◌
 or_none none = refl
 or_none (some a) = refl
 
-pub header_input : (lim : Limits) → lim ≡ limits_of (setting 0) → (l : List ℕ) (r : Header) → r ≡ header_to lim l → r ≡ header_of l
+pub header_input : (lim : Limits) → lim ≡ limits_of (setting 0) → (l : List ℕ) (r : Result ℕ BadHeader) → r ≡ header_to lim l → r ≡ header_of l
 header_input lim h l r e = e ∙ rw h (unfold header_to header_of setting_of setting_in pick in ap (λ o. header_for o l) (sym (or_none _)))

@@ -1,4 +1,5 @@
 -- Ways through the run inside a root.
+use Rattle.std.specs.Prelude.{Result, Ok, Err, ℕ}
 use mathlib.Core.Path.{◌≡◌, refl, sym, ap, ◌∙◌, subst}
 use mathlib.Core.Bool.{Bool, true, false}
 use mathlib.Core.List.{List, [], ◌∷◌, ◌++◌}
@@ -29,28 +30,22 @@ use Rattle.limits.specs.Held.{setting_in, limits_of, setting}
 use Rattle.limits.proofs.Laws as limits
 use Rattle.form.specs.Header.{header_for, header_to}
 use Rattle.form.specs.MarkEnds.{ends_to}
-use Rattle.form.specs.declared.header.Header.{Header}
-use Rattle.form.specs.declared.header.Header.TheVariants.{Rows, Wrong, Count}
 use Rattle.reader.specs.ReadTo.{read_to}
 use Rattle.names.specs.Table.{Slot, no_scope, scope_of, past_of, scope_at}
 use Rattle.index.specs.Indexed.{Holds, Tiled}
 use Rattle.write.specs.WriteState.{Wrote}
 use Rattle.write.specs.declared.alias.WriteState.{WriteState}
-use Rattle.write.specs.declared.alias.Walked.{Walked}
 use Rattle.walk.specs.Scopes.{scope_walk_t, start_in}
 use Rattle.walk.specs.Open.{Served, Stacked}
 use Rattle.claim_rows.specs.Left.{rows_at}
 use Rattle.claim_laws.specs.RowParts.{all_parts}
+use Rattle.form.specs.declared.header.BadHeader.TheVariants.{Wrong, Count}
 use Rattle.whole_form.specs.Whole.{form_of, refused_t, read_t, body_t}
-use Rattle.whole_form.specs.declared.read.Form.{Form}
-use Rattle.whole_form.specs.declared.read.Form.TheVariants.{Whole, Refused as NotWhole}
 use Rattle.whole_form.proofs.Ways.{Headed, header_rows, head_wrong, head_count, head_rows_lem}
 use Rattle.prelude_root.specs.Root.{root_t}
 use Rattle.resolver.specs.Meaning.{meaning, ruled}
 use Rattle.resolver.specs.Admit.{is_short, admit, Enough}
 use Rattle.resolver.specs.Run.{seen_of, fill_t}
-use Rattle.resolver.specs.declared.run.Answer.{Answer}
-use Rattle.resolver.specs.declared.run.Answer.TheVariants.{Refused}
 use Rattle.resolver.proofs.Bytes.{all_bytes}
 use Rattle.resolver.proofs.Starts.{served_new}
 use Rattle.resolver.proofs.Root.{Able}
@@ -62,6 +57,8 @@ use Rattle.member_laws.specs.RootEntered.{Around, root_come, root_entered}
 use Rattle.member_laws.proofs.Inside.{inside_early, inside_stays, inside_agrees_all}
 use Rattle.inside.specs.Areas.{both_for, Suits}
 use Rattle.inside.specs.Run.{walk_behind, walk_around, RootIn, Resolves}
+use Rattle.form.specs.declared.header.BadHeader.{BadHeader}
+use Rattle.refusal.specs.declared.Refused.{Refused}
 
 -- ---- the settings
 
@@ -94,10 +91,10 @@ module _ (i : ℕ) (l : Limits) (e : l ≡ limits_of (setting i)) where
 all_behind : (k : ℕ) (l : List ℕ) → take (length l - k) (drop k l) ≡ drop k l
 all_behind k l = take_all (length l - k) (drop k l) (simp length-drop (omega arith))
 
-pub enough : (i : ℕ) (input : List ℕ) (room : ℕ) (v : Form) → v ≡ form_of (admit (inner (setting i)) input room) → Enough v (inner (setting i)) input room
+pub enough : (i : ℕ) (input : List ℕ) (room : ℕ) (v : Result ℕ Refusal) → v ≡ form_of (admit (inner (setting i)) input room) → Enough v (inner (setting i)) input room
 enough i input room v e = admit_enough (inner (setting i)) input room v e
 
-module _ (i : ℕ) (input : List ℕ) (room : ℕ) (l : Limits) (e : l ≡ limits_of (inner (setting i))) (h : Header) (q : h ≡ header_to l input) where
+module _ (i : ℕ) (input : List ℕ) (room : ℕ) (l : Limits) (e : l ≡ limits_of (inner (setting i))) (h : Result ℕ BadHeader) (q : h ≡ header_to l input) where
   abbrev S : Setting
   S = inner (setting i)
 
@@ -111,17 +108,17 @@ module _ (i : ℕ) (input : List ℕ) (room : ℕ) (l : Limits) (e : l ≡ limit
   low : (limits_of S).rows ≤ 4294967295
   low = omega (arith, limits.few_rows i)
 
-  pub refuses_wrong : (v : Form) → h ≡ Wrong → v ≡ refused_t 1 0 → v ≡ form_of (admit S input room)
+  pub refuses_wrong : (v : Result ℕ Refusal) → h ≡ Err Wrong → v ≡ refused_t 1 0 → v ≡ form_of (admit S input room)
   refuses_wrong v is w =
       let short : false ≡ is_short S input room = unfold is_short in wrong_short S input (has_header S input) _ (sym is ∙ of_setting) in
       (admit_read S input room false short refl v (rw (stands i) at (head_wrong (limits_of S) input h of_limits low v is w)))
 
-  pub refuses_count : (v : Form) → h ≡ Count → v ≡ refused_t 2 0 → v ≡ form_of (admit S input room)
+  pub refuses_count : (v : Result ℕ Refusal) → h ≡ Err Count → v ≡ refused_t 2 0 → v ≡ form_of (admit S input room)
   refuses_count v is w =
       let short : false ≡ is_short S input room = unfold is_short in count_short S input (has_header S input) _ (sym is ∙ of_setting) in
       (admit_read S input room false short refl v (rw (stands i) at (head_count (limits_of S) input h of_limits low v is w)))
 
-  module _ (rows : ℕ) (is : h ≡ Rows rows) where
+  module _ (rows : ℕ) (is : h ≡ Ok rows) where
     found : Headed S input rows
     found = header_rows S input rows (sym is ∙ of_setting)
 
@@ -135,10 +132,10 @@ module _ (i : ℕ) (input : List ℕ) (room : ℕ) (l : Limits) (e : l ≡ limit
       said : ltb room (header + 64 * rows) ≡ is_short S input room
       said = rw size (rows_short S input room rows found)
 
-      pub refuses_short : (v : Form) → room < header + 64 * rows → v ≡ refused_t 3 0 → v ≡ form_of (admit S input room)
+      pub refuses_short : (v : Result ℕ Refusal) → room < header + 64 * rows → v ≡ refused_t 3 0 → v ≡ form_of (admit S input room)
       refuses_short v g w = (w ∙ admit_short S input room (ltb room (header + 64 * rows)) said (lt-ltb room (header + 64 * rows) g))
 
-      pub reads_rows : (v : Form) → header + 64 * rows ≤ room → v ≡ read_t (read_to l (take (length input - header) (drop header input))) rows → v ≡ form_of (admit S input room)
+      pub reads_rows : (v : Result ℕ Refusal) → header + 64 * rows ≤ room → v ≡ read_t (read_to l (take (length input - header) (drop header input))) rows → v ≡ form_of (admit S input room)
       unfolding body_t
       reads_rows v g w =
           let w' : v ≡ read_t (read_to (limits_of S) (drop (setting i).version.header input)) rows = subst (λ (n : ℕ). v ≡ read_t (read_to (limits_of S) (drop n input)) rows) size (rw (all_behind header input, e) at w) in
@@ -205,7 +202,7 @@ module _ (i : ℕ) (entered names : List Slot) (known chains ends : List ℕ) (s
       pub stacked_inside : Stacked (take most (set (replicate 64 no_scope) 0 scope)) s
       stacked_inside = rw (stack_is, starts) (stacked (setting i).version.scopes name used early (some_scope i))
 
-      pub walk_behind_lem : (rows noted out o : List ℕ) (e n : List Slot) (a : Walked) (by : Limits) → early ≡ (setting i).rules.early → by ≡ limits_of (setting i) → noted ≡ ends_to by.scopes rows ends
+      pub walk_behind_lem : (rows noted out o : List ℕ) (e n : List Slot) (a : Result WriteState Refused) (by : Limits) → early ≡ (setting i).rules.early → by ≡ limits_of (setting i) → noted ≡ ends_to by.scopes rows ends
           → (a & e & n & o) ≡ scope_walk_t rows noted (length (take most (set (replicate 64 no_scope) 0 scope)) - s.depth) entered names (take most (set (replicate 64 no_scope) 0 scope)) out s → a & o ≡ walk_inside (setting i) name used rows ends entered names out
       unfolding walk_inside seen_of
       walk_behind_lem rows noted out o e n a by asked limits₂ m w =
@@ -229,7 +226,7 @@ fills_as s walk walk' front e = rw e
 
 -- under any setting that the walk is able to take
 module _ (s : Setting) (able : Able s) (some-open : 1 ≤ s.version.scopes) (root input old ends : List ℕ) (entered names : List Slot) (en : length entered ≡ slots_for s.version) (nn : length names ≡ both_for s.version) (mn : length ends ≡ slots_for s.version) where
-  resolves_by : Bytes input → (rows : ℕ) → Whole rows ≡ form_of (admit (inner s) input (length old)) → (a : Answer) (k : List ℕ)
+  resolves_by : Bytes input → (rows : ℕ) → Ok rows ≡ form_of (admit (inner s) input (length old)) → (a : Result ℕ Refused) (k : List ℕ)
       → a & k ≡ fill_t s (walk_around s root (drop s.version.header input) ends entered names) (take (s.version.header + 64 * rows) old)
       → Resolves s root input old (k ++ drop (s.version.header + 64 * rows) old) a
   resolves_by all rows whole a k r t R = go (root_entered t names R.spaces (omega (arith, nn, able.few)) (omega (arith, nn, R.few)) (omega (arith, R.short, able.few)))
@@ -253,11 +250,11 @@ module _ (s : Setting) (able : Able s) (some-open : 1 ≤ s.version.scopes) (roo
           input old all rows whole a k
           (r ∙ fills_as s (walk_around s root (drop s.version.header input) ends entered names) (walk_inside s (parts_at root 0).x A.used (drop s.version.header input) ends entered A.names') front same)
 
-module _ (i : ℕ) (input old : List ℕ) (f : Form) (w : f ≡ form_of (admit (inner (setting i)) input (length old))) (entered names : List Slot) (known chains ends : List ℕ) (suits : Suits i entered names known chains ends) where
-  pub resolves_early : (root : List ℕ) (why : Refusal) → f ≡ NotWhole why → Resolves (setting i) root input old old (Refused why untold)
+module _ (i : ℕ) (input old : List ℕ) (f : Result ℕ Refusal) (w : f ≡ form_of (admit (inner (setting i)) input (length old))) (entered names : List Slot) (known chains ends : List ℕ) (suits : Suits i entered names known chains ends) where
+  pub resolves_early : (root : List ℕ) (why : Refusal) → f ≡ Err why → Resolves (setting i) root input old old (Err (record { refusal = why; told = untold }))
   resolves_early root why e t R = (inside_early (setting i) (root_of t) input (length old) why (sym e ∙ w), inside_stays (setting i) (root_of t) input (length old) why (sym e ∙ w) old refl)
 
-  module _ (fine : Enough f (inner (setting i)) input (length old)) (rows : ℕ) (e : f ≡ Whole rows) where
+  module _ (fine : Enough f (inner (setting i)) input (length old)) (rows : ℕ) (e : f ≡ Ok rows) where
     facts : ((setting i).version.header ≤ length input) × ((setting i).version.header + 64 * rows ≤ length old) × (rows ≤ (setting i).version.rows)
     facts = rw e at fine
 
@@ -271,7 +268,7 @@ module _ (i : ℕ) (input old : List ℕ) (f : Form) (w : f ≡ form_of (admit (
       pub has_room : header + 64 * rows ≤ length old
       has_room = omega (arith, facts.1)
 
-      pub resolves : (root : List ℕ) → ((j : ℕ) → Fits w8 (get_or input j 0)) → (a : Answer) (k : List ℕ)
+      pub resolves : (root : List ℕ) → ((j : ℕ) → Fits w8 (get_or input j 0)) → (a : Result ℕ Refused) (k : List ℕ)
           → a & k ≡ fill_t (setting i) (walk_around (setting i) root (take (length input - header) (drop header input)) ends entered names) (take (header + 64 * rows) old)
           → Resolves (setting i) root input old (k ++ drop (header + 64 * rows) old) a
       resolves root all a k r =

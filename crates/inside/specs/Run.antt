@@ -1,5 +1,5 @@
 -- The walk and the run of a form inside a root whose rows are given.
-use Rattle.std.specs.Prelude.{◌≡◌, List, ℕ, ◌*◌, ◌≤◌, length}
+use Rattle.std.specs.Prelude.{◌≡◌, List, ℕ, ◌*◌, ◌≤◌, length, Result}
 use Rattle.kit.specs.Out.{Out, ◌&◌}
 use Rattle.rules.specs.Versions.{Version, Setting}
 use Rattle.rules.specs.Tree.{Scope, flatten}
@@ -13,8 +13,8 @@ use Rattle.claim_laws.specs.RowParts.{all_parts}
 use Rattle.agree.specs.Fit.Spaces.{Spaces}
 use Rattle.prelude_root.specs.Root.{root_t}
 use Rattle.resolver.specs.Meaning.{meaning, ruled}
-use Rattle.resolver.specs.declared.run.Answer.{Answer}
 use Rattle.member_laws.specs.Within.{walk_inside}
+use Rattle.refusal.specs.declared.Refused.{Refused}
 
 -- ---- the walk
 
@@ -37,6 +37,6 @@ pub record RootIn (v : Version) (t : Scope) (root : List ℕ) : Type 0 where
   pub short : length (flatten t) ≤ 4 * v.rows
 
 -- inside whatever root these rows are, the answer and the output are the rules'
-abbrev pub Resolves : Setting → (root form old new : List ℕ) → Answer → Type 0
+abbrev pub Resolves : Setting → (root form old new : List ℕ) → Result ℕ Refused → Type 0
 Resolves s root form old new a =
     (t : Scope) → RootIn s.version t root → (meaning a ≡ ruled (inside_answer s (root_of t) form (length old))) × (new ≡ inside_output s (root_of t) form old)

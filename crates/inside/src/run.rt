@@ -16,12 +16,10 @@ use limits::{most_scopes, of_input};
 use names::{Scope, Slot, scope_of};
 use parts::parts_at;
 use prelude_root::enter_root;
-use refusal::{ROOM, Refusal, Told};
-use resolver::run::{Answer, blank, finish, header_size};
+use refusal::{ROOM, Refusal, Refused, Told};
+use resolver::run::{blank, finish, header_size};
 use resolver_with::run::is_early;
 use walk::scopes::{scope_walk, starting};
-use whole_form::read::Form;
-use write::alias::Walked;
 
 // A root that stands in the table: its name, and how many of the first slots are its.
 #[derive(Clone, Copy)]
@@ -56,7 +54,7 @@ fn walk_behind(
     chains: &mut [u16],
     ends: &mut [u32],
     root: Seat,
-) -> Walked
+) -> Result<WriteState, Refused>
     requires { Suits i entered.old names.old known.old chains.old ends.old × Holds names.old chains.old root.used }
     ensures { (result & out.new) ≡ walk_inside (setting i) root.name root.used rows.now ends.old entered.old names.old out.old }
 {
@@ -91,7 +89,7 @@ fn walk_inside(
     known: &mut [u16],
     chains: &mut [u16],
     ends: &mut [u32],
-) -> Walked
+) -> Result<WriteState, Refused>
     requires { Suits i entered.old names.old known.old chains.old ends.old }
     ensures { (result & out.new) ≡ walk_around (setting i) root.now rows.now ends.old entered.old names.old out.old }
 {
@@ -122,19 +120,19 @@ fn fill_inside(
     known: &mut [u16],
     chains: &mut [u16],
     ends: &mut [u32],
-) -> Answer
+) -> Result<u32, Refused>
     requires { Suits i entered.old names.old known.old chains.old ends.old }
     ensures { (result & front.new) ≡ fill_t (setting i) (walk_around (setting i) root.now rows.now ends.old entered.old names.old) front.old }
 {
     let header = header_size(i);
     if front.len() < header {
-        return Answer::Refused(
-            Refusal {
+        return Err(Refused {
+            refusal: Refusal {
                 number: ROOM,
                 place: 0,
             },
-            Told { space: 0, first: 0 },
-        );
+            told: Told { space: 0, first: 0 },
+        });
     }
     match walk_inside(
         root,
@@ -147,8 +145,8 @@ fn fill_inside(
         chains,
         ends,
     ) {
-        Walked::Refused(refusal, told) => blank(front, refusal, told),
-        Walked::Done(s) => finish(front, i, s.to),
+        Err(Refused { refusal, told }) => blank(front, refusal, told),
+        Ok(s) => finish(front, i, s.to),
     }
 }
 
@@ -163,13 +161,16 @@ pub fn resolve_around(
     known: &mut [u16],
     chains: &mut [u16],
     ends: &mut [u32],
-) -> Answer
+) -> Result<u32, Refused>
     requires { Suits i entered.old names.old known.old chains.old ends.old }
     ensures { Resolves (setting i) root.now form.now out.old out.new result }
 {
     match admitted_inside(form, i, out.len()) {
-        Form::Refused(why) => Answer::Refused(why, Told { space: 0, first: 0 }),
-        Form::Whole(rows) => {
+        Err(why) => Err(Refused {
+            refusal: why,
+            told: Told { space: 0, first: 0 },
+        }),
+        Ok(rows) => {
             let header = header_size(i);
             let size = header + 64 * rows;
             fill_inside(
@@ -188,7 +189,7 @@ pub fn resolve_around(
 }
 
 // The same in version 1, in tables that start empty.
-pub fn resolve_inside(root: &[u8], form: &[u8], out: &mut [u8]) -> Answer
+pub fn resolve_inside(root: &[u8], form: &[u8], out: &mut [u8]) -> Result<u32, Refused>
     ensures { Resolves (setting 0) root.now form.now out.old out.new result }
 {
     let mut entered: [Slot; 1024] = [[0u32; 6]; 1024];

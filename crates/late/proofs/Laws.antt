@@ -1,4 +1,5 @@
 -- The ways through the code: each law is one unfolding of a definition, with the facts in the form in which the code gives them.
+use Rattle.std.specs.Prelude.{Option, Some, None, ℕ}
 use mathlib.Core.Path.{◌≡◌, refl}
 use mathlib.Core.Bool.{Bool, true, false}
 use mathlib.Core.List.{List}
@@ -7,8 +8,6 @@ use Prim.Native.Nat.{ℕ, ◌-◌, ◌≤◌, ◌<◌}
 use borrow.Author.Rules.{rules}
 use Rattle.kit.proofs.Laws.{yes!, no!, tests}
 use Rattle.names.specs.Table.{Slot, between, find_in, scope_at, before_of}
-use Rattle.names.specs.declared.Found.{Found}
-use Rattle.names.specs.declared.Found.TheVariants.{At, Nothing}
 use Rattle.index.specs.Indexed.{Covers}
 use Rattle.late.specs.Late.{late_in, before_around}
 
@@ -20,12 +19,12 @@ covers_least table index before to n e c =
     let b = c.below in
     record { used = c.used; below = omega arith; holds = c.holds }
 
-module _ (table : List Slot) (from before to space name n : ℕ) (e : n ≡ before - (before - to)) (f : Found) (got : f ≡ find_in (between from n table) space name) where
-  pub late_found : (k : ℕ) → f ≡ At k → false ≡ late_in table from before to space name
+module _ (table : List Slot) (from before to space name n : ℕ) (e : n ≡ before - (before - to)) (f : Option ℕ) (got : f ≡ find_in (between from n table) space name) where
+  pub late_found : (k : ℕ) → f ≡ Some k → false ≡ late_in table from before to space name
   unfolding late_in
   late_found k m = rw (← e, ← got, m)
 
-  pub late_nothing : f ≡ Nothing → true ≡ late_in table from before to space name
+  pub late_nothing : f ≡ None → true ≡ late_in table from before to space name
   unfolding late_in
   late_nothing m = rw (← e, ← got, m)
 

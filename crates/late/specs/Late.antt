@@ -1,13 +1,11 @@
 -- Whether a declaration stands before a field, by the slots of its scope.
-use Rattle.std.specs.Prelude.{Bool, true, false, List, ℕ, ◌-◌, leb}
+use Rattle.std.specs.Prelude.{Bool, true, false, List, ℕ, ◌-◌, leb, Option, Some, None}
 use Rattle.kit.specs.Pick.{pick}
 use Rattle.names.specs.Table.{Slot, between, find_in, scope_at, before_of}
-use Rattle.names.specs.declared.Found.{Found}
-use Rattle.names.specs.declared.Found.TheVariants.{At, Nothing}
 
-abbrev pub is_absent : Found → Bool
-is_absent (At n) = false
-is_absent Nothing = true
+abbrev pub is_absent : Option ℕ → Bool
+is_absent (Some n) = false
+is_absent None = true
 
 -- none of the slots from `from` up to `before`, of those up to `to`, has the name
 unfoldable pub late_in : List Slot → (from before to space name : ℕ) → Bool

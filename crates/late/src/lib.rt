@@ -8,7 +8,7 @@ ghost use Rattle.index.specs.Indexed.{Covers};
 ghost use Rattle.late.specs.Late.{late_in, before_around};
 
 use index::find;
-use names::{BEFORE, Found, Scope, Slot, least, scope_at};
+use names::{BEFORE, Scope, Slot, least, scope_at};
 
 // Whether none of the slots from `from` up to `before`, of those up to `to`, has the name: what has it stands no earlier.
 pub fn is_late(
@@ -24,8 +24,8 @@ pub fn is_late(
     ensures { result ≡ late_in table.now from before to space name }
 {
     match find(table, index, from, least(before, to), space, name) {
-        Found::At(_) => false,
-        Found::Nothing => true,
+        Some(_) => false,
+        None => true,
     }
 }
 

@@ -1,4 +1,5 @@
 -- The ways through the code: each law is one unfolding of a twin, with the facts in the form in which the code gives them.
+use Rattle.std.specs.Prelude.{Option, Some, None, ℕ}
 use Rattle.std.proofs.Common.{◌≡◌, ℕ, suc, ◌+◌, ◌-◌, ◌/◌, ◌%◌, ◌<◌, ◌≤◌, Bool, true, false, not, List, [], ◌∷◌, length, get_or, sym, refl, ap, ◌∙◌, arith, rules, ne_eqb}
 use Rattle.kit.specs.Pick.{pick}
 use Rattle.kit.proofs.Laws.{yes!, no!, tests, left_suc, down, past}
@@ -10,8 +11,6 @@ use Rattle.rows.specs.declared.row.Index.TheVariants.{Name}
 use Rattle.rows.specs.declared.row.Row.TheVariants.{Ref}
 use Rattle.put.specs.Put.{put_row, copy_row}
 use Rattle.names.specs.Table.{Slot, between, pushed, find_in}
-use Rattle.names.specs.declared.Found.{Found}
-use Rattle.names.specs.declared.Found.TheVariants.{At, Nothing}
 use Rattle.index.specs.Indexed.{Holds, Covers}
 use Rattle.mark.specs.declared.Place.{Place}
 use Rattle.mark.specs.declared.Marking.{Marking}
@@ -73,11 +72,11 @@ pub ruleset enter_ways = (enter_decl, enter_other, enter_end, enter_close, enter
 
 -- ---- is_own, insert, rename
 
-module _ (table : List Slot) (space name : ℕ) (f : Found) (got : f ≡ find_in table space name) where
-  pub own_found : (n : ℕ) → f ≡ At n → true ≡ is_found (find_in table space name)
+module _ (table : List Slot) (space name : ℕ) (f : Option ℕ) (got : f ≡ find_in table space name) where
+  pub own_found : (n : ℕ) → f ≡ Some n → true ≡ is_found (find_in table space name)
   own_found n m = rw (← got, m)
 
-  pub own_nothing : f ≡ Nothing → false ≡ is_found (find_in table space name)
+  pub own_nothing : f ≡ None → false ≡ is_found (find_in table space name)
   own_nothing m = rw (← got, m)
 
 -- the first slots of those that the index serves
@@ -103,12 +102,12 @@ pub ruleset insert_ways = (own_found, own_nothing, own_covered, all_covered, ins
 -- ---- mark_name, mark_ref, mark_row
 
 module _ (p : Parts) (row : ℕ) (m : Marking) (table : List Slot) (marked : List ℕ) where
-  module _ (f F : Found) (got : f ≡ F) where
-    pub outer_served : (alias : ℕ) → f ≡ At alias → (l : List ℕ) → l ≡ serve_t p row alias marked → (m & table & l) ≡ mark_outer_t F p row m table marked
+  module _ (f F : Option ℕ) (got : f ≡ F) where
+    pub outer_served : (alias : ℕ) → f ≡ Some alias → (l : List ℕ) → l ≡ serve_t p row alias marked → (m & table & l) ≡ mark_outer_t F p row m table marked
     unfolding mark_outer_t
     outer_served alias g l w = rw (← got, g, w)
 
-    pub outer_new : f ≡ Nothing → (m' : Marking) (t : List Slot) → (m' & t) ≡ insert_marked_t p m table → (m' & t & marked) ≡ mark_outer_t F p row m table marked
+    pub outer_new : f ≡ None → (m' : Marking) (t : List Slot) → (m' & t) ≡ insert_marked_t p m table → (m' & t & marked) ≡ mark_outer_t F p row m table marked
     unfolding mark_outer_t beside
     outer_new g m' t w = rw (← got, g, ← w)
 

@@ -1,5 +1,5 @@
 -- The marked rows as the code writes them, scope by scope.
-use Rattle.std.specs.Prelude.{ℕ, zero, suc, ◌+◌, ◌/◌, ◌%◌, ◌≤◌, Bool, true, false, List, [], ◌∷◌, length, ◌==◌, nat_lt}
+use Rattle.std.specs.Prelude.{ℕ, zero, suc, ◌+◌, ◌/◌, ◌%◌, ◌≤◌, Bool, true, false, List, [], ◌∷◌, length, ◌==◌, nat_lt, Option, Some, None}
 use Rattle.kit.specs.Pick.{pick}
 use Rattle.kit.specs.Out.{Out, ◌&◌}
 use Rattle.parts.specs.declared.Parts.{Parts}
@@ -8,8 +8,6 @@ use Rattle.rows.specs.declared.row.Index.TheVariants.{Name}
 use Rattle.rows.specs.declared.row.Row.TheVariants.{Ref}
 use Rattle.put.specs.Put.{put_row, copy_row}
 use Rattle.names.specs.Table.{Slot, between, pushed, find_in}
-use Rattle.names.specs.declared.Found.{Found}
-use Rattle.names.specs.declared.Found.TheVariants.{At, Nothing}
 use Rattle.index.specs.Indexed.{Holds}
 use Rattle.mark.specs.declared.Marking.{Marking}
 use Rattle.mark.specs.Visits.{place_at, Visit, visits_t}
@@ -43,9 +41,9 @@ enter_all (v ∷ vs) table used = enter_then (enter_row_t v.parts table used) λ
 -- ---- what it refers to
 
 -- was anything found?
-abbrev pub is_found : Found → Bool
-is_found (At n) = true
-is_found Nothing = false
+abbrev pub is_found : Option ℕ → Bool
+is_found (Some n) = true
+is_found None = false
 
 -- what is carried along, the table, and the marked rows
 abbrev pub Step : Type 0
@@ -69,9 +67,9 @@ unfoldable pub beside : Out Marking (List Slot) → List ℕ → Step
 beside (m & table) marked = m & table & marked
 
 -- a name of a scope further out: it gets the alias that served it before, or is noted as the one that an alias will serve
-unfoldable pub mark_outer_t : Found → Parts → (row : ℕ) → Marking → List Slot → List ℕ → Step
-mark_outer_t (At alias) p row m table marked = m & table & serve_t p row alias marked
-mark_outer_t Nothing p row m table marked = beside (insert_marked_t p m table) marked
+unfoldable pub mark_outer_t : Option ℕ → Parts → (row : ℕ) → Marking → List Slot → List ℕ → Step
+mark_outer_t (Some alias) p row m table marked = m & table & serve_t p row alias marked
+mark_outer_t None p row m table marked = beside (insert_marked_t p m table) marked
 
 -- a walked name: one that the scope declares stays as it is
 unfoldable pub mark_name_t : Parts → (row : ℕ) → Marking → List Slot → List ℕ → Step

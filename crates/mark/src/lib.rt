@@ -17,7 +17,7 @@ ghost use Rattle.mark.specs.MarkedRows.{Serves, left_by, is_found, enter_row_t, 
 use codes::here_only;
 use fixed::FIRST_FRESH;
 use index::{find, leave, push};
-use names::{Found, Slot};
+use names::Slot;
 use parts::{Parts, parts_at};
 use put::{copy_row, put_row};
 use rows::row::{CLOSE, DECL, FIELD, Index, OPEN, REF, Row};
@@ -144,8 +144,8 @@ fn is_own(table: &[Slot], index: &[u16], own: usize, space: u32, name: u32) -> b
     ensures { result ≡ is_found (find_in (between 0 own table.now) space name) }
 {
     match find(table, index, 0, own, space, name) {
-        Found::At(_) => true,
-        Found::Nothing => false,
+        Some(_) => true,
+        None => false,
     }
 }
 
@@ -192,11 +192,11 @@ fn mark_outer(
     ensures { ((result & table.new & marked.new) ≡ mark_outer_t (find_in (between m.own m.used table.old) p.b p.x) p row m table.old marked.old) × Serves result table.new index.new }
 {
     match find(table, index, m.own, m.used, p.b as u32, p.x) {
-        Found::At(alias) => {
+        Some(alias) => {
             rename(p, row, alias, marked);
             m
         }
-        Found::Nothing => insert(p, table, index, m),
+        None => insert(p, table, index, m),
     }
 }
 

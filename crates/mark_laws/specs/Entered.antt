@@ -1,5 +1,5 @@
 -- What is entered of a scope are its declarations: a name is found among them exactly if the rules find it.
-use Rattle.std.specs.Prelude.{◌≡◌, Bool, ◌&&◌, ◌||◌, set}
+use Rattle.std.specs.Prelude.{◌≡◌, Bool, ◌&&◌, ◌||◌, set, Option as CodeOption, Some, None, ℕ}
 use Rattle.std.proofs.Math.Path.{refl, sym, ap}
 use Rattle.std.proofs.Common.{ap₂, ◌∙◌, arith, length-set}
 use Rattle.std.proofs.Math.Bool.{true, false}
@@ -17,8 +17,6 @@ use Rattle.rules.specs.Rules.{find, declarations}
 use Rattle.rules.specs.Laws.ToolLaws
 use Rattle.rules.specs.Laws.ToolLaws.{All, done, all_append, false_not, length_snoc, snoc_append}
 use Rattle.names.specs.Table.{Slot, space_of, name_of, number_of, between, pushed, find_in}
-use Rattle.names.specs.declared.Found.{Found}
-use Rattle.names.specs.declared.Found.TheVariants.{At as FoundAt, Nothing}
 use Rattle.names.proofs.Storey.{pushed_room, between_push}
 use Rattle.mark.specs.Visits.{Visit}
 use Rattle.mark.specs.MarkedRows.{slot_of, enter_row_t, enter_then, enter_all, is_found}
@@ -129,25 +127,25 @@ find_snoc (c ∷ ds) d space name = go (eqb c.space space) (eqb c.name name) (fi
     go false u e = e
 
 -- what one more slot says
-pub found_snoc : (ss : List Slot) (s : Slot) (space name : ℕ) → find_in (ss ++ (s ∷ [])) space name ≡ pick (is_found (find_in ss space name)) (find_in ss space name) (pick (eqb (space_of s) space && eqb (name_of s) name) (FoundAt (number_of s)) Nothing)
+pub found_snoc : (ss : List Slot) (s : Slot) (space name : ℕ) → find_in (ss ++ (s ∷ [])) space name ≡ pick (is_found (find_in ss space name)) (find_in ss space name) (pick (eqb (space_of s) space && eqb (name_of s) name) (Some (number_of s)) None)
 unfolding find_in pick
 found_snoc [] s space name = go (eqb (space_of s) space) (eqb (name_of s) name)
   where
-    go : (t u : Bool) → pick t (pick u (FoundAt (number_of s)) Nothing) Nothing ≡ pick (t && u) (FoundAt (number_of s)) Nothing
+    go : (t u : Bool) → pick t (pick u (Some (number_of s)) None) None ≡ pick (t && u) (Some (number_of s)) None
     go true true = refl
     go true false = refl
     go false u = refl
 found_snoc (c ∷ ss) s space name = go (eqb (space_of c) space) (eqb (name_of c) name) (found_snoc ss s space name)
   where
-    F : Found
+    F : CodeOption ℕ
     F = find_in ss space name
 
-    L : Found
-    L = pick (eqb (space_of s) space && eqb (name_of s) name) (FoundAt (number_of s)) Nothing
+    L : CodeOption ℕ
+    L = pick (eqb (space_of s) space && eqb (name_of s) name) (Some (number_of s)) None
 
     go : (t u : Bool) → find_in (ss ++ (s ∷ [])) space name ≡ pick (is_found F) F L
-        → pick t (pick u (FoundAt (number_of c)) (find_in (ss ++ (s ∷ [])) space name)) (find_in (ss ++ (s ∷ [])) space name)
-        ≡ pick (is_found (pick t (pick u (FoundAt (number_of c)) F) F)) (pick t (pick u (FoundAt (number_of c)) F) F) L
+        → pick t (pick u (Some (number_of c)) (find_in (ss ++ (s ∷ [])) space name)) (find_in (ss ++ (s ∷ [])) space name)
+        ≡ pick (is_found (pick t (pick u (Some (number_of c)) F) F)) (pick t (pick u (Some (number_of c)) F) F) L
     go true true e = refl
     go true false e = e
     go false u e = e
@@ -155,10 +153,10 @@ found_snoc (c ∷ ss) s space name = go (eqb (space_of c) space) (eqb (name_of c
 found_is : (ss : List Slot) (s : Slot) (space name : ℕ) → is_found (find_in (ss ++ (s ∷ [])) space name) ≡ (is_found (find_in ss space name) || (eqb (space_of s) space && eqb (name_of s) name))
 found_is ss s space name = ap is_found (found_snoc ss s space name) ∙ go (find_in ss space name) (eqb (space_of s) space && eqb (name_of s) name)
   where
-    go : (f : Found) (t : Bool) → is_found (pick (is_found f) f (pick t (FoundAt (number_of s)) Nothing)) ≡ (is_found f || t)
-    go (FoundAt n) t = unfold pick in refl
-    go Nothing true = unfold pick in refl
-    go Nothing false = unfold pick in refl
+    go : (f : CodeOption ℕ) (t : Bool) → is_found (pick (is_found f) f (pick t (Some (number_of s)) None)) ≡ (is_found f || t)
+    go (Some n) t = unfold pick in refl
+    go None true = unfold pick in refl
+    go None false = unfold pick in refl
 
 pub record Entered (room : ℕ) (ds : List Declaration) (o : Out ℕ (List Slot)) : Type 0 where
   pub table : List Slot

@@ -1,5 +1,5 @@
 -- The references of a scope are marked as the rules mark them, while the scopes inside it stay as they are.
-use Rattle.std.specs.Prelude.{◌≡◌, Bool, ◌&&◌, not, eqb, ltb, drop}
+use Rattle.std.specs.Prelude.{◌≡◌, Bool, ◌&&◌, not, eqb, ltb, drop, Option as CodeOption, Some, None, ℕ}
 use Rattle.std.proofs.Math.Path.{refl}
 use Rattle.std.proofs.Common.{sym, ap, ap₂, ◌∙◌, length-set, drop_at, lt-ltb, eqb-true}
 use Rattle.std.proofs.Math.Bool.{true, false}
@@ -24,8 +24,6 @@ use Rattle.rules.proofs.Laws.Output.FourTimes.{paths_length}
 use Rattle.read_form.proofs.Laws.OutputLength.{row_length, rows_length}
 use Rattle.sharing.specs.Sharing.{Served, served_by, Marked, mark_outer, mark_operand, mark_operands, mark_head, insertions}
 use Rattle.names.specs.Table.{Slot, space_of, name_of, number_of, between, pushed, find_in}
-use Rattle.names.specs.declared.Found.{Found}
-use Rattle.names.specs.declared.Found.TheVariants.{At as FoundAt, Nothing}
 use Rattle.names.proofs.Storey.{pushed_room, between_push, between_set}
 use Rattle.rows.specs.declared.row.Index.TheVariants as code-index
 use Rattle.rows.specs.declared.row.Row.TheVariants as code
@@ -113,9 +111,9 @@ last_seen here seen k (i ▸ fs) = let m = mark_head here seen k (head_of i) in 
 -- ---- what is known while a scope is gone through
 
 -- the name of the alias
-unfoldable pub alias_of : Option ℕ → Found
-alias_of none = Nothing
-alias_of (some k) = FoundAt (fresh k)
+unfoldable pub alias_of : Option ℕ → CodeOption ℕ
+alias_of none = None
+alias_of (some k) = Some (fresh k)
 
 module _ (here : List Declaration) (own room : ℕ) where
   pub record State (seen : List Served) (used : ℕ) (table : List Slot) : Type 0 where
@@ -262,17 +260,17 @@ module _ (here : List Declaration) (own room : ℕ) where
   served_more ss seen space name k none_yet same sp n =
       found_snoc ss (space ∷ name ∷ fresh k ∷ 0 ∷ 0 ∷ 0 ∷ []) sp n ∙ go (eqb space sp) (eqb name n) refl refl
     where
-      F : Found
+      F : CodeOption ℕ
       F = find_in ss sp n
 
-      rest : (f : Found) → pick (is_found f) f Nothing ≡ f
-      rest (FoundAt m) = unfold pick in refl
-      rest Nothing = unfold pick in refl
+      rest : (f : CodeOption ℕ) → pick (is_found f) f None ≡ f
+      rest (Some m) = unfold pick in refl
+      rest None = unfold pick in refl
 
-      absent : space ≡ sp → name ≡ n → F ≡ Nothing
+      absent : space ≡ sp → name ≡ n → F ≡ None
       absent e f = same sp n ∙ (rw (← e, ← f, none_yet))
 
-      go : (t u : Bool) → eqb space sp ≡ t → eqb name n ≡ u → pick (is_found F) F (pick (t && u) (FoundAt (fresh k)) Nothing) ≡ alias_of (when t && u then some k else served_by seen sp n)
+      go : (t u : Bool) → eqb space sp ≡ t → eqb name n ≡ u → pick (is_found F) F (pick (t && u) (Some (fresh k)) None) ≡ alias_of (when t && u then some k else served_by seen sp n)
       go true true e f = unfold pick in (rw (absent (eqb-true space sp e) (eqb-true name n f)))
       go true false e f = unfold pick in rest F ∙ same sp n
       go false u e f = unfold pick in rest F ∙ same sp n

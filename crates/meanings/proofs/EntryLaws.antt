@@ -1,4 +1,5 @@
 -- The ways through the code that notes what rows mean, and reads it.
+use Rattle.std.specs.Prelude.{Option, Some, None}
 use mathlib.Core.Path.{◌≡◌, refl, sym, ◌∙◌}
 use mathlib.Core.Bool.{Bool, true, false, ◌&&◌}
 use mathlib.Core.List.{List, [], ◌∷◌}
@@ -12,11 +13,10 @@ use Rattle.kit.proofs.Laws.{yes!, no!, tests, left_suc, past}
 use Rattle.row_parts.specs.Parts.{code_at, x_at, rows_in, next_of, is_reference}
 use Rattle.scopes.specs.Scopes.{number_of}
 use Rattle.readings.specs.Meaning.{meaning_of, is_inserted_outer}
-use Rattle.readings.specs.declared.Meaning.{Meaning}
-use Rattle.readings.specs.declared.Meaning.TheVariants.{At, Nowhere}
 use Rattle.meanings.specs.Entries.{Entry, entry, no_entry, told, meant_by, note_from, noted, is_noted, read, meaning_at, number_at, behind_at, final_at}
 use Rattle.scopes.specs.Tables.{count_of}
 use Rattle.scopes.proofs.ScopedLaws.{number_count}
+use Rattle.readings.specs.declared.Meaning.{Meaning}
 
 -- ---- entries
 
@@ -31,23 +31,23 @@ put_past entries i e h = sym (set_out entries i e h)
 
 pub ruleset entry_ways = (any_default, past, put_past, rules)
 
-pub told_at : (m : Meaning) (row number out name : ℕ) → m ≡ At row number out name → entry (row + 1) number out name ≡ told m
+pub told_at : (m : Option Meaning) (row number out name : ℕ) → m ≡ Some (record { row = row; number = number; out = out; name = name }) → entry (row + 1) number out name ≡ told m
 told_at m row number out name q = rw q
 
-pub told_nowhere : (m : Meaning) → m ≡ Nowhere → no_entry ≡ told m
+pub told_nowhere : (m : Option Meaning) → m ≡ None → no_entry ≡ told m
 told_nowhere m q = rw q
 
 module _ (e : Entry) (b : ℕ) (is : b ≡ get_or e 0 0) where
-  pub read_none : b ≡ 0 → Nowhere ≡ read e
+  pub read_none : b ≡ 0 → None ≡ read e
   unfolding read
   read_none h = yes! _ (omega tests) refl
 
   module _ (n : b ≡ 0 → ⊥) where
-    pub read_past : 65536 < b → Nowhere ≡ read e
+    pub read_past : 65536 < b → None ≡ read e
     unfolding read
     read_past h = no! _ (omega tests) (yes! _ (omega tests) refl)
 
-    pub read_at : b ≤ 65536 → (number out name : ℕ) → number ≡ get_or e 1 0 → out ≡ get_or e 2 0 → name ≡ get_or e 3 0 → At (b - 1) number out name ≡ read e
+    pub read_at : b ≤ 65536 → (number out name : ℕ) → number ≡ get_or e 1 0 → out ≡ get_or e 2 0 → name ≡ get_or e 3 0 → Some (record { row = b - 1; number = number; out = out; name = name }) ≡ read e
     unfolding read
     read_at h number out name hn ho hx = no! _ (omega tests) (no! _ (omega tests) (rw (is, hn, ho, hx)))
 
@@ -56,16 +56,16 @@ pub ruleset told_ways = (told_at, told_nowhere, read_none, read_past, read_at, r
 -- ---- what a row means
 
 module _ (form : List ℕ) (row c : ℕ) (code : c ≡ code_at form row) where
-  pub meant_decl_lem : c ≡ 2 → (n x : ℕ) → n ≡ count_of form row → x ≡ x_at form row → At row n 0 x ≡ meant_by form row
+  pub meant_decl_lem : c ≡ 2 → (n x : ℕ) → n ≡ count_of form row → x ≡ x_at form row → Some (record { row = row; number = n; out = 0; name = x }) ≡ meant_by form row
   unfolding meant_by
   meant_decl_lem h n x hn hx = yes! _ (omega tests) (rw (hn, hx, number_count form row))
 
   module _ (d : c ≡ 2 → ⊥) (i : Bool) (is : i ≡ is_reference form row) where
-    pub meant_reference : i ≡ true → (X : Meaning) → X ≡ meaning_of form row → X ≡ meant_by form row
+    pub meant_reference : i ≡ true → (X : Option Meaning) → X ≡ meaning_of form row → X ≡ meant_by form row
     unfolding meant_by
     meant_reference h X x = no! _ (omega tests) (yes! _ (rw (← is) h) x)
 
-    pub meant_other : i ≡ false → Nowhere ≡ meant_by form row
+    pub meant_other : i ≡ false → None ≡ meant_by form row
     unfolding meant_by
     meant_other h = no! _ (omega tests) (no! _ (rw (← is) h) refl)
 
@@ -73,7 +73,7 @@ pub ruleset meant_ways = (meant_decl_lem, meant_reference, meant_other, rules)
 
 -- ---- noted
 
-pub told_is : (form : List ℕ) (row : ℕ) (m : Meaning) (r : Entry) → m ≡ meant_by form row → r ≡ told m → r ≡ told (meant_by form row)
+pub told_is : (form : List ℕ) (row : ℕ) (m : Option Meaning) (r : Entry) → m ≡ meant_by form row → r ≡ told m → r ≡ told (meant_by form row)
 told_is form row m r q h = h ∙ rw q
 
 pub note_start : (form : List ℕ) (entries : List Entry) (rows : ℕ) → rows ≡ rows_in form → note_from form entries 0 (rows - 0) ≡ note_from form entries 0 (rows_in form)
@@ -109,7 +109,7 @@ is_noted_is form entries row rows h = rw h
 
 module _ (form : List ℕ) (entries : List Entry) (row : ℕ) (b : Bool) (is : b ≡ is_noted form entries row) where
   module _ (h : b ≡ true) (e : Entry) (at : e ≡ get_or entries row no_entry) where
-    pub meaning_noted : (X : Meaning) → X ≡ read e → X ≡ meaning_at form entries row
+    pub meaning_noted : (X : Option Meaning) → X ≡ read e → X ≡ meaning_at form entries row
     unfolding meaning_at
     meaning_noted X x = yes! _ (rw (← is) h) (x ∙ rw at)
 
@@ -118,7 +118,7 @@ module _ (form : List ℕ) (entries : List Entry) (row : ℕ) (b : Bool) (is : b
     number_noted n x = yes! _ (rw (← is) h) (x ∙ rw at)
 
   module _ (h : b ≡ false) where
-    pub meaning_other : (X : Meaning) → X ≡ meaning_of form row → X ≡ meaning_at form entries row
+    pub meaning_other : (X : Option Meaning) → X ≡ meaning_of form row → X ≡ meaning_at form entries row
     unfolding meaning_at
     meaning_other X x = no! _ (rw (← is) h) x
 
@@ -128,17 +128,17 @@ module _ (form : List ℕ) (entries : List Entry) (row : ℕ) (b : Bool) (is : b
 
 pub ruleset read_ways = (is_noted_is, meaning_noted, number_noted, meaning_other, number_other, rules)
 
-module _ (form : List ℕ) (entries : List Entry) (row : ℕ) (m : Meaning) (got : m ≡ meaning_at form entries row) where
-  module _ (decl number out name : ℕ) (at : m ≡ At decl number out name) (i : Bool) (alias : i ≡ is_inserted_outer form decl) where
-    pub final_behind : i ≡ true → (n : ℕ) → n ≡ next_of decl → (X : Meaning) → X ≡ meaning_at form entries n → X ≡ final_at form entries row
+module _ (form : List ℕ) (entries : List Entry) (row : ℕ) (m : Option Meaning) (got : m ≡ meaning_at form entries row) where
+  module _ (decl number out name : ℕ) (at : m ≡ Some (record { row = decl; number = number; out = out; name = name })) (i : Bool) (alias : i ≡ is_inserted_outer form decl) where
+    pub final_behind : i ≡ true → (n : ℕ) → n ≡ next_of decl → (X : Option Meaning) → X ≡ meaning_at form entries n → X ≡ final_at form entries row
     unfolding final_at behind_at
     final_behind h n hn X x = rw (← got, at) (yes! _ (rw (← alias) h) (x ∙ rw hn))
 
-    pub final_itself : i ≡ false → At decl number out name ≡ final_at form entries row
+    pub final_itself : i ≡ false → Some (record { row = decl; number = number; out = out; name = name }) ≡ final_at form entries row
     unfolding final_at behind_at
     final_itself h = rw (← got, at) (no! _ (rw (← alias) h) refl)
 
-  pub final_nowhere : m ≡ Nowhere → Nowhere ≡ final_at form entries row
+  pub final_nowhere : m ≡ None → None ≡ final_at form entries row
   unfolding final_at behind_at
   final_nowhere q = rw (← got, q)
 

@@ -1,4 +1,5 @@
 -- What is read of noted rows is what the readings say.
+use Rattle.std.specs.Prelude.{Option, Some, None}
 use mathlib.Core.Path.{◌≡◌, refl, sym, ◌∙◌}
 use mathlib.Core.Bool.{Bool, true, false, ◌&&◌}
 use mathlib.Core.Logic.{◌⊎◌, inl, inr}
@@ -14,15 +15,12 @@ use Rattle.kit.proofs.Laws.{yes!, no!, tests, pick_has, lt_or_le}
 use Rattle.row_parts.specs.Parts.{code_at, x_at, rows_in, next_of, is_inserted, is_reference}
 use Rattle.scopes.specs.Scopes.{find_from, find_in, number_of}
 use Rattle.scopes.specs.declared.Key.{Key}
-use Rattle.scopes.specs.declared.Found.{Found}
-use Rattle.scopes.specs.declared.Found.TheVariants.{At as FoundAt, Nothing}
-use Rattle.scopes.specs.declared.Outer.{Outer}
-use Rattle.scopes.specs.declared.Outer.TheVariants.{At as OuterAt, Nowhere as NoScope}
 use Rattle.readings.specs.Meaning.{meant, in_scope, in_outer, outward_for, through_outer, meaning_of, is_inserted_outer, behind, final_meaning}
-use Rattle.readings.specs.declared.Meaning.{Meaning}
-use Rattle.readings.specs.declared.Meaning.TheVariants.{At, Nowhere}
 use Rattle.meanings.specs.Entries.{Entry, entry, no_entry, told, meant_by, note_from, noted, is_noted, read, meaning_at, number_at, behind_at, final_at}
 use Rattle.scopes.proofs.ScopedLaws.{both_true}
+use Rattle.readings.specs.declared.Meaning.{Meaning}
+use Rattle.scopes.specs.declared.Found.{Found}
+use Rattle.scopes.specs.declared.Outer.{Outer}
 
 -- ---- the row of a declaration is a number of two bytes
 
@@ -34,13 +32,13 @@ rows_most form = by (ltb ((length form - 8) / 16) 65535) refl
     by true e = let h = ltb-true ((length form - 8) / 16) 65535 e in rw e (omega arith)
     by false e = rw e (omega arith)
 
-abbrev FoundLow : Found → Type 0
-FoundLow (FoundAt row number) = row < 65536
-FoundLow Nothing = Unit {0}
+abbrev FoundLow : Option Found → Type 0
+FoundLow (Some (record { row = row; number = number })) = row < 65536
+FoundLow None = Unit {0}
 
-abbrev Low : Meaning → Type 0
-Low (At row number out name) = row < 65536
-Low Nowhere = Unit {0}
+abbrev Low : Option Meaning → Type 0
+Low (Some (record { row = row; number = number; out = out; name = name })) = row < 65536
+Low None = Unit {0}
 
 module _ (form : List ℕ) where
   find_low : (space : ℕ) (key : Key) (row left level number : ℕ) → (0 < left → row + left ≤ 65536) → FoundLow (find_from form space key row left level number)
@@ -54,14 +52,14 @@ module _ (form : List ℕ) where
   unfolding in_scope meant find_in
   scope_low scope out space key = by (find_from form space key scope (rows_in form - scope) 0 0) (let m = rows_most form in find_low space key scope (rows_in form - scope) 0 0 (λ h. omega arith))
     where
-      by : (f : Found) → FoundLow f → Low (meant form f out)
-      by (FoundAt row number) l = l
-      by Nothing l = tt
+      by : (f : Option Found) → FoundLow f → Low (meant form f out)
+      by (Some (record { row = row; number = number })) l = l
+      by None l = tt
 
-  outer_low : (o : Outer) (space : ℕ) (key : Key) → Low (in_outer form o space key)
+  outer_low : (o : Option Outer) (space : ℕ) (key : Key) → Low (in_outer form o space key)
   unfolding in_outer
-  outer_low (OuterAt scope out) space key = scope_low scope out space key
-  outer_low NoScope space key = tt
+  outer_low (Some (record { scope = scope; out = out })) space key = scope_low scope out space key
+  outer_low None space key = tt
 
   meaning_low : (row : ℕ) → Low (meaning_of form row)
   unfolding meaning_of through_outer outward_for
@@ -69,12 +67,12 @@ module _ (form : List ℕ) where
 
 -- ---- an entry tells the meaning of which it is made
 
-read_told : (m : Meaning) → Low m → read (told m) ≡ m
+read_told : (m : Option Meaning) → Low m → read (told m) ≡ m
 unfolding read
-read_told (At row number out name) l =
+read_told (Some (record { row = row; number = number; out = out; name = name })) l =
     let e : row + 1 - 1 ≡ row = omega arith in
     sym (no! _ (omega tests) (no! _ (omega tests) (rw e)))
-read_told Nowhere l = sym (yes! _ refl refl)
+read_told None l = sym (yes! _ refl refl)
 
 -- ---- the entry of a row is made of what it means
 
@@ -143,7 +141,7 @@ module _ (form : List ℕ) (entries : List Entry) (row : ℕ) where
     where
       by : (b : Bool) → is_noted form (noted form entries) row ≡ b → number_at form (noted form entries) row ≡ number_of form row
       by true h =
-          let m : meant_by form row ≡ At row (number_of form row) 0 (x_at form row) = sym (yes! _ (omega tests) refl) in
+          let m : meant_by form row ≡ Some (record { row = row; number = number_of form row; out = 0; name = x_at form row }) = sym (yes! _ (omega tests) refl) in
           sym (yes! _ h (sym (rw (entry_is h, m))))
       by false h = sym (no! _ h refl)
 
@@ -156,14 +154,14 @@ module _ (form : List ℕ) (entries : List Entry) where
       let c = eqb-true (code_at form (next_of decl)) 5 o.1 in
       meaning_is form entries (next_of decl) (rw c) ∙ sym (yes! _ o.1 refl)
 
-  behind_is : (m : Meaning) → behind_at form (noted form entries) m ≡ behind form m
+  behind_is : (m : Option Meaning) → behind_at form (noted form entries) m ≡ behind form m
   unfolding behind_at behind
-  behind_is (At decl number out name) = by (is_inserted_outer form decl) refl
+  behind_is (Some (record { row = decl; number = number; out = out; name = name })) = by (is_inserted_outer form decl) refl
     where
-      by : (b : Bool) → is_inserted_outer form decl ≡ b → behind_at form (noted form entries) (At decl number out name) ≡ behind form (At decl number out name)
+      by : (b : Bool) → is_inserted_outer form decl ≡ b → behind_at form (noted form entries) (Some (record { row = decl; number = number; out = out; name = name })) ≡ behind form (Some (record { row = decl; number = number; out = out; name = name }))
       by true h = sym (yes! _ h refl) ∙ (alias_is decl h ∙ yes! _ h refl)
       by false h = sym (no! _ h refl) ∙ no! _ h refl
-  behind_is Nowhere = refl
+  behind_is None = refl
 
   -- a reference means the same in the end
   pub final_is : (row : ℕ) → is_reference form row ≡ true → final_at form (noted form entries) row ≡ final_meaning form row

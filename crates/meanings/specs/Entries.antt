@@ -1,11 +1,10 @@
 -- What is noted of the rows of a form: the declaration that each has or means.
-use Rattle.std.specs.Prelude.{Bool, ◌&&◌, List, [], ◌∷◌, ℕ, zero, suc, ◌+◌, ◌-◌, eqb, ltb, leb, length, get_or, set}
+use Rattle.std.specs.Prelude.{Bool, ◌&&◌, List, [], ◌∷◌, ℕ, zero, suc, ◌+◌, ◌-◌, eqb, ltb, leb, length, get_or, set, Option, Some, None}
 use Rattle.kit.specs.Pick.{pick}
 use Rattle.row_parts.specs.Parts.{code_at, x_at, rows_in, next_of, is_reference}
 use Rattle.scopes.specs.Scopes.{number_of}
 use Rattle.readings.specs.Meaning.{meaning_of, is_inserted_outer}
 use Rattle.readings.specs.declared.Meaning.{Meaning}
-use Rattle.readings.specs.declared.Meaning.TheVariants.{At, Nowhere}
 
 -- four numbers
 abbrev pub Entry : Type 0
@@ -20,15 +19,15 @@ abbrev pub no_entry : Entry
 no_entry = entry 0 0 0 0
 
 -- a declaration's row is noted as one more, so that 0 says that there is none
-abbrev pub told : Meaning → Entry
-told (At row number out name) = entry (row + 1) number out name
-told Nowhere = no_entry
+abbrev pub told : Option Meaning → Entry
+told (Some (record { row = row; number = number; out = out; name = name })) = entry (row + 1) number out name
+told None = no_entry
 
 -- of a DECL itself, of a REF or an OUTER what it means, of any other row none
-unfoldable pub meant_by : (form : List ℕ) (row : ℕ) → Meaning
+unfoldable pub meant_by : (form : List ℕ) (row : ℕ) → Option Meaning
 meant_by form row =
-    pick (eqb (code_at form row) 2) (At row (number_of form row) 0 (x_at form row))
-    (pick (is_reference form row) (meaning_of form row) Nowhere)
+    pick (eqb (code_at form row) 2) (Some (record { row = row; number = number_of form row; out = 0; name = x_at form row }))
+    (pick (is_reference form row) (meaning_of form row) None)
 
 -- the entries of the rows from `row` on, of which `left` are left
 unfoldable pub note_from : (form : List ℕ) → List Entry → (row left : ℕ) → List Entry
@@ -46,11 +45,11 @@ unfoldable pub is_noted : (form : List ℕ) → List Entry → (row : ℕ) → B
 is_noted form entries row = leb (rows_in form) 4096 && (ltb row (rows_in form) && ltb row (length entries))
 
 -- no row has a number past 65,535
-unfoldable pub read : Entry → Meaning
-read e = pick (eqb (get_or e 0 0) 0) Nowhere (pick (ltb 65536 (get_or e 0 0)) Nowhere (At (get_or e 0 0 - 1) (get_or e 1 0) (get_or e 2 0) (get_or e 3 0)))
+unfoldable pub read : Entry → Option Meaning
+read e = pick (eqb (get_or e 0 0) 0) None (pick (ltb 65536 (get_or e 0 0)) None (Some (record { row = get_or e 0 0 - 1; number = get_or e 1 0; out = get_or e 2 0; name = get_or e 3 0 })))
 
 -- what a reference means, and without an entry the same by the readings
-unfoldable pub meaning_at : (form : List ℕ) → List Entry → (row : ℕ) → Meaning
+unfoldable pub meaning_at : (form : List ℕ) → List Entry → (row : ℕ) → Option Meaning
 meaning_at form entries row = pick (is_noted form entries row) (read (get_or entries row no_entry)) (meaning_of form row)
 
 -- the number of the declaration at a DECL row
@@ -58,10 +57,10 @@ unfoldable pub number_at : (form : List ℕ) → List Entry → (row : ℕ) → 
 number_at form entries row = pick (is_noted form entries row) (get_or (get_or entries row no_entry) 1 0) (number_of form row)
 
 -- behind an inserted outer alias, what its OUTER means
-unfoldable pub behind_at : (form : List ℕ) → List Entry → Meaning → Meaning
-behind_at form entries (At row number out name) = pick (is_inserted_outer form row) (meaning_at form entries (next_of row)) (At row number out name)
-behind_at form entries Nowhere = Nowhere
+unfoldable pub behind_at : (form : List ℕ) → List Entry → Option Meaning → Option Meaning
+behind_at form entries (Some (record { row = row; number = number; out = out; name = name })) = pick (is_inserted_outer form row) (meaning_at form entries (next_of row)) (Some (record { row = row; number = number; out = out; name = name }))
+behind_at form entries None = None
 
 -- what a reference means in the end: behind an inserted outer alias, what its OUTER means
-unfoldable pub final_at : (form : List ℕ) → List Entry → (row : ℕ) → Meaning
+unfoldable pub final_at : (form : List ℕ) → List Entry → (row : ℕ) → Option Meaning
 final_at form entries row = behind_at form entries (meaning_at form entries row)

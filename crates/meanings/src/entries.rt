@@ -8,36 +8,38 @@ use readings::Meaning;
 pub type Entry = [u32; 4];
 
 // The entry of a meaning.
-pub(crate) fn told(meaning: Meaning) -> Entry
+pub(crate) fn told(meaning: Option<Meaning>) -> Entry
     ensures { result ≡ told meaning }
 {
     match meaning {
-        Meaning::At {
-            row,
-            number,
-            out,
-            name,
-        } => [row as u32 + 1, number, out, name],
-        Meaning::Nowhere => [0; 4],
+        Some(
+            Meaning {
+                row,
+                number,
+                out,
+                name,
+            },
+        ) => [row as u32 + 1, number, out, name],
+        None => [0; 4],
     }
 }
 
 // The meaning that an entry tells.
-pub(crate) fn read(entry: Entry) -> Meaning
+pub(crate) fn read(entry: Entry) -> Option<Option<Meaning>>
     ensures { result ≡ read entry }
 {
     let behind = entry[0];
     if behind == 0 {
-        Meaning::Nowhere
+        None
     } else if 65536 < behind {
-        Meaning::Nowhere
+        None
     } else {
-        Meaning::At {
+        Some(Meaning {
             row: (behind - 1) as u16,
             number: entry[1],
             out: entry[2],
             name: entry[3],
-        }
+        })
     }
 }
 

@@ -16,20 +16,20 @@ pub(crate) fn meant_by(
     names: &[u16],
     numbers: &[u16],
     row: u16,
-) -> Meaning
+) -> Option<Option<Meaning>>
     requires { Tabled form.now known.now names.now numbers.now × (row < rows_in form.now) }
     ensures { result ≡ meant_by form.now row }
 {
     if code_at(form, row) == DECL {
-        return Meaning::At {
+        return Some(Meaning {
             row,
             number: number_at(form, known, row) as u32,
             out: 0,
             name: x_at(form, row),
-        };
+        });
     }
     if is_reference(form, row) {
         return meaning_with(form, known, names, numbers, row);
     }
-    Meaning::Nowhere
+    None
 }

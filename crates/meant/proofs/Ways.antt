@@ -1,4 +1,5 @@
 -- The ways through the code: each law is one unfolding of a definition, with the facts in the form in which the code gives them.
+use Rattle.std.specs.Prelude.{Option, Some, None}
 use mathlib.Core.Path.{◌≡◌, refl, sym, ap, ◌∙◌}
 use mathlib.Core.Bool.{Bool, true, false}
 use mathlib.Core.List.{List, []}
@@ -14,47 +15,44 @@ use Rattle.kit.specs.Pick.{pick}
 use Rattle.row_parts.specs.Parts.{code_at, b_at, e_at, x_at, y_at}
 use Rattle.scopes.specs.Scopes.{scope_of, find_in, scope_outward}
 use Rattle.scopes.specs.declared.Key.TheVariants.{Name}
-use Rattle.scopes.specs.declared.Found.{Found}
-use Rattle.scopes.specs.declared.Found.TheVariants.{At as FoundAt, Nothing as NotFound}
 use Rattle.scopes.specs.declared.Wanted.{Wanted}
 use Rattle.scopes.specs.declared.Wanted.TheVariants.{Out, Named, Declaring}
-use Rattle.scopes.specs.declared.Outer.{Outer}
-use Rattle.scopes.specs.declared.Outer.TheVariants.{At as OuterAt, Nowhere as NoScope}
 use Rattle.readings.specs.Meaning.{reading_of, meaning_of}
-use Rattle.readings.specs.declared.Meaning.{Meaning}
-use Rattle.readings.specs.declared.Meaning.TheVariants.{At as MeaningAt, Nowhere}
 use Rattle.readings.specs.declared.Reading.{Reading}
 use Rattle.readings.specs.declared.Reading.TheVariants.{Outward, LookedUp, Counting}
-use Rattle.meant.specs.declared.Declared.{Declared}
-use Rattle.meant.specs.declared.Declared.TheVariants.{Member, Prelude, Nowhere as NotDeclared}
 use Rattle.meant.specs.Names.{in_member, root_found, member_found, in_root, scope_meant, or_root, walked_meant_t, by_reading, ref_meant_t, outer_wanted_t, is_there, has_scope, is_root_t, meant_behind_t, in_outer_t, index_meant_t, name_meant_t}
 use Rattle.meant.specs.Part.{part_of, meant_t, row_part, chosen}
+use Rattle.meant.specs.declared.Declared.TheVariants.{Member, Prelude}
+use Rattle.meant.specs.declared.Declared.{Declared}
+use Rattle.readings.specs.declared.Meaning.{Meaning}
+use Rattle.scopes.specs.declared.Found.{Found}
+use Rattle.scopes.specs.declared.Outer.{Outer}
 
 -- ---- in_member, in_root, in_scope_lem
 
-module _ (m : Meaning) where
-  pub member_at : (row number out name : ℕ) → m ≡ MeaningAt row number out name → Member row ≡ in_member m
+module _ (m : Option Meaning) where
+  pub member_at : (row number out name : ℕ) → m ≡ Some (record { row = row; number = number; out = out; name = name }) → Some (Member row) ≡ in_member m
   unfolding in_member
   member_at row number out name e = rw e
 
-  pub member_nowhere : m ≡ Nowhere → NotDeclared ≡ in_member m
+  pub member_nowhere : m ≡ None → None ≡ in_member m
   unfolding in_member
   member_nowhere e = rw e
 
-module _ (form : List ℕ) (space name : ℕ) (f : Found) where
-  pub root_found_lem : (row number : ℕ) → f ≡ find_in form 1 space (Name name) → f ≡ FoundAt row number → Prelude row ≡ in_root form space name
+module _ (form : List ℕ) (space name : ℕ) (f : Option Found) where
+  pub root_found_lem : (row number : ℕ) → f ≡ find_in form 1 space (Name name) → f ≡ Some (record { row = row; number = number }) → Some (Prelude row) ≡ in_root form space name
   unfolding in_root root_found
   root_found_lem row number got e = rw (← got, e)
 
-  pub root_not : f ≡ find_in form 1 space (Name name) → f ≡ NotFound → NotDeclared ≡ in_root form space name
+  pub root_not : f ≡ find_in form 1 space (Name name) → f ≡ None → None ≡ in_root form space name
   unfolding in_root root_found
   root_not got e = rw (← got, e)
 
-  pub scope_found : (scope row number : ℕ) → f ≡ find_in form scope space (Name name) → f ≡ FoundAt row number → Member row ≡ scope_meant form scope space name
+  pub scope_found : (scope row number : ℕ) → f ≡ find_in form scope space (Name name) → f ≡ Some (record { row = row; number = number }) → Some (Member row) ≡ scope_meant form scope space name
   unfolding scope_meant member_found
   scope_found scope row number got e = rw (← got, e)
 
-  pub scope_not : (scope : ℕ) → f ≡ find_in form scope space (Name name) → f ≡ NotFound → NotDeclared ≡ scope_meant form scope space name
+  pub scope_not : (scope : ℕ) → f ≡ find_in form scope space (Name name) → f ≡ None → None ≡ scope_meant form scope space name
   unfolding scope_meant member_found
   scope_not scope got e = rw (← got, e)
 
@@ -62,25 +60,25 @@ pub ruleset found_ways = (member_at, member_nowhere, root_found_lem, root_not, s
 
 -- ---- walked, ref_meant
 
-module _ (prelude member : List ℕ) (r : ℕ) (m : Meaning) (got : m ≡ meaning_of member r) where
-  pub walked_at_lem : (row number out name : ℕ) → m ≡ MeaningAt row number out name → Member row ≡ walked_meant_t prelude member r
+module _ (prelude member : List ℕ) (r : ℕ) (m : Option Meaning) (got : m ≡ meaning_of member r) where
+  pub walked_at_lem : (row number out name : ℕ) → m ≡ Some (record { row = row; number = number; out = out; name = name }) → Some (Member row) ≡ walked_meant_t prelude member r
   unfolding walked_meant_t or_root
   walked_at_lem row number out name e = rw (← got, e)
 
-  pub walked_root : (b x : ℕ) (d : Declared) → m ≡ Nowhere → b ≡ b_at member r → x ≡ x_at member r → d ≡ in_root prelude b x → d ≡ walked_meant_t prelude member r
+  pub walked_root : (b x : ℕ) (d : Option Declared) → m ≡ None → b ≡ b_at member r → x ≡ x_at member r → d ≡ in_root prelude b x → d ≡ walked_meant_t prelude member r
   unfolding walked_meant_t or_root
   walked_root b x d e f g h = h ∙ rw (← got, e, f, g)
 
 module _ (prelude member : List ℕ) (r : ℕ) (how : Reading) (got : how ≡ reading_of member r) where
-  pub ref_outward : (d : Declared) → how ≡ Outward → d ≡ walked_meant_t prelude member r → d ≡ ref_meant_t prelude member r
+  pub ref_outward : (d : Option Declared) → how ≡ Outward → d ≡ walked_meant_t prelude member r → d ≡ ref_meant_t prelude member r
   unfolding ref_meant_t by_reading
   ref_outward d e f = f ∙ rw (← got, e)
 
-  pub ref_looked : (d : Declared) (m : Meaning) → how ≡ LookedUp → m ≡ meaning_of member r → d ≡ in_member m → d ≡ ref_meant_t prelude member r
+  pub ref_looked : (d : Option Declared) (m : Option Meaning) → how ≡ LookedUp → m ≡ meaning_of member r → d ≡ in_member m → d ≡ ref_meant_t prelude member r
   unfolding ref_meant_t by_reading
   ref_looked d m e f g = g ∙ rw (← got, e, f)
 
-  pub ref_number_lem : how ≡ Counting → NotDeclared ≡ ref_meant_t prelude member r
+  pub ref_number_lem : how ≡ Counting → None ≡ ref_meant_t prelude member r
   unfolding ref_meant_t by_reading
   ref_number_lem e = rw (← got, e)
 
@@ -97,12 +95,12 @@ module _ (e x : ℕ) where
   unfolding outer_wanted_t
   wanted_out h = no! _ (ne_eqb _ _ h) refl
 
-module _ (member : List ℕ) (r s : ℕ) (wanted : Wanted) (o : Outer) where
-  pub scope_there : (scope out : ℕ) → s ≡ scope_of member r → o ≡ scope_outward member s wanted → o ≡ OuterAt scope out → true ≡ has_scope member r wanted
+module _ (member : List ℕ) (r s : ℕ) (wanted : Wanted) (o : Option Outer) where
+  pub scope_there : (scope out : ℕ) → s ≡ scope_of member r → o ≡ scope_outward member s wanted → o ≡ Some (record { scope = scope; out = out }) → true ≡ has_scope member r wanted
   unfolding has_scope
   scope_there scope out f got e = rw (← f, ← got, e)
 
-  pub scope_nowhere : s ≡ scope_of member r → o ≡ scope_outward member s wanted → o ≡ NoScope → false ≡ has_scope member r wanted
+  pub scope_nowhere : s ≡ scope_of member r → o ≡ scope_outward member s wanted → o ≡ None → false ≡ has_scope member r wanted
   unfolding has_scope
   scope_nowhere f got e = rw (← f, ← got, e)
 
@@ -125,17 +123,17 @@ module _ (prelude member : List ℕ) (r : ℕ) (wanted : Wanted) where
 
   -- ---- behind, index_meant
 
-  pub behind_root : (t : Bool) (b y : ℕ) (d : Declared) → t ≡ is_root_t prelude member r wanted → t ≡ true → b ≡ b_at member r → y ≡ y_at member r → d ≡ in_root prelude b y → d ≡ meant_behind_t prelude member r wanted
+  pub behind_root : (t : Bool) (b y : ℕ) (d : Option Declared) → t ≡ is_root_t prelude member r wanted → t ≡ true → b ≡ b_at member r → y ≡ y_at member r → d ≡ in_root prelude b y → d ≡ meant_behind_t prelude member r wanted
   unfolding meant_behind_t
   behind_root t b y d got e f g h = yes! _ (sym got ∙ e) (h ∙ rw (f, g))
 
-  pub behind_not : (t : Bool) → t ≡ is_root_t prelude member r wanted → t ≡ false → NotDeclared ≡ meant_behind_t prelude member r wanted
+  pub behind_not : (t : Bool) → t ≡ is_root_t prelude member r wanted → t ≡ false → None ≡ meant_behind_t prelude member r wanted
   unfolding meant_behind_t
   behind_not t got e = no! _ (sym got ∙ e) refl
 
 pub ruleset root_ways = (wanted_named, wanted_out, scope_there, scope_nowhere, root_none, root_out, root_named, root_declaring, behind_root, behind_not, rules)
 
-module _ (prelude member : List ℕ) (r e x : ℕ) (is-e : e ≡ e_at member r) (is_x : x ≡ x_at member r) (wanted : Wanted) (is-w : wanted ≡ outer_wanted_t e x) (s : ℕ) (is-s : s ≡ scope_of member r) (o : Outer) (got : o ≡ scope_outward member s wanted) where
+module _ (prelude member : List ℕ) (r e x : ℕ) (is-e : e ≡ e_at member r) (is_x : x ≡ x_at member r) (wanted : Wanted) (is-w : wanted ≡ outer_wanted_t e x) (s : ℕ) (is-s : s ≡ scope_of member r) (o : Option Outer) (got : o ≡ scope_outward member s wanted) where
   abbrev W : Wanted
   W = outer_wanted_t (e_at member r) (x_at member r)
 
@@ -145,11 +143,11 @@ module _ (prelude member : List ℕ) (r e x : ℕ) (is-e : e ≡ e_at member r) 
   there : o ≡ scope_outward member (scope_of member r) W
   there = got ∙ rw (is-s, same)
 
-  pub index_scope : (scope out b y : ℕ) (d : Declared) → o ≡ OuterAt scope out → b ≡ b_at member r → y ≡ y_at member r → d ≡ scope_meant member scope b y → d ≡ index_meant_t prelude member r
+  pub index_scope : (scope out b y : ℕ) (d : Option Declared) → o ≡ Some (record { scope = scope; out = out }) → b ≡ b_at member r → y ≡ y_at member r → d ≡ scope_meant member scope b y → d ≡ index_meant_t prelude member r
   unfolding index_meant_t in_outer_t
   index_scope scope out b y d q f g h = h ∙ rw (← there, q, f, g)
 
-  pub index_behind : (d : Declared) → o ≡ NoScope → d ≡ meant_behind_t prelude member r wanted → d ≡ index_meant_t prelude member r
+  pub index_behind : (d : Option Declared) → o ≡ None → d ≡ meant_behind_t prelude member r wanted → d ≡ index_meant_t prelude member r
   unfolding index_meant_t in_outer_t
   index_behind d q h = h ∙ rw (← there, q, same)
 
@@ -158,23 +156,23 @@ pub ruleset index_ways = (index_scope, index_behind, rules)
 -- ---- name_meant, meant_at
 
 module _ (prelude member : List ℕ) (r c : ℕ) (is_c : c ≡ code_at member r) where
-  pub name_number : (e : ℕ) → c ≡ 5 → e ≡ e_at member r → e < 2 → NotDeclared ≡ name_meant_t prelude member r
+  pub name_number : (e : ℕ) → c ≡ 5 → e ≡ e_at member r → e < 2 → None ≡ name_meant_t prelude member r
   unfolding name_meant_t
   name_number e h f g = yes! _ (rw (← is_c) (omega tests)) (yes! _ (rw (← f) (omega tests)) refl)
 
-  pub name_index : (e : ℕ) (d : Declared) → c ≡ 5 → e ≡ e_at member r → 2 ≤ e → d ≡ index_meant_t prelude member r → d ≡ name_meant_t prelude member r
+  pub name_index : (e : ℕ) (d : Option Declared) → c ≡ 5 → e ≡ e_at member r → 2 ≤ e → d ≡ index_meant_t prelude member r → d ≡ name_meant_t prelude member r
   unfolding name_meant_t
   name_index e d h f g k = yes! _ (rw (← is_c) (omega tests)) (no! _ (rw (← f) (omega tests)) k)
 
-  pub name_ref : (d : Declared) → (c ≡ 5 → ⊥) → c ≡ 3 → d ≡ ref_meant_t prelude member r → d ≡ name_meant_t prelude member r
+  pub name_ref : (d : Option Declared) → (c ≡ 5 → ⊥) → c ≡ 3 → d ≡ ref_meant_t prelude member r → d ≡ name_meant_t prelude member r
   unfolding name_meant_t
   name_ref d h g k = no! _ (rw (← is_c) (omega tests)) (yes! _ (rw (← is_c) (omega tests)) k)
 
-  pub name_none : (c ≡ 5 → ⊥) → (c ≡ 3 → ⊥) → NotDeclared ≡ name_meant_t prelude member r
+  pub name_none : (c ≡ 5 → ⊥) → (c ≡ 3 → ⊥) → None ≡ name_meant_t prelude member r
   unfolding name_meant_t
   name_none h g = no! _ (rw (← is_c) (omega tests)) (no! _ (rw (← is_c) (omega tests)) refl)
 
-pub meant_in_lem : (prelude member P M : List ℕ) (r : ℕ) (d : Declared) → P ≡ part_of prelude → M ≡ part_of member → d ≡ name_meant_t P M r → d ≡ meant_t prelude member r
+pub meant_in_lem : (prelude member P M : List ℕ) (r : ℕ) (d : Option Declared) → P ≡ part_of prelude → M ≡ part_of member → d ≡ name_meant_t P M r → d ≡ meant_t prelude member r
 unfolding meant_t
 meant_in_lem prelude member P M r d e f g = g ∙ rw (e, f)
 
@@ -209,16 +207,16 @@ module _ (form P : List ℕ) (is-p : P ≡ part_of form) (row a : ℕ) (is-a : a
       let g : length (part_of form) < 8 + 16 * row + 16 = rw (← is-p) (omega arith) in
       no! _ (lt-leb _ _ g) refl
 
-module _ (prelude member : List ℕ) (r : ℕ) (m : Declared) (got : m ≡ meant_t prelude member r) where
-  pub meant_member : (row : ℕ) (p : List ℕ) → m ≡ Member row → p ≡ row_part member row → p ≡ chosen (meant_t prelude member r) prelude member
+module _ (prelude member : List ℕ) (r : ℕ) (m : Option Declared) (got : m ≡ meant_t prelude member r) where
+  pub meant_member : (row : ℕ) (p : List ℕ) → m ≡ Some (Member row) → p ≡ row_part member row → p ≡ chosen (meant_t prelude member r) prelude member
   unfolding chosen
   meant_member row p e f = f ∙ rw (← got, e)
 
-  pub meant_prelude : (row : ℕ) (p : List ℕ) → m ≡ Prelude row → p ≡ row_part prelude row → p ≡ chosen (meant_t prelude member r) prelude member
+  pub meant_prelude : (row : ℕ) (p : List ℕ) → m ≡ Some (Prelude row) → p ≡ row_part prelude row → p ≡ chosen (meant_t prelude member r) prelude member
   unfolding chosen
   meant_prelude row p e f = f ∙ rw (← got, e)
 
-  pub meant_nowhere : m ≡ NotDeclared → [] ≡ chosen (meant_t prelude member r) prelude member
+  pub meant_nowhere : m ≡ None → [] ≡ chosen (meant_t prelude member r) prelude member
   unfolding chosen
   meant_nowhere e = rw (← got, e)
 

@@ -1,64 +1,61 @@
 -- What a name of a member means, by the rows of the member and of the prelude in whose root it lies.
-use Rattle.std.specs.Prelude.{Bool, true, false, List, ℕ, ◌-◌, ◌%◌, eqb, ltb}
+use Rattle.std.specs.Prelude.{Bool, true, false, List, ℕ, ◌-◌, ◌%◌, eqb, ltb, Option, Some, None}
 use Rattle.kit.specs.Pick.{pick}
+use Rattle.meant.specs.declared.Declared.TheVariants.{Member, Prelude}
 use Rattle.row_parts.specs.Parts.{code_at, b_at, e_at, x_at, y_at}
 use Rattle.scopes.specs.Scopes.{scope_of, find_in, scope_outward}
 use Rattle.scopes.specs.declared.Key.TheVariants.{Name}
-use Rattle.scopes.specs.declared.Found.{Found}
-use Rattle.scopes.specs.declared.Found.TheVariants.{At as FoundAt, Nothing as NotFound}
 use Rattle.scopes.specs.declared.Wanted.{Wanted}
 use Rattle.scopes.specs.declared.Wanted.TheVariants.{Out, Named, Declaring}
-use Rattle.scopes.specs.declared.Outer.{Outer}
-use Rattle.scopes.specs.declared.Outer.TheVariants.{At as OuterAt, Nowhere as NoScope}
 use Rattle.readings.specs.Meaning.{reading_of, meaning_of}
-use Rattle.readings.specs.declared.Meaning.{Meaning}
-use Rattle.readings.specs.declared.Meaning.TheVariants.{At as MeaningAt, Nowhere}
 use Rattle.readings.specs.declared.Reading.{Reading}
 use Rattle.readings.specs.declared.Reading.TheVariants.{Outward, LookedUp, Counting}
 use Rattle.meant.specs.declared.Declared.{Declared}
-use Rattle.meant.specs.declared.Declared.TheVariants.{Member, Prelude, Nowhere as NotDeclared}
+use Rattle.readings.specs.declared.Meaning.{Meaning}
+use Rattle.scopes.specs.declared.Found.{Found}
+use Rattle.scopes.specs.declared.Outer.{Outer}
 
 -- ---- in one form
 
 -- what a name means that is looked for in the member alone
-unfoldable pub in_member : Meaning → Declared
-in_member (MeaningAt row number out name) = Member row
-in_member Nowhere = NotDeclared
+unfoldable pub in_member : Option Meaning → Option Declared
+in_member (Some (record { row = row; number = number; out = out; name = name })) = Some (Member row)
+in_member None = None
 
 -- what a search in the prelude's root finds, or in a scope of the member
-unfoldable pub root_found : Found → Declared
-root_found (FoundAt row number) = Prelude row
-root_found NotFound = NotDeclared
+unfoldable pub root_found : Option Found → Option Declared
+root_found (Some (record { row = row; number = number })) = Some (Prelude row)
+root_found None = None
 
-unfoldable pub member_found : Found → Declared
-member_found (FoundAt row number) = Member row
-member_found NotFound = NotDeclared
+unfoldable pub member_found : Option Found → Option Declared
+member_found (Some (record { row = row; number = number })) = Some (Member row)
+member_found None = None
 
 -- a name in the prelude's root, whose first row is row 1
-unfoldable pub in_root : (prelude : List ℕ) (space name : ℕ) → Declared
+unfoldable pub in_root : (prelude : List ℕ) (space name : ℕ) → Option Declared
 in_root prelude space name = root_found (find_in prelude 1 space (Name name))
 
 -- a name that one scope of the member declares
-unfoldable pub scope_meant : (member : List ℕ) (scope space name : ℕ) → Declared
+unfoldable pub scope_meant : (member : List ℕ) (scope space name : ℕ) → Option Declared
 scope_meant member scope space name = member_found (find_in member scope space (Name name))
 
 -- ---- references
 
-unfoldable pub or_root : Meaning → (prelude : List ℕ) (space name : ℕ) → Declared
-or_root (MeaningAt row number out name') prelude space name = Member row
-or_root Nowhere prelude space name = in_root prelude space name
+unfoldable pub or_root : Option Meaning → (prelude : List ℕ) (space name : ℕ) → Option Declared
+or_root (Some (record { row = row; number = number; out = out; name = name' })) prelude space name = Some (Member row)
+or_root None prelude space name = in_root prelude space name
 
 -- a walked name: outward in the member, and then the prelude's root
-unfoldable pub walked_meant_t : (prelude member : List ℕ) (row : ℕ) → Declared
+unfoldable pub walked_meant_t : (prelude member : List ℕ) (row : ℕ) → Option Declared
 walked_meant_t prelude member row = or_root (meaning_of member row) prelude (b_at member row) (x_at member row)
 
-unfoldable pub by_reading : Reading → (prelude member : List ℕ) (row : ℕ) → Declared
+unfoldable pub by_reading : Reading → (prelude member : List ℕ) (row : ℕ) → Option Declared
 by_reading Outward prelude member row = walked_meant_t prelude member row
 by_reading LookedUp prelude member row = in_member (meaning_of member row)
-by_reading Counting prelude member row = NotDeclared
+by_reading Counting prelude member row = None
 
 -- a REF: a name that is not walked means what its own scope declares, and a number means nothing here
-unfoldable pub ref_meant_t : (prelude member : List ℕ) (row : ℕ) → Declared
+unfoldable pub ref_meant_t : (prelude member : List ℕ) (row : ℕ) → Option Declared
 ref_meant_t prelude member row = by_reading (reading_of member row) prelude member row
 
 -- ---- a named index of OUTER
@@ -68,9 +65,9 @@ unfoldable pub outer_wanted_t : (e x : ℕ) → Wanted
 outer_wanted_t e x = pick (eqb (e % 2) 1) (Named x) (Out x)
 
 -- was a scope found?
-abbrev pub is_there : Outer → Bool
-is_there (OuterAt scope out) = true
-is_there NoScope = false
+abbrev pub is_there : Option Outer → Bool
+is_there (Some (record { scope = scope; out = out })) = true
+is_there None = false
 
 -- whether there is such a scope of the member around a row
 unfoldable pub has_scope : (member : List ℕ) (row : ℕ) → Wanted → Bool
@@ -83,15 +80,15 @@ is_root_t prelude member row (Named name) = eqb (x_at prelude 0) name
 is_root_t prelude member row (Declaring space name) = false
 
 -- a named index where no scope of the member is the one asked for
-unfoldable pub meant_behind_t : (prelude member : List ℕ) (row : ℕ) → Wanted → Declared
-meant_behind_t prelude member row wanted = pick (is_root_t prelude member row wanted) (in_root prelude (b_at member row) (y_at member row)) NotDeclared
+unfoldable pub meant_behind_t : (prelude member : List ℕ) (row : ℕ) → Wanted → Option Declared
+meant_behind_t prelude member row wanted = pick (is_root_t prelude member row wanted) (in_root prelude (b_at member row) (y_at member row)) None
 
-unfoldable pub in_outer_t : Outer → (prelude member : List ℕ) (row : ℕ) → Wanted → Declared
-in_outer_t (OuterAt scope out) prelude member row wanted = scope_meant member scope (b_at member row) (y_at member row)
-in_outer_t NoScope prelude member row wanted = meant_behind_t prelude member row wanted
+unfoldable pub in_outer_t : Option Outer → (prelude member : List ℕ) (row : ℕ) → Wanted → Option Declared
+in_outer_t (Some (record { scope = scope; out = out })) prelude member row wanted = scope_meant member scope (b_at member row) (y_at member row)
+in_outer_t None prelude member row wanted = meant_behind_t prelude member row wanted
 
 -- a named index: what the scope declares that is asked for
-unfoldable pub index_meant_t : (prelude member : List ℕ) (row : ℕ) → Declared
+unfoldable pub index_meant_t : (prelude member : List ℕ) (row : ℕ) → Option Declared
 index_meant_t prelude member row =
     let wanted = outer_wanted_t (e_at member row) (x_at member row) in
     in_outer_t (scope_outward member (scope_of member row) wanted) prelude member row wanted
@@ -99,7 +96,7 @@ index_meant_t prelude member row =
 -- ---- any row
 
 -- what the name in a row means; rows without one mean nothing, and so does an OUTER whose index is a number
-unfoldable pub name_meant_t : (prelude member : List ℕ) (row : ℕ) → Declared
+unfoldable pub name_meant_t : (prelude member : List ℕ) (row : ℕ) → Option Declared
 name_meant_t prelude member row =
-    pick (eqb (code_at member row) 5) (pick (ltb (e_at member row) 2) NotDeclared (index_meant_t prelude member row))
-    (pick (eqb (code_at member row) 3) (ref_meant_t prelude member row) NotDeclared)
+    pick (eqb (code_at member row) 5) (pick (ltb (e_at member row) 2) None (index_meant_t prelude member row))
+    (pick (eqb (code_at member row) 3) (ref_meant_t prelude member row) None)

@@ -19,7 +19,6 @@ use scopes::{Found, Key, Outer, Wanted, find, scope_of, scope_outward};
 pub enum Declared {
     Member(u16),
     Prelude(u16),
-    Nowhere,
 }
 
 // The first row of a form's root: the one behind its OPEN.
@@ -28,55 +27,45 @@ const ROOT: u16 = 1;
 // ---- in one form
 
 // What a name means that is looked for in the member alone.
-fn in_member(meaning: Meaning) -> Declared
+fn in_member(meaning: Option<Meaning>) -> Option<Option<Declared>>
     ensures { result ≡ in_member meaning }
 {
     match meaning {
-        Meaning::At {
-            row,
-            number: _,
-            out: _,
-            name: _,
-        } => Declared::Member(row),
-        Meaning::Nowhere => Declared::Nowhere,
+        Some(Meaning { row, .. }) => Some(Declared::Member(row)),
+        None => None,
     }
 }
 
 // What a name means in the prelude's root.
-fn in_root(prelude: &[u8], space: u8, name: u32) -> Declared
+fn in_root(prelude: &[u8], space: u8, name: u32) -> Option<Option<Declared>>
     ensures { result ≡ in_root prelude.now space name }
 {
     match find(prelude, ROOT, space, Key::Name(name)) {
-        Found::At { row, number: _ } => Declared::Prelude(row),
-        Found::Nothing => Declared::Nowhere,
+        Some(Found { row, .. }) => Some(Declared::Prelude(row)),
+        None => None,
     }
 }
 
 // ---- references
 
 // A walked name: the member's scopes around it, and then the prelude's root.
-fn walked(prelude: &[u8], member: &[u8], row: u16) -> Declared
+fn walked(prelude: &[u8], member: &[u8], row: u16) -> Option<Option<Declared>>
     ensures { result ≡ walked_meant_t prelude.now member.now row }
 {
     match meaning_of(member, row) {
-        Meaning::At {
-            row: decl,
-            number: _,
-            out: _,
-            name: _,
-        } => Declared::Member(decl),
-        Meaning::Nowhere => in_root(prelude, b_at(member, row), x_at(member, row)),
+        Some(Meaning { row: decl, .. }) => Some(Declared::Member(decl)),
+        None => in_root(prelude, b_at(member, row), x_at(member, row)),
     }
 }
 
 // A REF: a name that is not walked means what its own scope declares, and a number means nothing here.
-fn ref_meant(prelude: &[u8], member: &[u8], row: u16) -> Declared
+fn ref_meant(prelude: &[u8], member: &[u8], row: u16) -> Option<Option<Declared>>
     ensures { result ≡ ref_meant_t prelude.now member.now row }
 {
     match reading_of(member, row) {
         Reading::Outward => walked(prelude, member, row),
         Reading::LookedUp => in_member(meaning_of(member, row)),
-        Reading::Counting => Declared::Nowhere,
+        Reading::Counting => None,
     }
 }
 
@@ -98,8 +87,8 @@ fn has_scope(member: &[u8], row: u16, wanted: Wanted) -> bool
     ensures { result ≡ has_scope member.now row wanted }
 {
     match scope_outward(member, scope_of(member, row), wanted) {
-        Outer::At { scope: _, out: _ } => true,
-        Outer::Nowhere => false,
+        Some(_) => true,
+        None => false,
     }
 }
 
@@ -120,58 +109,53 @@ fn is_root(prelude: &[u8], member: &[u8], row: u16, wanted: Wanted) -> bool
 }
 
 // A name that one scope of the member declares.
-fn in_scope(member: &[u8], scope: u16, space: u8, name: u32) -> Declared
+fn in_scope(member: &[u8], scope: u16, space: u8, name: u32) -> Option<Option<Declared>>
     ensures { result ≡ scope_meant member.now scope space name }
 {
     match find(member, scope, space, Key::Name(name)) {
-        Found::At { row, number: _ } => Declared::Member(row),
-        Found::Nothing => Declared::Nowhere,
+        Some(Found { row, .. }) => Some(Declared::Member(row)),
+        None => None,
     }
 }
 
 // A named index where no scope of the member is the one asked for.
-fn behind(prelude: &[u8], member: &[u8], row: u16, wanted: Wanted) -> Declared
+fn behind(prelude: &[u8], member: &[u8], row: u16, wanted: Wanted) -> Option<Option<Declared>>
     ensures { result ≡ meant_behind_t prelude.now member.now row wanted }
 {
     if is_root(prelude, member, row, wanted) {
         return in_root(prelude, b_at(member, row), y_at(member, row));
     }
-    Declared::Nowhere
+    None
 }
 
 // A named index: what the scope declares that is asked for.
-fn index_meant(prelude: &[u8], member: &[u8], row: u16) -> Declared
+fn index_meant(prelude: &[u8], member: &[u8], row: u16) -> Option<Option<Declared>>
     ensures { result ≡ index_meant_t prelude.now member.now row }
 {
     let wanted = outer_wanted(e_at(member, row), x_at(member, row));
     match scope_outward(member, scope_of(member, row), wanted) {
-        Outer::At { scope, out: _ } => in_scope(
-            member,
-            scope,
-            b_at(member, row),
-            y_at(member, row),
-        ),
-        Outer::Nowhere => behind(prelude, member, row, wanted),
+        Some(Outer { scope, .. }) => in_scope(member, scope, b_at(member, row), y_at(member, row)),
+        None => behind(prelude, member, row, wanted),
     }
 }
 
 // ---- any row
 
 // What the name in a row means; rows without one mean nothing, and so does an OUTER whose index is a number.
-fn name_meant(prelude: &[u8], member: &[u8], row: u16) -> Declared
+fn name_meant(prelude: &[u8], member: &[u8], row: u16) -> Option<Option<Declared>>
     ensures { result ≡ name_meant_t prelude.now member.now row }
 {
     let code = code_at(member, row);
     if code == OUTER {
         if e_at(member, row) < 2 {
-            return Declared::Nowhere;
+            return None;
         }
         return index_meant(prelude, member, row);
     }
     if code == REF {
         return ref_meant(prelude, member, row);
     }
-    Declared::Nowhere
+    None
 }
 
 // A form from where its rows stand eight bytes behind: all of version 1, and of version 2 from byte 8 on.
@@ -188,7 +172,7 @@ fn part_of(form: &[u8]) -> &[u8]
 }
 
 // Which declaration the name in a row of the member means, and in which of the two forms it stands.
-pub fn meant_at(prelude: &[u8], member: &[u8], row: u16) -> Declared
+pub fn meant_at(prelude: &[u8], member: &[u8], row: u16) -> Option<Option<Declared>>
     ensures { result ≡ meant_t prelude.now member.now row }
 {
     name_meant(part_of(prelude), part_of(member), row)
@@ -215,8 +199,8 @@ pub fn meant<'a>(prelude: &'a [u8], member: &'a [u8], row: u16) -> &'a [u8]
     ensures { result.now ≡ chosen (meant_t prelude.now member.now row) prelude.now member.now }
 {
     match meant_at(prelude, member, row) {
-        Declared::Member(decl) => row_part(member, decl),
-        Declared::Prelude(decl) => row_part(prelude, decl),
-        Declared::Nowhere => &member[0..0],
+        Some(Declared::Member(decl)) => row_part(member, decl),
+        Some(Declared::Prelude(decl)) => row_part(prelude, decl),
+        None => &member[0..0],
     }
 }

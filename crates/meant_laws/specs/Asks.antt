@@ -1,5 +1,5 @@
 -- A named index of OUTER: the scope that is asked for, by a count or by its name, is the same on rows as in the trees, the prelude's root included.
-use Rattle.std.specs.Prelude.{◌≡◌, Bool, true, false, List, [], ◌∷◌, ◌++◌, eqb, length}
+use Rattle.std.specs.Prelude.{◌≡◌, Bool, true, false, List, [], ◌∷◌, ◌++◌, eqb, length, Option as CodeOption, Some, None}
 use Rattle.std.proofs.Math.Path.{refl, ap, subst}
 use Rattle.std.proofs.Common.{sym, ◌∙◌}
 use Rattle.std.proofs.Math.Option.{Option, none, some, map}
@@ -29,18 +29,16 @@ use Rattle.row_parts.specs.Parts.{b_at, e_at, x_at, y_at}
 use Rattle.scopes.specs.Scopes.{scope_of, scope_outward}
 use Rattle.scopes.specs.declared.Wanted.{Wanted}
 use Rattle.scopes.specs.declared.Wanted.TheVariants.{Out, Named}
-use Rattle.scopes.specs.declared.Outer.TheVariants.{At as OuterAt, Nowhere as NoScope}
 use Rattle.reading_laws.specs.Stand.{Is, e_part, x_part}
 use Rattle.reading_laws.specs.Floors.{Chain}
 use Rattle.reading_laws.specs.Number.{stands_at}
 use Rattle.reading_laws.specs.Outward.{NoneInserted, first_wanted, scope_outward_lem, count_out, count_past}
 use Rattle.reading_laws.specs.Meant.{Rows}
 use Rattle.moved_laws.specs.Named.{NamesAre, named_found, named_nowhere}
-use Rattle.meant.specs.declared.Declared.{Declared}
-use Rattle.meant.specs.declared.Declared.TheVariants.{Nowhere}
 use Rattle.meant.specs.Names.{in_root, scope_meant, outer_wanted_t, is_there, has_scope, is_root_t, meant_behind_t, in_outer_t, index_meant_t}
 use Rattle.meant_laws.specs.Told.{Told, nothing, found_in_member}
 use Rattle.meant_laws.specs.Declares.{declares, root_declares}
+use Rattle.meant.specs.declared.Declared.{Declared}
 
 -- ---- lists
 
@@ -129,8 +127,8 @@ module _ (P M : List ℕ) (s m : Scope) (RP : Rows P s) (low : LowScope s)
   in_prelude_lem d e = subst (λ (o : Option Meant). Told s m o (in_root P space name)) (sym (behind_meant s (levels fs) space name d (e ∙ sym levels_length))) (root_declares P s RP low m space name is_name)
 
   -- none
-  past_both : (d : ℕ) → length fs < d → Told s m (out d) Nowhere
-  past_both d h = subst (λ (o : Option Meant). Told s m o Nowhere) (sym (past_meant s (levels fs) space name d (omega (arith, levels_length)))) nothing
+  past_both : (d : ℕ) → length fs < d → Told s m (out d) None
+  past_both d h = subst (λ (o : Option Meant). Told s m o None) (sym (past_meant s (levels fs) space name d (omega (arith, levels_length)))) nothing
 
   goes : (wanted : Wanted) → scope_outward M (scope_of M r) wanted ≡ first_wanted M wanted 0 fs
   goes wanted = ap (λ (k : ℕ). scope_outward M k wanted) around ∙ scope_outward_lem M wanted fs C
@@ -140,14 +138,14 @@ module _ (P M : List ℕ) (s m : Scope) (RP : Rows P s) (low : LowScope s)
   same : (d : ℕ) → d ≡ 0 + d
   same d = omega arith
 
-  counted : (d : ℕ) (g : Floor) → get_elem? fs d ≡ some g → scope_outward M (scope_of M r) (Out d) ≡ OuterAt g.row (0 + d)
+  counted : (d : ℕ) (g : Floor) → get_elem? fs d ≡ some g → scope_outward M (scope_of M r) (Out d) ≡ Some (record { scope = g.row; out = 0 + d })
   counted d g e = goes (Out d) ∙ (ap (λ (k : ℕ). first_wanted M (Out k) 0 fs) (same d) ∙ count_out M fs d 0 g e)
 
-  past_count : (d : ℕ) → get_elem? fs d ≡ none → scope_outward M (scope_of M r) (Out d) ≡ NoScope
+  past_count : (d : ℕ) → get_elem? fs d ≡ none → scope_outward M (scope_of M r) (Out d) ≡ None
   past_count d e = goes (Out d) ∙ (ap (λ (k : ℕ). first_wanted M (Out k) 0 fs) (same d) ∙ count_past M fs d 0 e)
 
   -- the prelude's root is the scope one behind the member's
-  is_root_lem : (d : ℕ) → get_elem? fs d ≡ none → Told s m (out d) (pick (is_root_t P M r (Out d)) (in_root P space name) Nowhere)
+  is_root_lem : (d : ℕ) → get_elem? fs d ≡ none → Told s m (out d) (pick (is_root_t P M r (Out d)) (in_root P space name) None)
   unfolding is_root_t has_scope
   is_root_lem zero e = no_option f (sym e)
   is_root_lem (suc k) e = go (get_elem? fs k) refl
@@ -161,7 +159,7 @@ module _ (P M : List ℕ) (s m : Scope) (RP : Rows P s) (low : LowScope s)
       asked : (b : Bool) → is_there (scope_outward M (scope_of M r) (Out k)) ≡ b → is_root_t P M r (Out (suc k)) ≡ b
       asked b q = sym (no! false not_first (sym (ap (λ (j : ℕ). is_there (scope_outward M (scope_of M r) (Out j))) there ∙ q)))
 
-      go : (o : Option Floor) → get_elem? fs k ≡ o → Told s m (out (suc k)) (pick (is_root_t P M r (Out (suc k))) (in_root P space name) Nowhere)
+      go : (o : Option Floor) → get_elem? fs k ≡ o → Told s m (out (suc k)) (pick (is_root_t P M r (Out (suc k))) (in_root P space name) None)
       go none q =
           let few = past_all fs k q in
           subst (Told s m (out (suc k))) (no! _ (asked false (ap is_there (past_count k q))) refl) (past_both (suc k) (omega (arith, few)))
@@ -171,14 +169,14 @@ module _ (P M : List ℕ) (s m : Scope) (RP : Rows P s) (low : LowScope s)
           subst (Told s m (out (suc k))) (yes! _ (asked true (ap is_there (counted k g q))) refl) (in_prelude_lem (suc k) (omega (arith, low, few)))
 
   -- what the rows give for a scope that is asked for
-  abbrev asked_for : Wanted → Declared
+  abbrev asked_for : Wanted → CodeOption Declared
   asked_for wanted = in_outer_t (scope_outward M (scope_of M r) wanted) P M r wanted
 
-  found_scope : (wanted : Wanted) (g : Floor) (d k : ℕ) → get_elem? fs d ≡ some g → scope_outward M (scope_of M r) wanted ≡ OuterAt g.row k → Told s m (out d) (asked_for wanted)
+  found_scope : (wanted : Wanted) (g : Floor) (d k : ℕ) → get_elem? fs d ≡ some g → scope_outward M (scope_of M r) wanted ≡ Some (record { scope = g.row; out = k }) → Told s m (out d) (asked_for wanted)
   unfolding in_outer_t
   found_scope wanted g d k e q = subst (Told s m (out d)) (rw (q, b, y)) (in_member_lem d g e)
 
-  no_such_scope : (wanted : Wanted) (o : Option Meant) → scope_outward M (scope_of M r) wanted ≡ NoScope → Told s m o (pick (is_root_t P M r wanted) (in_root P space name) Nowhere) → Told s m o (asked_for wanted)
+  no_such_scope : (wanted : Wanted) (o : Option Meant) → scope_outward M (scope_of M r) wanted ≡ None → Told s m o (pick (is_root_t P M r wanted) (in_root P space name) None) → Told s m o (asked_for wanted)
   unfolding in_outer_t meant_behind_t
   no_such_scope wanted o q t = subst (Told s m o) (rw (q, b, y)) t
 
@@ -198,7 +196,7 @@ module _ (P M : List ℕ) (s m : Scope) (RP : Rows P s) (low : LowScope s)
       named : Option ℕ → Option Meant
       named o = map meant_by (o then λ d. declared_out all d space name)
 
-      behind : (b : Bool) → Told s m (named (when b then some (length names) else none)) (pick b (in_root P space name) Nowhere)
+      behind : (b : Bool) → Told s m (named (when b then some (length names) else none)) (pick b (in_root P space name) None)
       behind true = in_prelude_lem (length names) (names_length M fs names N)
       behind false = nothing
 
@@ -208,8 +206,8 @@ module _ (P M : List ℕ) (s m : Scope) (RP : Rows P s) (low : LowScope s)
       go : (o : Option ℕ) → nearest_named names x ≡ o → Told s m (named (nearest_named (names ++ (name_of s ∷ [])) x)) (asked_for (Named x))
       go none e =
           no_such_scope (Named x) _ (goes (Named x) ∙ named_nowhere M fs names N x 0 e)
-          (subst (λ (o : Option ℕ). Told s m (named o) (pick (is_root_t P M r (Named x)) (in_root P space name) Nowhere)) (sym (nearest_last names (name_of s) x e))
-          (subst (λ (c : Bool). Told s m (named (when eqb (name_of s) x then some (length names) else none)) (pick c (in_root P space name) Nowhere)) asks (behind (eqb (name_of s) x))))
+          (subst (λ (o : Option ℕ). Told s m (named o) (pick (is_root_t P M r (Named x)) (in_root P space name) None)) (sym (nearest_last names (name_of s) x e))
+          (subst (λ (c : Bool). Told s m (named (when eqb (name_of s) x then some (length names) else none)) (pick c (in_root P space name) None)) asks (behind (eqb (name_of s) x))))
       go (some d) e =
           let F = named_found M fs names N x 0 d e in
           subst (λ (o : Option ℕ). Told s m (named o) (asked_for (Named x))) (sym (nearest_left names (name_of s ∷ []) x d e))

@@ -1,5 +1,5 @@
 -- What one scope declares by a name: on rows as in the tree.
-use Rattle.std.specs.Prelude.{◌≡◌, false, ℕ, ◌+◌, eqb}
+use Rattle.std.specs.Prelude.{◌≡◌, false, ℕ, ◌+◌, eqb, Some}
 use Rattle.std.proofs.Math.Path.{refl, ap, subst}
 use Rattle.std.proofs.Common.{sym, ◌∙◌}
 use Rattle.std.proofs.Math.Option
@@ -18,7 +18,6 @@ use Rattle.places.proofs.RowAt.{all_at}
 use Rattle.places.proofs.LocatedAt.{AtItsWay, located_place, all_at_own_way}
 use Rattle.scopes.specs.Scopes.{find_in}
 use Rattle.scopes.specs.declared.Key.TheVariants.{Name}
-use Rattle.scopes.specs.declared.Found.TheVariants.{At as FoundAt}
 use Rattle.reading_laws.specs.Find.{search, find_in_lem}
 use Rattle.reading_laws.specs.Floors.{Stands, Chain, floors_chain}
 use Rattle.reading_laws.specs.Outward.{named_none, named_some, IsOriginal, NoneInserted}
@@ -37,7 +36,7 @@ module _ (form : List ℕ) (t : Scope) (f : Floor) (outer : ℕ) (S : Stands for
   searched : find_in form f.row space (Name name) ≡ search space (Name name) 0 xs
   searched = find_in_lem form space (Name name) f.level.fields f.row S.fields S.fits
 
-  at_spot : (x : Located) (count : ℕ) (spot : Spot) → counted_row f space count ≡ some x → x.standing.spot ≡ spot → IsOriginal spot → Finds t (place f.level spot) (FoundAt x.row count)
+  at_spot : (x : Located) (count : ℕ) (spot : Spot) → counted_row f space count ≡ some x → x.standing.spot ≡ spot → IsOriginal spot → Finds t (place f.level spot) (Some (record { row = x.row; number = count }))
   unfolding place
   at_spot x count (inserted h) counts is o = absurd o
   at_spot x count (original field at) counts is o = at_row (located_place t f space count x _ own counts (ap (place f.level) is)).1
@@ -53,7 +52,7 @@ module _ (form : List ℕ) (t : Scope) (f : Floor) (outer : ℕ) (S : Stands for
           let H = named_some space name is_name xs 0 spot (names_are ∙ q) in
           let zeroth : 0 + H.count ≡ H.count = omega arith in
           let orig : IsOriginal spot = subst IsOriginal H.is (all_at xs H.k H.x low H.at) in
-          subst (Finds t (place f.level spot)) (sym (searched ∙ (H.finds ∙ ap (λ (n : ℕ). FoundAt H.x.row n) zeroth))) (at_spot H.x H.count spot H.counts H.is orig)
+          subst (Finds t (place f.level spot)) (sym (searched ∙ (H.finds ∙ ap (λ (n : ℕ). Some (record { row = H.x.row; number = n })) zeroth))) (at_spot H.x H.count spot H.counts H.is orig)
 
 -- ---- the prelude's root
 

@@ -1,5 +1,5 @@
 -- At every place of a member the row's name means, by the rows of the member and the prelude, what it means by the rules.
-use Rattle.std.specs.Prelude.{◌≡◌, Bool, ◌&&◌, ℕ, suc, ◌+◌, length}
+use Rattle.std.specs.Prelude.{◌≡◌, Bool, ◌&&◌, ℕ, suc, ◌+◌, length, Option as CodeOption, Some, None}
 use Rattle.std.proofs.Math.Path.{refl, ap, subst}
 use Rattle.std.proofs.Common.{sym, ◌∙◌}
 use Rattle.std.proofs.Math.Bool.{true, false, not}
@@ -28,11 +28,7 @@ use Rattle.batching.proofs.Laws.Seated.{behind_all, outward_meant, scope_meant_l
 use Rattle.row_parts.specs.Parts.{code_at, b_at, e_at, x_at, y_at, field_of}
 use Rattle.scopes.specs.Scopes.{find_in}
 use Rattle.scopes.specs.declared.Key.TheVariants.{Name}
-use Rattle.scopes.specs.declared.Found.{Found}
-use Rattle.scopes.specs.declared.Found.TheVariants.{At as FoundAt, Nothing}
 use Rattle.readings.specs.Meaning.{is_walked, reading_of, meaning_of, in_scope, meant}
-use Rattle.readings.specs.declared.Meaning.{Meaning}
-use Rattle.readings.specs.declared.Meaning.TheVariants.{At as MeantAt, Nowhere as NoMeaning}
 use Rattle.reading_laws.specs.Stand.{Is, code_part, b_part, e_part, x_part, y_part}
 use Rattle.reading_laws.specs.Outward.{row_meant, NoneInserted}
 use Rattle.reading_laws.specs.Operands.{Used}
@@ -41,28 +37,29 @@ use Rattle.reading_laws.specs.Meant.{Rows, use_there, low_use, none_inserted_aro
 use Rattle.reading_laws.specs.LookedUp.{here_meaning}
 use Rattle.moved_laws.specs.Named.{NamesAre, names_at}
 use Rattle.moved_laws.specs.AtPlace.{instance_space_lem}
-use Rattle.meant.specs.declared.Declared.TheVariants.{Nowhere}
 use Rattle.meant.specs.Names.{in_root, member_found, or_root, walked_meant_t, by_reading, ref_meant_t, index_meant_t, name_meant_t}
 use Rattle.meant.specs.Names as names_of
 use Rattle.meant_laws.specs.Told.{Told, nothing, in_member_lem, found_in_member}
 use Rattle.meant_laws.specs.Declares.{declares, root_chain, root_declares}
 use Rattle.meant_laws.specs.Asks.{index_told}
+use Rattle.readings.specs.declared.Meaning.{Meaning}
+use Rattle.scopes.specs.declared.Found.{Found}
 
 -- ---- rows
 
 module _ (P M : List ℕ) (r : ℕ) where
-  number_row : (space n paths z : ℕ) → Is M r (Ref space (Num n) paths z) → name_meant_t P M r ≡ Nowhere
+  number_row : (space n paths z : ℕ) → Is M r (Ref space (Num n) paths z) → name_meant_t P M r ≡ None
   unfolding name_meant_t ref_meant_t by_reading reading_of encode flag pick
   number_row space n paths z is =
       let c : code_at M r ≡ 3 = ap code_part is in
       let e : e_at M r ≡ 0 = ap e_part is in
       rw (c, e)
 
-  case_row : (name z : ℕ) → Is M r (Case name z) → name_meant_t P M r ≡ Nowhere
+  case_row : (name z : ℕ) → Is M r (Case name z) → name_meant_t P M r ≡ None
   unfolding name_meant_t encode pick
   case_row name z is = let c : code_at M r ≡ 6 = ap code_part is in rw c
 
-  index_number : (space n z : ℕ) (up : Index) → Is M r (Outer space up (Num n) z) → name_meant_t P M r ≡ Nowhere
+  index_number : (space n z : ℕ) (up : Index) → Is M r (Outer space up (Num n) z) → name_meant_t P M r ≡ None
   unfolding name_meant_t encode flag pick
   index_number space n z (Num d) is =
       let c : code_at M r ≡ 5 = ap code_part is in
@@ -103,10 +100,10 @@ module _ (P M : List ℕ) (r : ℕ) where
       let y : y_at M r ≡ paths = ap y_part is in
       rw (c, e, y, here)
 
-found_meant : (form : List ℕ) (out : ℕ) (f : Found) → names_of.in_member (meant form f out) ≡ member_found f
+found_meant : (form : List ℕ) (out : ℕ) (f : CodeOption Found) → names_of.in_member (meant form f out) ≡ member_found f
 unfolding meant names_of.in_member member_found
-found_meant form out (FoundAt row number) = refl
-found_meant form out Nothing = refl
+found_meant form out (Some (record { row = row; number = number })) = refl
+found_meant form out None = refl
 
 sought_path : (space n : ℕ) → sought space (suc n) ≡ instance_space space
 unfolding sought
@@ -160,9 +157,9 @@ module _ (P M : List ℕ) (s m : Scope) (RP : Rows P s) (RM : Rows M m) (low-s :
       subst (Told s m (map meant_by (outward all space name))) (sym (walked_name P M r space name z is here))
       (subst (λ (o : Option Meant). Told s m o (or_root (meaning_of M r) P space name)) (sym (outward_meant s (levels fs) space name)) (go (outward (levels fs) space name) (reads)))
     where
-      no_row : (x : Meaning) → row_meant x ≡ none → or_root x P space name ≡ in_root P space name
-      no_row (MeantAt row number out n) e = no_option row (sym e)
-      no_row NoMeaning e = refl
+      no_row : (x : CodeOption Meaning) → row_meant x ≡ none → or_root x P space name ≡ in_root P space name
+      no_row (Some (record { row = row; number = number; out = out; name = n })) e = no_option row (sym e)
+      no_row None e = refl
 
       go : (o : Option Place) → outward_reading m p ≡ o → Told s m (map in_member o or_else map in_prelude (declared (Readings.root s) space name)) (or_root (meaning_of M r) P space name)
       go none q =
@@ -170,7 +167,7 @@ module _ (P M : List ℕ) (s m : Scope) (RP : Rows P s) (RM : Rows M m) (low-s :
           (root_declares P s RP low-s m space name is_name)
       go (some d) q =
           let D = outward_found M m RM p r at low-m (space, name) walks d q in
-          subst (λ (x : Meaning). Told s m (some (in_member d)) (or_root x P space name)) (sym D.is) (in_member_lem D.is_row)
+          subst (λ (x : CodeOption Meaning). Told s m (some (in_member d)) (or_root x P space name)) (sym D.is) (in_member_lem D.is_row)
 
   walks : (space name z : ℕ) → U.operand ≡ ref space (Id name) [] z → here_only code ≡ false → (walked_at m p ≡ some (space, name)) × (outward_reading m p ≡ outward (levels fs) space name)
   unfolding Readings.walked_inside Readings.outward_inside walked only ◌then◌

@@ -1,6 +1,6 @@
 -- The same of bytes: for every prelude and every member that are read as forms, of either version and rule set, and whether or not they would be
 -- accepted.
-use Rattle.std.specs.Prelude.{◌≡◌, refl, Bool, true, false, List, [], ◌∷◌, ℕ, ◌+◌, ◌*◌, ◌-◌, ◌≤◌, leb, length, get_or, take, drop}
+use Rattle.std.specs.Prelude.{◌≡◌, refl, Bool, true, false, List, [], ◌∷◌, ℕ, ◌+◌, ◌*◌, ◌-◌, ◌≤◌, leb, length, get_or, take, drop, Option as CodeOption, Some, None}
 use Rattle.std.proofs.Common.{ap, sym, ◌∙◌, subst, arith, le-leb, length-drop, get_or-take, length-take-le}
 use Rattle.std.proofs.Math.Option.{Option, none, some, map}
 use Rattle.std.proofs.lemmas.List.{length-map}
@@ -30,11 +30,11 @@ use Rattle.reading_laws.specs.Stand.{Is, At, at_elem}
 use Rattle.reading_laws.specs.Meant.{Rows}
 use Rattle.reading_laws.specs.OnBytes.{Within, all_within, setting_within, body, rows_fit, body_stands}
 use Rattle.reading_laws.specs.Walked.{walked_row}
-use Rattle.meant.specs.declared.Declared.{Declared}
-use Rattle.meant.specs.declared.Declared.TheVariants.{Member, Prelude, Nowhere}
 use Rattle.meant.specs.Part.{part_of, meant_t, row_part, chosen}
+use Rattle.meant.specs.declared.Declared.TheVariants.{Member, Prelude}
 use Rattle.meant_laws.specs.Told.{Told, nothing, in_member_lem, in_prelude_lem}
 use Rattle.meant_laws.specs.NameRow.{name_told, walked_told}
+use Rattle.meant.specs.declared.Declared.{Declared}
 
 -- ---- a form by its bytes
 
@@ -175,17 +175,17 @@ row_of form t F d row e =
     )
 
 module _ (prelude member : List ℕ) (s m : Scope) (P : Reads prelude s) (M : Reads member m) where
-  shown : (o : Option Meant) (d : Declared) → Told s m o d → Shown prelude member s m o (chosen d prelude member)
+  shown : (o : Option Meant) (d : CodeOption Declared) → Told s m o d → Shown prelude member s m o (chosen d prelude member)
   unfolding chosen
-  shown none Nowhere nothing = no_part
-  shown (some (in_member d)) (Member row) (in_member_lem e) = let R = row_of member m M d row e in of_member R.0 row R.1 R.2
-  shown (some (in_prelude d)) (Prelude row) (in_prelude_lem e) = let R = row_of prelude s P d row e in of_prelude_lem R.0 row R.1 R.2
-  shown none (Member row) x'' = elim x'' [ ]
-  shown none (Prelude row) x3 = elim x3 [ ]
-  shown (some (in_prelude d)) (Member row) x5 = elim x5 [ ]
-  shown (some (in_prelude d)) Nowhere x6 = elim x6 [ ]
-  shown (some (in_member d)) (Prelude row) x6 = elim x6 [ ]
-  shown (some (in_member d)) Nowhere x7 = elim x7 [ ]
+  shown none None nothing = no_part
+  shown (some (in_member d)) (Some (Member row)) (in_member_lem e) = let R = row_of member m M d row e in of_member R.0 row R.1 R.2
+  shown (some (in_prelude d)) (Some (Prelude row)) (in_prelude_lem e) = let R = row_of prelude s P d row e in of_prelude_lem R.0 row R.1 R.2
+  shown none (Some (Member row)) x'' = elim x'' [ ]
+  shown none (Some (Prelude row)) x3 = elim x3 [ ]
+  shown (some (in_prelude d)) (Some (Member row)) x5 = elim x5 [ ]
+  shown (some (in_prelude d)) None x6 = elim x6 [ ]
+  shown (some (in_member d)) (Some (Prelude row)) x6 = elim x6 [ ]
+  shown (some (in_member d)) None x7 = elim x7 [ ]
 
   -- What is handed back for the row of an operand is the DECL row that the rules name, sixteen bytes out of the member or out of the prelude.
   pub row_itself : (p : Place) (r : ℕ) → row_of_operand m p ≡ some r → Shown prelude member s m (member_means s m p) (chosen (meant_t prelude member r) prelude member)

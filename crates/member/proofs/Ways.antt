@@ -1,4 +1,5 @@
 -- Ways through a member's run.
+use Rattle.std.specs.Prelude.{Result, Ok, Err, ℕ}
 use mathlib.Core.Path.{◌≡◌, refl, sym, ap, ◌∙◌, subst}
 use mathlib.Core.Bool.{Bool, true, false}
 use mathlib.Core.Logic.{◌⊎◌, inl, inr}
@@ -30,8 +31,6 @@ use Rattle.batching.proofs.Laws.CallLaws.{short_prelude}
 use Rattle.refusal.specs.declared.Refusal.{Refusal}
 use Rattle.refusal.specs.declared.Told.{Told}
 use Rattle.resolver.specs.Meaning.{Numbers, numbers, Said, meaning, ruled}
-use Rattle.resolver.specs.declared.run.Answer.{Answer}
-use Rattle.resolver.specs.declared.run.Answer.TheVariants.{Accepted, Refused}
 use Rattle.resolver.proofs.Bytes.{all_bytes}
 use Rattle.resolver.proofs.Root.{Able}
 use Rattle.moved.proofs.Agrees.{Counted, answer_counted}
@@ -43,6 +42,7 @@ use Rattle.resolver_with.proofs.Runs.{able_at}
 use Rattle.inside.specs.Areas.{Suits, SuitsIf}
 use Rattle.inside.specs.Run.{RootIn, Resolves}
 use Rattle.member.proofs.Prelude.{prelude_answer_lem, Resolved, prelude_resolved}
+use Rattle.refusal.specs.declared.Refused.{Refused}
 
 -- ---- rows_of
 
@@ -96,11 +96,11 @@ rows_in_lem l header h count to from is e f = rw (← is)
 
 -- ---- said
 
-module _ (a : Answer) where
-  pub said_accepted : (rows : ℕ) → a ≡ Accepted rows → numbers 0 rows ≡ (meaning a).plain
+module _ (a : Result ℕ Refused) where
+  pub said_accepted : (rows : ℕ) → a ≡ Ok rows → numbers 0 rows ≡ (meaning a).plain
   said_accepted rows q = rw q
 
-  pub said_refused : (r : Refusal) (t : Told) → a ≡ Refused r t → numbers r.number r.place ≡ (meaning a).plain
+  pub said_refused : (r : Refusal) (t : Told) → a ≡ Err (record { refusal = r; told = t }) → numbers r.number r.place ≡ (meaning a).plain
   said_refused r t q = rw q
 
 -- ---- packed
@@ -128,7 +128,7 @@ unfolding map_answer
 prelude_refused (refused k z d) n p c e = cc
 prelude_refused (accepted q) n p c e = let z : ◌≡◌ {A = ℕ} 0 1 = cc in absurd (omega arith)
 
-module _ (s : Setting) (prelude area : List ℕ) (said : Refusal) (a : Answer) (told : numbers said.number said.place ≡ (meaning a).plain) (ran : meaning a ≡ ruled (answer (s ∷ []) prelude (length area))) where
+module _ (s : Setting) (prelude area : List ℕ) (said : Refusal) (a : Result ℕ Refused) (told : numbers said.number said.place ≡ (meaning a).plain) (ran : meaning a ≡ ruled (answer (s ∷ []) prelude (length area))) where
   as_ruled : numbers said.number said.place ≡ (ruled (answer (s ∷ []) prelude (length area))).plain
   as_ruled = told ∙ ap (λ (x : Said). x.plain) ran
 
@@ -154,7 +154,7 @@ module _ (s : Setting) (prelude area : List ℕ) (said : Refusal) (a : Answer) (
         let r = is_accepted (answer (s ∷ []) prelude (length area)) said.number said.place (answer_counted (s ∷ []) prelude (length area)) as_ruled h in
         subst (Resolved s prelude area) (sym r.2) (prelude_resolved s able prelude area r.0 (all_bytes prelude all) r.1)
 
-    module _ (member old new : List ℕ) (r : Answer) (resolves : Resolves s root member old new r) where
+    module _ (member old new : List ℕ) (r : Result ℕ Refused) (resolves : Resolves s root member old new r) where
       inside : (meaning r ≡ ruled (inside_answer s (root_of found.tree) member (length old))) × (new ≡ inside_output s (root_of found.tree) member old)
       inside = resolves found.tree (subst (RootIn s.version found.tree) (sym (rows ∙ ap (λ (o : List ℕ). take (16 * said.place) (drop s.version.header o)) left)) found.root)
 
@@ -201,7 +201,7 @@ room_there s prelude area rows R = go (length area) R.is
         absurd (omega arith)
     go (suc r) e = omega arith
 
-module _ (i : ℕ) (prelude area : List ℕ) (e n : List Slot) (k c m : List ℕ) (suits : SuitsIf i (length area) e n k c m) (said : Refusal) (a : Answer) (told : numbers said.number said.place ≡ (meaning a).plain)
+module _ (i : ℕ) (prelude area : List ℕ) (e n : List Slot) (k c m : List ℕ) (suits : SuitsIf i (length area) e n k c m) (said : Refusal) (a : Result ℕ Refused) (told : numbers said.number said.place ≡ (meaning a).plain)
     (area' : List ℕ) (ran : Ran (setting i) (roomy (setting i).version (lent_of e n k c m)) prelude area area' a) where
   -- where there is no room it does not matter whether the tables are large enough
   abbrev enough : Bool

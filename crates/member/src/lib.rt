@@ -14,8 +14,8 @@ ghost use Rattle.resolver.specs.Meaning.{numbers, meaning, ruled};
 use areas::clear_bytes;
 use inside::run::resolve_inside;
 use names::least;
-use refusal::Refusal;
-use resolver::run::{Answer, header_size, resolve};
+use refusal::{Refusal, Refused};
+use resolver::run::{header_size, resolve};
 
 // The size of the working area: the output of a prelude of as many rows as a form may have.
 pub const AREA: usize = 65480;
@@ -34,15 +34,15 @@ pub fn rows_of(form: &[u8], i: usize, count: u32) -> &[u8]
 }
 
 // The number and the place of an answer: 0 and the number of rows if nothing is refused.
-pub fn said(answer: Answer) -> Refusal
+pub fn said(answer: Result<u32, Refused>) -> Refusal
     ensures { numbers result.number result.place ≡ (meaning answer).plain }
 {
     match answer {
-        Answer::Accepted(rows) => Refusal {
+        Ok(rows) => Refusal {
             number: 0,
             place: rows,
         },
-        Answer::Refused(refusal, _) => Refusal {
+        Err(Refused { refusal, .. }) => Refusal {
             number: refusal.number,
             place: refusal.place,
         },

@@ -1,5 +1,5 @@
 -- A member inside a root that stands in the table: what the walk leaves of it, and what is answered, are what the rules say.
-use Rattle.std.specs.Prelude.{◌≡◌, refl, ℕ, ◌+◌, ◌-◌, ◌*◌, ◌/◌, ◌≤◌, length, take, set, replicate}
+use Rattle.std.specs.Prelude.{◌≡◌, refl, ℕ, ◌+◌, ◌-◌, ◌*◌, ◌/◌, ◌≤◌, length, take, set, replicate, Result as CodeResult, Ok, Err}
 use Rattle.std.proofs.Math.Path.{sym, ap, subst}
 use Rattle.std.proofs.Common.{◌∙◌, get_or-set_same}
 use Rattle.std.proofs.Math.Bool.{true}
@@ -41,16 +41,14 @@ use Rattle.agree.specs.Rows.AtLaws.{at_fits, at_form}
 use Rattle.agree.specs.Tables.Earlier.{Knows, Come, Earlier}
 use Rattle.agree.specs.Walk.RootAgrees.{Begun, inside_agrees}
 use Rattle.whole_form.specs.Whole.{form_of}
-use Rattle.whole_form.specs.declared.read.Form.TheVariants.{Whole, Refused as NotWhole}
 use Rattle.resolver.specs.Meaning.{meaning, ruled}
 use Rattle.resolver.specs.Admit.{admit}
 use Rattle.resolver.specs.Run.{Ran, fill_t, before, finish_t}
-use Rattle.resolver.specs.declared.run.Answer.{Answer}
-use Rattle.resolver.specs.declared.run.Answer.TheVariants.{Refused}
 use Rattle.resolver.proofs.Admits.{left_in, Admitted, admitted, admit_early, whole_is, refused_is, answer_inside_lem, output_inside_lem}
 use Rattle.resolver.proofs.Root.{Able, Walks, seen}
 use Rattle.resolver.proofs.Agrees.{Says, body_rows, body_form, tree_says}
 use Rattle.member_laws.specs.Within.{inner, one_open, walk_inside}
+use Rattle.refusal.specs.declared.Refused.{Refused}
 
 -- a root that stands in the first `used` slots of a table, and has come to its end: all that it declares stands before a member
 pub record Seated (root : Env) (names : List Slot) (name used : ℕ) : Type 0 where
@@ -138,7 +136,7 @@ module _ (s : Setting) (able : Able s) (some_scope : 1 ≤ s.version.scopes) (ro
 
 -- ---- the answer
 
-module _ (s : Setting) (root : Env) (input : List ℕ) (room : ℕ) (why : Refusal) (e : NotWhole why ≡ form_of (admit (left_in (root ∷ []) s) input room)) where
+module _ (s : Setting) (root : Env) (input : List ℕ) (room : ℕ) (why : Refusal) (e : Err why ≡ form_of (admit (left_in (root ∷ []) s) input room)) where
   admits : (admit (left_in (root ∷ []) s) input room ≡ rules.refused why.number why.place []) × (why.number ≤ 5)
   admits = refused_is (admit (left_in (root ∷ []) s) input room) why (admit_early (left_in (root ∷ []) s) input room) e
 
@@ -146,7 +144,7 @@ module _ (s : Setting) (root : Env) (input : List ℕ) (room : ℕ) (why : Refus
   unfolding ◌and_then◌ map_answer
   refuses = answer_inside_lem (root ∷ []) s input room ∙ rw admits.0
 
-  pub inside_early : meaning (Refused why untold) ≡ ruled (inside_answer s root input room)
+  pub inside_early : meaning (Err (record { refusal = why; told = untold })) ≡ ruled (inside_answer s root input room)
   inside_early = rw refuses
 
   pub inside_stays : (old : List ℕ) → length old ≡ room → old ≡ inside_output s root input old
@@ -172,7 +170,7 @@ leaves_alike s (rules.refused number place carried) input old = refl
 leaves_alike s (accepted rows) input old = refl
 
 module _ (s : Setting) (able : Able s) (some_scope : 1 ≤ s.version.scopes) (root : Env) (name used : ℕ) (ends : List ℕ) (entered names : List Slot) (seated : Seated root names name used) (rooms : RoomsIn s.version used ends entered names)
-    (input old : List ℕ) (all : Bytes input) (rows : ℕ) (whole : Whole rows ≡ form_of (admit (left_in (root ∷ []) s) input (length old))) where
+    (input old : List ℕ) (all : Bytes input) (rows : ℕ) (whole : Ok rows ≡ form_of (admit (left_in (root ∷ []) s) input (length old))) where
   tree : (t : Scope) × (admit (inner s) input (length old) ≡ accepted t) × (rows ≡ length (flatten t))
   tree = whole_is (admit (inner s) input (length old)) rows whole
 
@@ -190,7 +188,7 @@ module _ (s : Setting) (able : Able s) (some_scope : 1 ≤ s.version.scopes) (ro
   abbrev share : ℕ
   share = s.version.header + 64 * row_count (inner s).version input
 
-  counted : (a : Answer) (k : List ℕ) → a & k ≡ fill_t s (walk_inside s name used (drop s.version.header input) ends entered names) (take share old)
+  counted : (a : CodeResult ℕ Refused) (k : List ℕ) → a & k ≡ fill_t s (walk_inside s name used (drop s.version.header input) ends entered names) (take share old)
       → (meaning a ≡ ruled (inside_answer s root input (length old))) × (k ++ drop share old ≡ inside_output s root input old)
   unfolding ◌and_then◌ before
   counted a k e =
@@ -201,7 +199,7 @@ module _ (s : Setting) (able : Able s) (some_scope : 1 ≤ s.version.scopes) (ro
       let one : inside_answer s root input (length old) ≡ x = answer_inside_lem (root ∷ []) s input (length old) ∙ rw tree.1 in
       (said.0 ∙ ap ruled (sym one), said.1 ∙ (leaves_alike s x input old ∙ sym (output_inside_lem (root ∷ []) s input old ∙ rw one)))
 
-  pub inside_agrees_all : (a : Answer) (k : List ℕ) → a & k ≡ fill_t s (walk_inside s name used (drop s.version.header input) ends entered names) (take (s.version.header + 64 * rows) old)
+  pub inside_agrees_all : (a : CodeResult ℕ Refused) (k : List ℕ) → a & k ≡ fill_t s (walk_inside s name used (drop s.version.header input) ends entered names) (take (s.version.header + 64 * rows) old)
       → (meaning a ≡ ruled (inside_answer s root input (length old))) × (k ++ drop (s.version.header + 64 * rows) old ≡ inside_output s root input old)
   inside_agrees_all a k e =
       let c = counted a k (subst (λ (n : ℕ). a & k ≡ fill_t s (walk_inside s name used (drop s.version.header input) ends entered names) (take (s.version.header + 64 * n) old)) count e) in

@@ -1,4 +1,5 @@
 -- The ways through the code.
+use Rattle.std.specs.Prelude.{Result, ℕ}
 use mathlib.Core.Path.{◌≡◌, refl, sym, ap, ◌∙◌, subst}
 use mathlib.Core.Bool.{Bool, true, false, ◌||◌}
 use mathlib.Core.Logic.{◌⊎◌, inl, inr}
@@ -24,7 +25,6 @@ use Rattle.refusal.specs.declared.Refusal.{Refusal}
 use Rattle.limits.specs.Held.{setting}
 use Rattle.names.specs.Table.{Slot, empty_slot}
 use Rattle.resolver.specs.Meaning.{numbers, meaning, ruled}
-use Rattle.resolver.specs.declared.run.Answer.{Answer}
 use Rattle.resolver_with.specs.Asked.{asked}
 use Rattle.resolver_with.specs.Areas as areas
 use Rattle.clearing.specs.Cleared.{cleared}
@@ -37,6 +37,7 @@ use Rattle.inside.specs.Areas.{both_for, chains_for, SuitsIf, Same}
 use Rattle.inside.specs.Run.{Resolves}
 use Rattle.member.proofs.Ways.{told_low, told_answers, told_stays, inside_answers, inside_leaves, lent_ran, lent_left, as_answered, as_left, as_cleared}
 use Rattle.member_with.specs.Areas.{area_for, is_small, short_with, TablesCleared, Large, SameArea}
+use Rattle.refusal.specs.declared.Refused.{Refused}
 
 -- ---- are_small, clear_tables
 
@@ -57,7 +58,7 @@ module _ (v : Version) (slots both links more : ℕ) (p : slots ≡ slots_for v)
 
 -- ---- run_in
 
-module _ (i : ℕ) (prelude area : List ℕ) (e n : List Slot) (k c m : List ℕ) (suits : SuitsIf i (length area) e n k c m) (said : Refusal) (a : Answer) (told : numbers said.number said.place ≡ (meaning a).plain)
+module _ (i : ℕ) (prelude area : List ℕ) (e n : List Slot) (k c m : List ℕ) (suits : SuitsIf i (length area) e n k c m) (said : Refusal) (a : Result ℕ Refused) (told : numbers said.number said.place ≡ (meaning a).plain)
     (area' : List ℕ) (ran : Ran (setting i) (roomy (setting i).version (lent_of e n k c m)) prelude area area' a) where
   ran_one : meaning a ≡ ruled (answer (setting i ∷ []) prelude (length area))
   ran_one = lent_ran i prelude area e n k c m suits said a told area' ran
@@ -75,7 +76,7 @@ module _ (i : ℕ) (prelude area : List ℕ) (e n : List Slot) (k c m : List ℕ
     left_one : area' ≡ output (setting i ∷ []) prelude area
     left_one = lent_left i prelude area e n k c m suits said a told area' ran
 
-    module _ (root : List ℕ) (rows : root ≡ take (16 * said.place) (drop (setting i).version.header area')) (member old new : List ℕ) (r : Answer) (resolves : Resolves (setting i) root member old new r) where
+    module _ (root : List ℕ) (rows : root ≡ take (16 * said.place) (drop (setting i).version.header area')) (member old new : List ℕ) (r : Result ℕ Refused) (resolves : Resolves (setting i) root member old new r) where
       pub lent_inside : (q : Refusal) → numbers q.number q.place ≡ (meaning r).plain → numbers q.number q.place ≡ (ruled (member_answer (setting i ∷ []) prelude (length area) member (length old))).plain
       lent_inside = inside_answers (setting i) prelude area said a told ran_one (able_at i) h each area' left_one root rows member old new r resolves
 

@@ -1,4 +1,5 @@
 -- What the code answers and leaves is what the rules say, for every setting.
+use Rattle.std.specs.Prelude.{Result, ℕ}
 use mathlib.Core.Path.{◌≡◌, refl, sym, ap, ap₂, ◌∙◌, subst}
 use mathlib.Core.Bool.{Bool, true, false, ◌&&◌, ◌||◌, not, and-true, and_assoc}
 use mathlib.Core.Logic.{◌⊎◌, inl, inr}
@@ -43,7 +44,7 @@ use Rattle.mend_list.specs.Listed.{changes_in}
 use Rattle.mend_list.proofs.Changes.{header_size, list_right, form_counted}
 use Rattle.mend.specs.Meaning.{meaning, ruled}
 use Rattle.mend.specs.Run.{Ran, refused_t, letters_t, asks_t, place_t, new_t, in_place, write_t, read_then, room_t, to_t, made_t}
-use Rattle.mend.specs.declared.run.Answer.{Answer}
+use Rattle.refusal.specs.declared.Refusal.{Refusal}
 
 -- ---- which setting
 
@@ -404,7 +405,7 @@ module _ (buffer list : List ℕ) (n : ℕ) where
   three_told number place e = rw e (says_refused buffer list n number place)
 
   module _ (h : length buffer < n) where
-    pub far_answers : {a : Answer} → a ≡ refused_t 2 0 → meaning a ≡ ruled R
+    pub far_answers : {a : Result ℕ Refusal} → a ≡ refused_t 2 0 → meaning a ≡ ruled R
     far_answers e = rw e (three_told 2 0 (far h)).0
 
     pub far_leaves : buffer ≡ buffer_after R n buffer
@@ -415,7 +416,7 @@ module _ (buffer list : List ℕ) (n : ℕ) where
 
   module _ (near : n ≤ length buffer) (i : ℕ) (w : i ≡ place_t (take n buffer)) where
     module _ (e : 3 ≤ i) where
-      pub other_answers : {a : Answer} → a ≡ refused_t 1 0 → meaning a ≡ ruled R
+      pub other_answers : {a : Result ℕ Refusal} → a ≡ refused_t 1 0 → meaning a ≡ ruled R
       other_answers f = rw f (three_told 1 0 (other near i w e)).0
 
       pub other_leaves : buffer ≡ buffer_after R n buffer
@@ -440,7 +441,7 @@ module _ (buffer list : List ℕ) (n : ℕ) where
       made_told : Says buffer list n R (made_t l buffer n list)
       made_told = rw (chosen near i w e, is) (says_made buffer list n (limits_of (setting i)) (held i) near asks_it)
 
-      module _ {a : Answer} {b m : List ℕ} (f : a & b & m ≡ made_t l buffer n list) where
+      module _ {a : Result ℕ Refusal} {b m : List ℕ} (f : a & b & m ≡ made_t l buffer n list) where
         made_is : Says buffer list n R (a & b & m)
         made_is = subst (Says buffer list n R) (sym f) made_told
 

@@ -1,4 +1,5 @@
 -- The ways through the run.
+use Rattle.std.specs.Prelude.{Result, Ok, Err, ⊤, ℕ}
 use mathlib.Core.Path.{◌≡◌, refl, sym, ap, ◌∙◌}
 use mathlib.Core.Bool.{Bool, true, false, not, ◌&&◌, ◌||◌}
 use mathlib.Core.List.{List, []}
@@ -24,11 +25,10 @@ use Rattle.mend_list.specs.Listed.{listed, none, noted, changes_in}
 use Rattle.mend_list.specs.declared.Listed.{Listed}
 use Rattle.form_bytes.specs.Begins.{begins_as}
 use Rattle.reader.specs.ReadTo.{read_to}
-use Rattle.reader.specs.declared.RowsRead.{RowsRead}
-use Rattle.reader.specs.declared.RowsRead.TheVariants as rows_read
 use Rattle.mend.specs.Run.{Ran, refused_t, letters_t, asks_t, place_t, new_t, in_place, write_t, read_then, room_t, to_t, made_t}
-use Rattle.mend.specs.declared.run.Answer.{Answer}
-use Rattle.mend.specs.declared.run.Answer.TheVariants.{Mended}
+use Rattle.reader.specs.declared.BadRows.TheVariants as rows_read
+use Rattle.reader.specs.declared.BadRows.{BadRows}
+use Rattle.refusal.specs.declared.Refusal.{Refusal}
 
 -- ---- the setting
 
@@ -91,7 +91,7 @@ module _ (l : Limits) (old : List ℕ) (header : ℕ) (is : header ≡ l.header)
   pub kept_is : (k : Kept) → k ≡ kept_in (take (length old - header) (drop header old)) → k ≡ kept_in (drop l.header old)
   kept_is k e = e ∙ ap kept_in behind
 
-  pub read_is : (r : RowsRead) → r ≡ read_to l (mended_body_t (take (length old - header) (drop header old)) (kept_in (take (length old - header) (drop header old)))) → r ≡ read_to l (mended_body_t (drop l.header old) (kept_in (drop l.header old)))
+  pub read_is : (r : Result ⊤ BadRows) → r ≡ read_to l (mended_body_t (take (length old - header) (drop header old)) (kept_in (take (length old - header) (drop header old)))) → r ≡ read_to l (mended_body_t (drop l.header old) (kept_in (drop l.header old)))
   read_is r e = e ∙ ap (λ (b : List ℕ). read_to l (mended_body_t b (kept_in b))) behind
 
 pub fits_first : (b : List ℕ) (n m : ℕ) → n ≤ length b → m ≤ n → m ≤ length (take n b)
@@ -129,7 +129,7 @@ module _ (l : Limits) (old : List ℕ) (size room space : ℕ) where
 -- ---- the run
 
 pub writes : (l : Limits) (buffer l₁ list l₂ : List ℕ) (long : ℕ) (k : Kept) (r : Listed) → r & l₂ ≡ noted none list (changes_in l (take long buffer)) → l₁ ≡ in_place buffer long (new_t l (take long buffer) k)
-    → Mended r.count & l₁ & l₂ ≡ write_t l buffer long list k
+    → Ok r.count & l₁ & l₂ ≡ write_t l buffer long list k
 unfolding write_t noted
 writes l buffer l₁ list l₂ long k r e f =
     let cs = changes_in l (take long buffer) in
@@ -141,19 +141,19 @@ module _ (l : Limits) (buffer list : List ℕ) (long : ℕ) (k : Kept) where
   abbrev body : List ℕ
   body = drop l.header (take long buffer)
 
-  module _ (is : k ≡ kept_in body) (r : RowsRead) (v : r ≡ read_to l (mended_body_t body (kept_in body))) where
+  module _ (is : k ≡ kept_in body) (r : Result ⊤ BadRows) (v : r ≡ read_to l (mended_body_t body (kept_in body))) where
     is_read : r ≡ read_to l (mended_body_t body k)
     is_read = v ∙ ap (λ (x : Kept). read_to l (mended_body_t body x)) (sym is)
 
-    pub read_broken : {a : Answer} (row : ℕ) → r ≡ rows_read.Broken row → a ≡ refused_t 4 (row % 4294967296) → a & buffer & list ≡ read_then (read_to l (mended_body_t body k)) l buffer long list k
+    pub read_broken : {a : Result ℕ Refusal} (row : ℕ) → r ≡ Err (rows_read.Broken row) → a ≡ refused_t 4 (row % 4294967296) → a & buffer & list ≡ read_then (read_to l (mended_body_t body k)) l buffer long list k
     unfolding read_then
     read_broken row e f = rw (← is_read, e, f)
 
-    pub read_deep : {a : Answer} (row : ℕ) → r ≡ rows_read.Deep row → a ≡ refused_t 5 (row % 4294967296) → a & buffer & list ≡ read_then (read_to l (mended_body_t body k)) l buffer long list k
+    pub read_deep : {a : Result ℕ Refusal} (row : ℕ) → r ≡ Err (rows_read.Deep row) → a ≡ refused_t 5 (row % 4294967296) → a & buffer & list ≡ read_then (read_to l (mended_body_t body k)) l buffer long list k
     unfolding read_then
     read_deep row e f = rw (← is_read, e, f)
 
-    pub read_whole : {a : Answer} {l₁ l₂ : List ℕ} → r ≡ rows_read.Whole → a & l₁ & l₂ ≡ write_t l buffer long list k → a & l₁ & l₂ ≡ read_then (read_to l (mended_body_t body k)) l buffer long list k
+    pub read_whole : {a : Result ℕ Refusal} {l₁ l₂ : List ℕ} → r ≡ Ok tt → a & l₁ & l₂ ≡ write_t l buffer long list k → a & l₁ & l₂ ≡ read_then (read_to l (mended_body_t body k)) l buffer long list k
     unfolding read_then
     read_whole e f = rw (← is_read, e) f
 
@@ -164,7 +164,7 @@ module _ (l : Limits) (buffer list : List ℕ) (long : ℕ) (k : Kept) where
     pub to_fits : not t ≡ false → l.header + 16 * (k.rows + k.scopes) ≤ length buffer
     to_fits h = room_fits l (take long buffer) (l.header + 16 * (k.rows + k.scopes)) (length buffer) (length list) (sym asked) h
 
-    pub to_short : {a : Answer} → a ≡ refused_t 3 0 → not t ≡ true → a & buffer & list ≡ to_t l buffer long list k
+    pub to_short : {a : Result ℕ Refusal} → a ≡ refused_t 3 0 → not t ≡ true → a & buffer & list ≡ to_t l buffer long list k
     unfolding to_t
     to_short e h = no! _ (asked ∙ not-true t h) (rw e)
 
@@ -176,12 +176,12 @@ module _ (l : Limits) (buffer list : List ℕ) (long : ℕ) (k : Kept) where
     pub kept_fits : l.header ≤ long → long ≤ length buffer → l.header + 16 * k.rows ≤ long
     kept_fits h g = rw is (omega (arith, (rows_split body).1, length-drop l.header (take long buffer), length-take-le long buffer g))
 
-    pub made_none : {a : Answer} → a ≡ refused_t 2 0 → k.rows + k.scopes ≡ 0 → a & buffer & list ≡ made_t l buffer long list
+    pub made_none : {a : Result ℕ Refusal} → a ≡ refused_t 2 0 → k.rows + k.scopes ≡ 0 → a & buffer & list ≡ made_t l buffer long list
     unfolding made_t
     made_none e h = rw (← is) (yes! _ (omega tests) (rw e))
 
     module _ (some : k.rows + k.scopes ≡ 0 → ⊥) where
-      pub made_many : {a : Answer} → a ≡ refused_t 2 0 → l.rows < k.rows + k.scopes → a & buffer & list ≡ made_t l buffer long list
+      pub made_many : {a : Result ℕ Refusal} → a ≡ refused_t 2 0 → l.rows < k.rows + k.scopes → a & buffer & list ≡ made_t l buffer long list
       unfolding made_t
       made_many e h = rw (← is) (no! _ (omega tests) (yes! _ (omega tests) (rw e)))
 

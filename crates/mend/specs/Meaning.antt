@@ -1,8 +1,7 @@
 -- The rules' number and place for each answer of the code.
-use Rattle.std.specs.Prelude.{ℕ, length}
+use Rattle.std.specs.Prelude.{ℕ, length, Result, Ok, Err}
 use Rattle.mending.specs.Mend.{Mending, refused, mended}
-use Rattle.mend.specs.declared.run.Answer.{Answer}
-use Rattle.mend.specs.declared.run.Answer.TheVariants.{Mended, Refused}
+use Rattle.refusal.specs.declared.Refusal.{Refusal}
 
 -- a refusal's number and place, or 0 and the number of changes
 pub record Numbers : Type 0 where
@@ -13,9 +12,9 @@ abbrev pub numbers : ℕ → ℕ → Numbers
 numbers number place = record { number = number; place = place }
 
 -- of the code
-abbrev pub meaning : Answer → Numbers
-meaning (Mended changes) = numbers 0 changes
-meaning (Refused refusal) = numbers refusal.number refusal.place
+abbrev pub meaning : Result ℕ Refusal → Numbers
+meaning (Ok changes) = numbers 0 changes
+meaning (Err refusal) = numbers refusal.number refusal.place
 
 -- of the rules
 abbrev pub ruled : Mending → Numbers

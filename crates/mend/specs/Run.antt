@@ -1,5 +1,5 @@
 -- The run as the code takes it.
-use Rattle.std.specs.Prelude.{Bool, false, ◌&&◌, ◌||◌, List, ◌++◌, ℕ, ◌+◌, ◌*◌, ◌-◌, ◌%◌, eqb, leb, ltb, length, get_or, take, drop, replicate}
+use Rattle.std.specs.Prelude.{Bool, false, ◌&&◌, ◌||◌, List, ◌++◌, ℕ, ◌+◌, ◌*◌, ◌-◌, ◌%◌, eqb, leb, ltb, length, get_or, take, drop, replicate, Result, Ok, Err, ⊤}
 use Rattle.std.proofs.lemmas.List.Edits.{sets}
 use Rattle.kit.specs.Pick.{pick}
 use Rattle.kit.specs.Out.{Out, ◌&◌}
@@ -8,23 +8,22 @@ use Rattle.limits.specs.declared.Limits.{Limits}
 use Rattle.limits.specs.Held.{setting_in, limits_of, setting}
 use Rattle.form_bytes.specs.Begins.{begins_as}
 use Rattle.reader.specs.ReadTo.{read_to}
-use Rattle.reader.specs.declared.RowsRead.{RowsRead}
-use Rattle.reader.specs.declared.RowsRead.TheVariants as rows_read
 use Rattle.mending.specs.Mend.{list_bytes}
 use Rattle.mend_form.specs.Kept.{kept_in}
 use Rattle.mend_form.specs.Filled.{mended_body_t}
 use Rattle.mend_form.specs.declared.Kept.{Kept}
 use Rattle.mend_list.specs.Listed.{changes_in}
-use Rattle.mend.specs.declared.run.Answer.{Answer}
-use Rattle.mend.specs.declared.run.Answer.TheVariants.{Mended, Refused}
+use Rattle.reader.specs.declared.BadRows.TheVariants as rows_read
+use Rattle.reader.specs.declared.BadRows.{BadRows}
+use Rattle.refusal.specs.declared.Refusal.{Refusal}
 
 -- an answer, and the two buffers
 abbrev pub Ran : Type 0
-Ran = Out Answer (Out (List ℕ) (List ℕ))
+Ran = Out (Result ℕ Refusal) (Out (List ℕ) (List ℕ))
 
 -- a refusal whose number document 01 gives, and its place
-abbrev pub refused_t : (number place : ℕ) → Answer
-refused_t number place = Refused (record { number = number; place = place })
+abbrev pub refused_t : (number place : ℕ) → Result ℕ Refusal
+refused_t number place = Err (record { number = number; place = place })
 
 -- ---- the setting
 
@@ -58,13 +57,13 @@ in_place buffer long form = sets (sets buffer 0 form) (length form) (replicate (
 unfoldable pub write_t : Limits → (buffer : List ℕ) (long : ℕ) (list : List ℕ) → Kept → Ran
 write_t l buffer long list k =
     let cs = changes_in l (take long buffer) in
-    Mended (length cs) & in_place buffer long (new_t l (take long buffer) k) & sets list 0 (list_bytes cs)
+    Ok (length cs) & in_place buffer long (new_t l (take long buffer) k) & sets list 0 (list_bytes cs)
 
 -- refusals 4 and 5 for a mended form that has room; then it is written
-unfoldable pub read_then : RowsRead → Limits → (buffer : List ℕ) (long : ℕ) (list : List ℕ) → Kept → Ran
-read_then (rows_read.Broken row) l buffer long list k = refused_t 4 (row % 4294967296) & buffer & list
-read_then (rows_read.Deep row) l buffer long list k = refused_t 5 (row % 4294967296) & buffer & list
-read_then rows_read.Whole l buffer long list k = write_t l buffer long list k
+unfoldable pub read_then : Result ⊤ BadRows → Limits → (buffer : List ℕ) (long : ℕ) (list : List ℕ) → Kept → Ran
+read_then (Err (rows_read.Broken row)) l buffer long list k = refused_t 4 (row % 4294967296) & buffer & list
+read_then (Err (rows_read.Deep row)) l buffer long list k = refused_t 5 (row % 4294967296) & buffer & list
+read_then (Ok tt) l buffer long list k = write_t l buffer long list k
 
 -- whether a form of this many bytes, and its list, have room
 unfoldable pub room_t : Limits → (old : List ℕ) (size room space : ℕ) → Bool

@@ -19,24 +19,17 @@ use limits::{Limits, of_input};
 use mend_form::{Kept, kept_in};
 use mend_list::list_changes;
 use mend_read::read_mended;
-use reader::RowsRead;
+use reader::BadRows;
 use refusal::{BROKEN, DEEP, NOT_A_FORM, ROOM, ROW_COUNT, Refusal};
 
 // How many settings there are.
 const SETTINGS: usize = 3;
 
-#[derive(Clone, Copy)]
-pub enum Answer {
-    // How many changes were made.
-    Mended(u32),
-    Refused(Refusal),
-}
-
 // A refusal whose number document 01 gives, and its place.
-fn refused(number: u32, place: u32) -> Answer
+fn refused(number: u32, place: u32) -> Result<u32, Refusal>
     ensures { result ≡ refused_t number place }
 {
-    Answer::Refused(Refusal { number, place })
+    Err(Refusal { number, place })
 }
 
 // ---- the setting
@@ -89,7 +82,7 @@ fn kept_of(old: &[u8], limits: Limits) -> Kept
 }
 
 // What the rows are, once they are mended.
-fn read_of(old: &[u8], limits: Limits) -> RowsRead
+fn read_of(old: &[u8], limits: Limits) -> Result<(), BadRows>
     requires { limits.header ≤ length old.now }
     ensures { result ≡ read_to limits (mended_body_t (drop limits.header old.now) (kept_in (drop limits.header old.now))) }
 {
@@ -117,13 +110,19 @@ fn has_room(old: &[u8], limits: Limits, size: usize, room: usize, space: usize) 
 }
 
 // Writes the list and the form.
-fn write(buffer: &mut [u8], long: usize, list: &mut [u8], limits: Limits, kept: Kept) -> Answer
+fn write(
+    buffer: &mut [u8],
+    long: usize,
+    list: &mut [u8],
+    limits: Limits,
+    kept: Kept,
+) -> Result<u32, Refusal>
     requires { (6 + pick limits.wide 4 2 ≤ limits.header) × (long ≤ length buffer.old) × (limits.header + 16 * kept.rows ≤ long) × (limits.header + 16 * (kept.rows + kept.scopes) ≤ length buffer.old) }
     ensures { (result & buffer.new & list.new) ≡ write_t limits buffer.old long list.old kept }
 {
     let done = list_changes(&buffer[..long], limits, list);
     put_form(buffer, long, limits, kept);
-    Answer::Mended(done.count)
+    Ok(done.count)
 }
 
 // Refusals 4 and 5 for a mended form that has room; then it is written.
@@ -133,20 +132,26 @@ fn read_and_write(
     list: &mut [u8],
     limits: Limits,
     kept: Kept,
-) -> Answer
+) -> Result<u32, Refusal>
     requires wide_bound { (6 + pick limits.wide 4 2 ≤ limits.header) × (long ≤ length buffer.old) × (limits.header + 16 * kept.rows ≤ long) × (limits.header + 16 * (kept.rows + kept.scopes) ≤ length buffer.old) }
     requires kept_value { kept ≡ kept_in (drop limits.header (take long buffer.old)) }
     ensures { (result & buffer.new & list.new) ≡ read_then (read_to limits (mended_body_t (drop limits.header (take long buffer.old)) kept)) limits buffer.old long list.old kept }
 {
     match read_of(&buffer[..long], limits) {
-        RowsRead::Broken(row) => refused(BROKEN, (row % 4294967296) as u32),
-        RowsRead::Deep(row) => refused(DEEP, (row % 4294967296) as u32),
-        RowsRead::Whole => write(buffer, long, list, limits, kept),
+        Err(BadRows::Broken(row)) => refused(BROKEN, (row % 4294967296) as u32),
+        Err(BadRows::Deep(row)) => refused(DEEP, (row % 4294967296) as u32),
+        Ok(()) => write(buffer, long, list, limits, kept),
     }
 }
 
 // Refusals 3 to 5 for a form of which these rows stay; then it is written.
-fn mend_to(buffer: &mut [u8], long: usize, list: &mut [u8], limits: Limits, kept: Kept) -> Answer
+fn mend_to(
+    buffer: &mut [u8],
+    long: usize,
+    list: &mut [u8],
+    limits: Limits,
+    kept: Kept,
+) -> Result<u32, Refusal>
     requires wide_bound { (6 + pick limits.wide 4 2 ≤ limits.header) × (long ≤ length buffer.old) × (limits.header + 16 * kept.rows ≤ long) × (kept.rows + kept.scopes ≤ 16383) }
     requires kept_value { kept ≡ kept_in (drop limits.header (take long buffer.old)) }
     ensures { (result & buffer.new & list.new) ≡ to_t limits buffer.old long list.old kept }
@@ -161,7 +166,12 @@ fn mend_to(buffer: &mut [u8], long: usize, list: &mut [u8], limits: Limits, kept
 }
 
 // Mends a form that begins as one of these limits does. One with no row, or more than a form may have, is refusal 2.
-fn mend_marked(buffer: &mut [u8], long: usize, list: &mut [u8], limits: Limits) -> Answer
+fn mend_marked(
+    buffer: &mut [u8],
+    long: usize,
+    list: &mut [u8],
+    limits: Limits,
+) -> Result<u32, Refusal>
     requires { (6 + pick limits.wide 4 2 ≤ limits.header) × (limits.rows ≤ 16383) × (long ≤ length buffer.old) × (limits.header ≤ long) }
     ensures { (result & buffer.new & list.new) ≡ made_t limits buffer.old long list.old }
 {
@@ -177,7 +187,7 @@ fn mend_marked(buffer: &mut [u8], long: usize, list: &mut [u8], limits: Limits) 
 }
 
 // Mends the form in the first `long` bytes of `buffer`; the rest of it is room for added rows. A refusal changes nothing.
-pub fn mend(buffer: &mut [u8], long: usize, list: &mut [u8]) -> Answer
+pub fn mend(buffer: &mut [u8], long: usize, list: &mut [u8]) -> Result<u32, Refusal>
     ensures result_value { meaning result ≡ ruled (mend_buffer all buffer.old long (length list.old)) }
     ensures buffer_after { buffer.new ≡ buffer_after (mend_buffer all buffer.old long (length list.old)) long buffer.old }
     ensures list_after { list.new ≡ list_after (mend_buffer all buffer.old long (length list.old)) list.old }

@@ -1,4 +1,5 @@
 -- The ways through the code that reads mended rows: those of the reader, on the bytes of the mended rows.
+use Rattle.std.specs.Prelude.{Result, Err, ⊤}
 use mathlib.Core.Path.{◌≡◌, refl, sym, ap, ◌∙◌}
 use mathlib.Core.List.{List}
 use native.Mathlib.Omega.{arith}
@@ -21,8 +22,6 @@ use Rattle.read_row.specs.Machine.{Outcome, on, outcome_of, position_of, read_st
 use Rattle.read_row.specs.declared.ReadState.{ReadState}
 use Rattle.reader.specs.Machine.{read_rows_t, read_on_t, read_as_t}
 use Rattle.reader.specs.ReadTo.{read_to}
-use Rattle.reader.specs.declared.RowsRead.{RowsRead}
-use Rattle.reader.specs.declared.RowsRead.TheVariants.{Broken, Deep}
 use Rattle.reader.proofs.Steps
 use Rattle.reader.proofs.Steps.{not_open}
 use Rattle.mend_form.specs.Kept.{kept_in}
@@ -30,6 +29,8 @@ use Rattle.mend_form.specs.Filled.{mended_body_t, row_in}
 use Rattle.mend_form.specs.declared.Kept.{Kept}
 use Rattle.mend_form.proofs.Laws.{body_size}
 use Rattle.mend_form.proofs.Rows.{in_size, parts_body}
+use Rattle.reader.specs.declared.BadRows.TheVariants.{Broken, Deep}
+use Rattle.reader.specs.declared.BadRows.{BadRows}
 
 -- ---- read_next and read_rows
 
@@ -45,7 +46,7 @@ module _ (l : Limits) (rows : List ℕ) (k : Kept) where
     pub next_turn : i < n → s.stage < 5 → (t : ReadState) (kinds' : List ℕ) → (outcome_of t & kinds') ≡ read_step_t (rules_of l.rules) (position_of s) kinds (row_of l.names (parts_at (mended_body_t rows k) i)) → read_on_t (rules_of l.rules) l.names (mended_body_t rows k) (i + 1) (n - (i + 1)) (outcome_of t & kinds') ≡ read_on_t (rules_of l.rules) l.names (mended_body_t rows k) 1 (n - 1) (outcome_of start & kinds₀)
     next_turn h e t kinds' st = Steps.on_turn (rules_of l.rules) l.names (mended_body_t rows k) n i s kinds _ inv h e (parts_at (mended_body_t rows k) i) refl t kinds' st
 
-    module _ (r : outcome_of start ≡ on in_root) (x : RowsRead) (e : x ≡ read_as_t n (outcome_of s) i) where
+    module _ (r : outcome_of start ≡ on in_root) (x : Result ⊤ BadRows) (e : x ≡ read_as_t n (outcome_of s) i) where
       pub next_end : n ≤ i → x ≡ read_rows_t (rules_of l.rules) l.names (mended_body_t rows k) 1 (n - 1) in_root kinds₀
       next_end h =
           Steps.all_read (rules_of l.rules) l.names (mended_body_t rows k) n start r kinds₀ (outcome_of s) i kinds (Steps.on_end (rules_of l.rules) l.names (mended_body_t rows k) n i s kinds _ inv h) x e
@@ -64,18 +65,18 @@ module _ (l : Limits) (rows : List ℕ) (k : Kept) (is : k ≡ kept_in rows) (th
   root_is =
       g ∙ (parts_row l.names first 0 ∙ (ap (row_of l.names) (ap (λ (r : List ℕ). parts_at r 0) made ∙ sym (parts_body rows k there 0)) ∙ sym (parts_row l.names (mended_body_t rows k) 0)))
 
-  pub mended_other : OneOf not_open (tag_of row_type.the_type this) → Broken 0 ≡ read_to l (mended_body_t rows (kept_in rows))
+  pub mended_other : OneOf not_open (tag_of row_type.the_type this) → Err (Broken 0) ≡ read_to l (mended_body_t rows (kept_in rows))
   mended_other h = Steps.read_other l (mended_body_t rows k) this root_is h ∙ ap (read_to l) body_is
 
   module _ (kind name : ℕ) (o : this ≡ row.Open kind name) where
-    pub mended_kind : (kind ≡ 0 → ⊥) → Broken 0 ≡ read_to l (mended_body_t rows (kept_in rows))
+    pub mended_kind : (kind ≡ 0 → ⊥) → Err (Broken 0) ≡ read_to l (mended_body_t rows (kept_in rows))
     mended_kind h = Steps.read_kind l (mended_body_t rows k) this root_is kind name o h ∙ ap (read_to l) body_is
 
     module _ (h : kind ≡ 0) (n : ℕ) (q : n ≡ l.scopes) where
-      pub mended_none : n ≡ 0 → Deep 0 ≡ read_to l (mended_body_t rows (kept_in rows))
+      pub mended_none : n ≡ 0 → Err (Deep 0) ≡ read_to l (mended_body_t rows (kept_in rows))
       mended_none z = Steps.read_none l (mended_body_t rows k) this root_is kind name o h n q z ∙ ap (read_to l) body_is
 
-      pub mended_root : (n ≡ 0 → ⊥) → n ≤ 255 → (r : RowsRead) → r ≡ read_rows_t (rules_of l.rules) l.names (mended_body_t rows k) 1 (k.rows + k.scopes - 1) in_root (take (n - 0) (drop 0 (replicate 255 0))) → r ≡ read_to l (mended_body_t rows (kept_in rows))
+      pub mended_root : (n ≡ 0 → ⊥) → n ≤ 255 → (r : Result ⊤ BadRows) → r ≡ read_rows_t (rules_of l.rules) l.names (mended_body_t rows k) 1 (k.rows + k.scopes - 1) in_root (take (n - 0) (drop 0 (replicate 255 0))) → r ≡ read_to l (mended_body_t rows (kept_in rows))
       mended_root z few r e =
           let count : k.rows + k.scopes - 1 ≡ length (mended_body_t rows k) / 16 - 1 = omega (arith, body_size rows k) in
           Steps.read_root l (mended_body_t rows k) this root_is kind name o h n q z few r (e ∙ ap (λ (m : ℕ). read_rows_t (rules_of l.rules) l.names (mended_body_t rows k) 1 m in_root (take (n - 0) (drop 0 (replicate 255 0)))) count) ∙ ap (read_to l) body_is

@@ -18,7 +18,7 @@ use codes::allowed_rows;
 use limits::{Limits, most_scopes};
 use mend_form::{Kept, kept_in, row_of};
 use read_row::{ReadState, WHOLE, root};
-use reader::{Progress, RowsRead, read_as, read_on};
+use reader::{BadRows, Progress, read_as, read_on};
 use rows::row::{Row, row_to};
 use wants::table;
 
@@ -60,7 +60,7 @@ fn read_rows(
     table: &[[u8; 41]; 67],
     allowed: &[[u8; 26]; 4],
     limits: Limits,
-) -> RowsRead
+) -> Result<(), BadRows>
     requires rows_in_bounds { (kept.rows ≤ length rows.now / 16) × (kept.rows + kept.scopes < 18446744073709551616) }
     requires right { Right table.now }
     requires allows { Allows allowed.now }
@@ -82,21 +82,21 @@ fn read_rows(
 }
 
 // Whether the rows, once mended, are a form within the limits.
-pub fn read_mended(rows: &[u8], limits: Limits) -> RowsRead
+pub fn read_mended(rows: &[u8], limits: Limits) -> Result<(), BadRows>
     ensures { result ≡ read_to limits (mended_body_t rows.now (kept_in rows.now)) }
 {
     let kept = kept_in(rows);
     let first = row_of(rows, kept, 0);
     let Row::Open { kind, name: _ } = row_to(&first, 0, limits.names) else {
-        return RowsRead::Broken(0);
+        return Err(BadRows::Broken(0));
     };
     if kind != 0 {
-        return RowsRead::Broken(0);
+        return Err(BadRows::Broken(0));
     }
     let scopes = most_scopes(limits);
     // No setting has none.
     if scopes == 0 {
-        return RowsRead::Deep(0);
+        return Err(BadRows::Deep(0));
     }
     let mut kinds = [0usize; 255];
     let next = table();

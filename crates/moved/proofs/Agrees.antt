@@ -1,5 +1,6 @@
 -- The run against the rules, for any settings: when the lists have no room, when the form is refused, and what the lists hold when it is
 -- accepted.
+use Rattle.std.specs.Prelude.{Option, Some, None}
 use mathlib.Core.Path.{◌≡◌, refl, ap, ap₂, sym, ◌∙◌, subst}
 use mathlib.Core.Bool.{Bool, true, false, ◌||◌, not}
 use mathlib.Core.Option.{Option, none, some}
@@ -31,11 +32,9 @@ use Rattle.moving.specs.MovedAnswer.{WithLists, MovedAnswer, listed, Rooms, too_
 use Rattle.moving.proofs.Laws.EntryRows.{same_answer}
 use Rattle.stores.specs.Zeros.{zero_from}
 use Rattle.form.specs.Header.{header_in, header_for}
-use Rattle.form.specs.declared.header.Header.TheVariants.{Rows, Wrong, Count}
+use Rattle.form.specs.declared.header.BadHeader.TheVariants.{Wrong, Count}
 use Rattle.resolver.specs.Meaning.{Numbers, numbers}
 use Rattle.resolver.specs.Meaning as resolved
-use Rattle.numbers.specs.declared.Entry.{Entry}
-use Rattle.numbers.specs.declared.Entry.TheVariants.{Moved, Apart, Nothing}
 use Rattle.moved_list.specs.Listing.{entries_from, entries_in, moved_of, apart_of, noted}
 use Rattle.moved_list.specs.Listing as listing
 use Rattle.moved_list.specs.declared.Listed.{Listed}
@@ -46,6 +45,8 @@ use Rattle.reading_laws.specs.OnBytes.{AllWithin, body}
 use Rattle.moved_laws.specs.Agrees.{lists_agree}
 use Rattle.moved.specs.Meaning.{ruled, held}
 use Rattle.moved.specs.Run.{rows_of, listed_t, before, fronts_t}
+use Rattle.numbers.specs.declared.Entry.TheVariants.{Moved, Apart}
+use Rattle.numbers.specs.declared.Entry.{Entry}
 
 -- ---- no refusal has the number 0
 
@@ -132,19 +133,19 @@ written_is l bs n h room =
     ∙ (ap (λ (x : List ℕ). x ++ drop n l) (sets-eq bs (replicate n 0) 0 here ∙ ap (λ (k : ℕ). bs ++ drop k (replicate n 0)) behind ∙ ap (λ (x : List ℕ). bs ++ x) (drop_zeros n (length bs)))
     ∙ append_assoc bs (replicate (n - length bs) 0) (drop n l))
 
-few_moved : (es : List Entry) → length (moved_of es) ≤ length es
+few_moved : (es : List (Option Entry)) → length (moved_of es) ≤ length es
 unfolding moved_of
 few_moved [] = omega arith
-few_moved (Moved z space meant gets ∷ es) = let h = few_moved es in omega (arith, h)
-few_moved (Apart z space number ∷ es) = let h = few_moved es in omega (arith, h)
-few_moved (Nothing ∷ es) = let h = few_moved es in omega (arith, h)
+few_moved (Some (Moved z space meant gets) ∷ es) = let h = few_moved es in omega (arith, h)
+few_moved (Some (Apart z space number) ∷ es) = let h = few_moved es in omega (arith, h)
+few_moved (None ∷ es) = let h = few_moved es in omega (arith, h)
 
-few_apart : (es : List Entry) → length (apart_of es) ≤ length es
+few_apart : (es : List (Option Entry)) → length (apart_of es) ≤ length es
 unfolding apart_of
 few_apart [] = omega arith
-few_apart (Moved z space meant gets ∷ es) = let h = few_apart es in omega (arith, h)
-few_apart (Apart z space number ∷ es) = let h = few_apart es in omega (arith, h)
-few_apart (Nothing ∷ es) = let h = few_apart es in omega (arith, h)
+few_apart (Some (Moved z space meant gets) ∷ es) = let h = few_apart es in omega (arith, h)
+few_apart (Some (Apart z space number) ∷ es) = let h = few_apart es in omega (arith, h)
+few_apart (None ∷ es) = let h = few_apart es in omega (arith, h)
 
 entries_length : (form out : List ℕ) (row left at : ℕ) → length (entries_from form out row left at) ≡ left
 unfolding entries_from
@@ -368,7 +369,7 @@ module _ (settings : List Setting) (input o m a : List ℕ) where
     unfolding resolve
     made = with_lists v T.before T.after T.next T.asked_for roomy T.forms T.reads T.resolves
 
-    entries : List Entry
+    entries : List (Option Entry)
     entries = entries_in (body v input) (body v o')
 
     agree : (moved_of entries ≡ l.moved) × (apart_of entries ≡ l.apart)

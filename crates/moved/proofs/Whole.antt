@@ -1,4 +1,5 @@
 -- The ways through the whole run, under the settings in force.
+use Rattle.std.specs.Prelude.{Result, Ok, Err, ℕ}
 use mathlib.Core.Path.{◌≡◌, refl, ap, sym, ◌∙◌, subst}
 use mathlib.Core.Bool.{Bool, true, false, ◌||◌}
 use mathlib.Core.Option.{none as nothing, some}
@@ -27,15 +28,14 @@ use Rattle.limits.specs.Held.{setting_in}
 use Rattle.form.specs.Header.{header_for, header_to}
 use Rattle.resolver.specs.Meaning.{Numbers, numbers}
 use Rattle.resolver.specs.Meaning as resolved
-use Rattle.resolver.specs.declared.run.Answer.{Answer as Resolved}
 use Rattle.resolver.proofs.Bytes.{all_bytes}
 use Rattle.moved_list.specs.declared.Listed.{Listed}
 use Rattle.reading_laws.specs.OnBytes
 use Rattle.reading_laws.specs.OnBytes.{base_within, body}
 use Rattle.moved.specs.Meaning.{meaning, ruled, held}
 use Rattle.moved.specs.Run.{rows_of, rows_asked, fronts_t}
-use Rattle.moved.specs.declared.run.Answer.TheVariants.{Listed as ListedAnswer, Refused}
 use Rattle.moved.proofs.Agrees.{Counted, answer_counted, asked, is_short_lem, Short, short, refuses, accepts}
+use Rattle.refusal.specs.declared.Refused.{Refused}
 
 -- a header of version 1 has eight bytes
 body_is : (input bs : List ℕ) (v : Setting) → setting_of base input ≡ some v → body v bs ≡ bs
@@ -63,7 +63,7 @@ module _ (form o m a : List ℕ) (rows : ℕ) (are : rows ≡ rows_asked 0 form)
       go true e = e
       go false e = e
 
-  no_room : (ltb (length m) (16 * rows) || ltb (length a) (12 * rows)) ≡ true → (meaning (Refused (record { number = 3; place = 0 })) ≡ ruled A) × (held o m a ≡ buffers base form (held o m a))
+  no_room : (ltb (length m) (16 * rows) || ltb (length a) (12 * rows)) ≡ true → (meaning (Err (record { number = 3; place = 0 })) ≡ ruled A) × (held o m a ≡ buffers base form (held o m a))
   no_room e =
       let S = short base form o m a (subst (λ (k : ℕ). is_short_lem base form o m a k ≡ true) (sym rows_asked_lem) e) in
       (ap ruled (sym S.answers), sym S.leaves)
@@ -73,7 +73,7 @@ module _ (form o m a : List ℕ) (rows : ℕ) (are : rows ≡ rows_asked 0 form)
     first_short : (ltb (length m) (16 * rows) || ltb (length a) (12 * rows)) ≡ true
     first_short = let t : ltb (length m) (16 * rows) ≡ true = omega tests in ap (λ (b : Bool). b || ltb (length a) (12 * rows)) t
 
-    pub first_answers : meaning (Refused (record { number = 3; place = 0 })) ≡ ruled A
+    pub first_answers : meaning (Err (record { number = 3; place = 0 })) ≡ ruled A
     first_answers = (no_room first_short).0
 
     pub first_leaves : held o m a ≡ buffers base form (held o m a)
@@ -83,19 +83,19 @@ module _ (form o m a : List ℕ) (rows : ℕ) (are : rows ≡ rows_asked 0 form)
     second_short : (ltb (length m) (16 * rows) || ltb (length a) (12 * rows)) ≡ true
     second_short = let t : ltb (length a) (12 * rows) ≡ true = omega tests in ap (λ (b : Bool). ltb (length m) (16 * rows) || b) t ∙ or-true (ltb (length m) (16 * rows))
 
-    pub second_answers : meaning (Refused (record { number = 3; place = 0 })) ≡ ruled A
+    pub second_answers : meaning (Err (record { number = 3; place = 0 })) ≡ ruled A
     second_answers = (no_room second_short).0
 
     pub second_leaves : held o m a ≡ buffers base form (held o m a)
     second_leaves = (no_room second_short).1
 
-  module _ (h : 16 * rows ≤ length m) (k : 12 * rows ≤ length a) (x : Resolved) (o' : List ℕ) (said : resolved.meaning x ≡ resolved.ruled (answer base form (length o))) (left : o' ≡ output base form o)
+  module _ (h : 16 * rows ≤ length m) (k : 12 * rows ≤ length a) (x : Result ℕ Refused) (o' : List ℕ) (said : resolved.meaning x ≡ resolved.ruled (answer base form (length o))) (left : o' ≡ output base form o)
       (r : Refusal) (told : numbers r.number r.place ≡ (resolved.meaning x).plain) where
     roomy : is_short_lem base form o m a (asked base form) ≡ false
     roomy = subst (λ (n : ℕ). is_short_lem base form o m a n ≡ false) (sym rows_asked_lem) (let p : ltb (length m) (16 * rows) ≡ false = omega tests in let q : ltb (length a) (12 * rows) ≡ false = omega tests in rw (p, q))
 
     -- refused
-    pub refused_answers : (r.number ≡ 0 → ⊥) → meaning (Refused r) ≡ ruled A
+    pub refused_answers : (r.number ≡ 0 → ⊥) → meaning (Err r) ≡ ruled A
     refused_answers n = (refuses base form o m a roomy r.number r.place o' (told ∙ ap (λ (x : resolved.Said). x.plain) said) left n).0
 
     pub refused_leaves : (r.number ≡ 0 → ⊥) → held o' m a ≡ buffers base form (held o m a)
@@ -106,7 +106,7 @@ module _ (form o m a : List ℕ) (rows : ℕ) (are : rows ≡ rows_asked 0 form)
       same_fronts : {f g : List ℕ} {n : ℕ} → output base form o ≡ o' → form ≡ f → output base form o ≡ g → rows ≡ n → fronts_t form o' m a rows ≡ fronts_t f g m a n
       same_fronts e₁ e₂ e₃ e₄ = rw (← e₁, ← e₂, ← e₃, ← e₄)
 
-      pub lists_written : (meaning (ListedAnswer l) ≡ ruled A) × (held o' m' a' ≡ buffers base form (held o m a))
+      pub lists_written : (meaning (Ok l) ≡ ruled A) × (held o' m' a' ≡ buffers base form (held o m a))
       lists_written =
           let Y = is_accepted (answer base form (length o)) r.number r.place (answer_counted base form (length o)) (told ∙ ap (λ (x : resolved.Said). x.plain) said) n in
           let bs = all_bytes form all in

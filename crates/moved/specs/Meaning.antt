@@ -1,15 +1,15 @@
 -- Document 01's number and place for each answer, and on acceptance how many numbers are on the lists.
-use Rattle.std.specs.Prelude.{List, ℕ, ◌+◌, ◌*◌}
+use Rattle.std.specs.Prelude.{List, ℕ, ◌+◌, ◌*◌, Result, Ok, Err}
 use Rattle.rules.specs.Answer as rules
 use Rattle.moving.specs.MovedAnswer.{MovedAnswer, counts, Buffers}
 use Rattle.resolver.specs.Meaning.{Numbers, numbers}
-use Rattle.moved.specs.declared.run.Answer.{Answer}
-use Rattle.moved.specs.declared.run.Answer.TheVariants.{Listed, Refused}
+use Rattle.moved_list.specs.declared.Listed.{Listed}
+use Rattle.refusal.specs.declared.Refusal.{Refusal}
 
 -- of the code
-abbrev pub meaning : Answer → Numbers
-meaning (Listed n) = numbers 0 (65536 * n.apart + n.moved)
-meaning (Refused refusal) = numbers refusal.number refusal.place
+abbrev pub meaning : Result Listed Refusal → Numbers
+meaning (Ok n) = numbers 0 (65536 * n.apart + n.moved)
+meaning (Err refusal) = numbers refusal.number refusal.place
 
 -- of the rules
 abbrev pub ruled : MovedAnswer → Numbers

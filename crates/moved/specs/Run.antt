@@ -1,18 +1,18 @@
 -- The run as the code takes it.
-use Rattle.std.specs.Prelude.{List, ◌++◌, ℕ, ◌*◌, take, drop}
+use Rattle.std.specs.Prelude.{List, ◌++◌, ℕ, ◌*◌, take, drop, Result, Ok, Err}
 use Rattle.kit.specs.Out.{Out, ◌&◌}
 use Rattle.stores.specs.Zeros.{zero_from}
 use Rattle.limits.specs.Held.{limits_of, setting}
 use Rattle.form.specs.Header.{header_to}
-use Rattle.form.specs.declared.header.Header.{Header}
-use Rattle.form.specs.declared.header.Header.TheVariants.{Rows, Wrong, Count}
+use Rattle.form.specs.declared.header.BadHeader.TheVariants.{Wrong, Count}
 use Rattle.moved_list.specs.Listing.{entries_in, noted, none}
 use Rattle.moved_list.specs.declared.Listed.{Listed}
+use Rattle.form.specs.declared.header.BadHeader.{BadHeader}
 
-abbrev pub rows_of : Header → ℕ
-rows_of (Rows rows) = rows
-rows_of Wrong = 0
-rows_of Count = 0
+abbrev pub rows_of : Result ℕ BadHeader → ℕ
+rows_of (Ok rows) = rows
+rows_of (Err Wrong) = 0
+rows_of (Err Count) = 0
 
 -- how many rows a form has whose header and length are right under the setting at place i, 0 for any other
 unfoldable pub rows_asked : (i : ℕ) → List ℕ → ℕ

@@ -8,11 +8,11 @@ ghost use Rattle.resolver.specs.Meaning as resolved;
 ghost use Rattle.moved.specs.Meaning.{meaning, ruled, held};
 ghost use Rattle.moved.specs.Run.{rows_asked, listed_t, fronts_t};
 
-use form::header::{Header, header_to};
+use form::header::{BadHeader, header_to};
 use limits::of_input;
 use moved_list::{Listed, list_numbers};
-use refusal::{ROOM, Refusal};
-use resolver::run::{Answer as Resolved, resolve};
+use refusal::{ROOM, Refusal, Refused};
+use resolver::run::resolve;
 use stores::zero_from;
 
 // The bytes of an entry of each list.
@@ -20,34 +20,27 @@ const MOVED: usize = 16;
 
 const APART: usize = 12;
 
-#[derive(Clone, Copy)]
-pub enum Answer {
-    // How many numbers are on each of the two lists.
-    Listed(Listed),
-    Refused(Refusal),
-}
-
 // How many rows a form has whose header and length are right under the setting at place i, 0 for any other.
 pub fn rows_asked(form: &[u8], i: usize) -> usize
     ensures { (result ≡ rows_asked i form.now) × (result ≤ 16383) }
 {
     match header_to(form, of_input(i)) {
-        Header::Rows(rows) => rows,
-        Header::Wrong => 0,
-        Header::Count => 0,
+        Ok(rows) => rows,
+        Err(BadHeader::Wrong) => 0,
+        Err(BadHeader::Count) => 0,
     }
 }
 
 // What the resolver answers, as a refusal: its number is 0 if there is none.
-pub fn refusal_in(answer: Resolved) -> Refusal
+pub fn refusal_in(answer: Result<u32, Refused>) -> Refusal
     ensures { numbers result.number result.place ≡ (resolved.meaning answer).plain }
 {
     match answer {
-        Resolved::Accepted(rows) => Refusal {
+        Ok(rows) => Refusal {
             number: 0,
             place: rows,
         },
-        Resolved::Refused(refusal, _) => Refusal {
+        Err(Refused { refusal, .. }) => Refusal {
             number: refusal.number,
             place: refusal.place,
         },
@@ -81,26 +74,31 @@ pub fn fill_fronts(
 
 // Resolves the form into `out`, and lists the written numbers that mean another declaration there (`moved`) and those that meant none
 // (`apart`). A refusal leaves both lists as they were.
-pub fn moved(form: &[u8], out: &mut [u8], moved: &mut [u8], apart: &mut [u8]) -> Answer
+pub fn moved(
+    form: &[u8],
+    out: &mut [u8],
+    moved: &mut [u8],
+    apart: &mut [u8],
+) -> Result<Listed, Refusal>
     ensures result_value { meaning result ≡ ruled (moved_answer base form.now (rooms_of (held out.old moved.old apart.old))) }
     ensures apart_after { held out.new moved.new apart.new ≡ buffers base form.now (held out.old moved.old apart.old) }
 {
     let rows = rows_asked(form, 0);
     if moved.len() < MOVED * rows {
-        return Answer::Refused(Refusal {
+        return Err(Refusal {
             number: ROOM,
             place: 0,
         });
     }
     if apart.len() < APART * rows {
-        return Answer::Refused(Refusal {
+        return Err(Refusal {
             number: ROOM,
             place: 0,
         });
     }
     let refusal = refusal_in(resolve(form, out));
     if refusal.number != 0 {
-        return Answer::Refused(refusal);
+        return Err(refusal);
     }
-    Answer::Listed(fill_fronts(form, out, moved, apart, rows))
+    Ok(fill_fronts(form, out, moved, apart, rows))
 }

@@ -18,7 +18,6 @@ use Rattle.moving.specs.Moved.{places_in, places_of, places, MovedNumber, NoItem
 use Rattle.moving.proofs.Laws.RowOrder.{all_fields}
 use Rattle.row_parts.specs.Parts.{rows_in}
 use Rattle.scopes.specs.Scopes.{scope_of, scope_above}
-use Rattle.numbers.specs.declared.Entry.{Entry}
 use Rattle.moved_list.specs.Listing.{behind_next, entries_from, entries_in, moved_of, apart_of}
 use Rattle.reading_laws.specs.Stand.{Is, At, code_part, behind_length, at_left, at_right}
 use Rattle.reading_laws.specs.Even.{up_open}

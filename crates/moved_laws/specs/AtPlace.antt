@@ -1,5 +1,5 @@
 -- What is listed of an operand's row is what the rules list of its place.
-use Rattle.std.specs.Prelude.{◌≡◌, Bool, true, false, ◌&&◌, ◌||◌, not, ℕ, zero, suc, ◌+◌, eqb, leb, ltb, length}
+use Rattle.std.specs.Prelude.{◌≡◌, Bool, true, false, ◌&&◌, ◌||◌, not, ℕ, zero, suc, ◌+◌, eqb, leb, ltb, length, Option as CodeOption, Some, None}
 use Rattle.std.proofs.Math.Path.{refl, ap, sym, subst}
 use Rattle.std.proofs.Common.{◌∙◌}
 use Rattle.std.proofs.Math.Option.{Option, none, some, map}
@@ -30,14 +30,9 @@ use Rattle.row_parts.specs.Parts.{code_at, b_at, e_at, x_at, y_at, z_at}
 use Rattle.scopes.specs.Scopes.{scope_of, find_in, scope_outward}
 use Rattle.readings.specs.Meaning.{space_sought, outer_wanted}
 use Rattle.scopes.specs.declared.Key.TheVariants.{Number as Numbered}
-use Rattle.scopes.specs.declared.Found.TheVariants.{At as FoundAt, Nothing as NotFound}
 use Rattle.scopes.specs.declared.Wanted.{Wanted}
 use Rattle.scopes.specs.declared.Wanted.TheVariants.{Out, Named}
-use Rattle.scopes.specs.declared.Outer.{Outer as Reached}
-use Rattle.scopes.specs.declared.Outer.TheVariants.{At as OuterAt, Nowhere}
 use Rattle.numbers.specs.declared.Number.{Number}
-use Rattle.numbers.specs.declared.Entry.{Entry}
-use Rattle.numbers.specs.declared.Entry.TheVariants.{Moved as MovedEntry, Apart, Nothing}
 use Rattle.numbers.specs.Entries.{is_written, numbered, number_at, scope_wanted, is_pushed, gets, gets_entry, gets_in, output_entry, meant_by, counted_entry, counted_in as counted_on, entry_at}
 use Rattle.moved_list.specs.Listing.{moved_number, no_item, moved_of, apart_of}
 use Rattle.reading_laws.specs.Stand.{Is, code_part, b_part, e_part, x_part, y_part, z_part}
@@ -48,36 +43,39 @@ use Rattle.reading_laws.specs.Operands.{Used}
 use Rattle.reading_laws.specs.Meant.{Rows, use_there}
 use Rattle.moved_laws.specs.InScope.{floors_aliases, none_found, pushed_moves}
 use Rattle.moved_laws.specs.Named.{NamesAre, names_at, named_found, named_nowhere}
+use Rattle.numbers.specs.declared.Entry.TheVariants.{Moved as MovedEntry, Apart}
+use Rattle.numbers.specs.declared.Entry.{Entry}
+use Rattle.scopes.specs.declared.Outer.{Outer}
 
 -- ---- an entry says what the rules list of a place
 
-pub record Says (e : Entry) (m : Option MovedNumber) (a : Option NoItem) : Type 0 where
+pub record Says (e : CodeOption Entry) (m : Option MovedNumber) (a : Option NoItem) : Type 0 where
   pub first : moved_of (e ∷ []) ≡ if_any m []
   pub second : apart_of (e ∷ []) ≡ if_any a []
 
-pub says_nothing : Says Nothing none none
+pub says_nothing : Says None none none
 unfolding moved_of apart_of if_any
 says_nothing = record { first = refl; second = refl }
 
-says_apart : (z space n : ℕ) → Says (Apart z space n) none (some (no_item z space n))
+says_apart : (z space n : ℕ) → Says (Some (Apart z space n)) none (some (no_item z space n))
 unfolding moved_of apart_of if_any
 says_apart z space n = record { first = refl; second = refl }
 
-says_moved : (z space meant gets : ℕ) → Says (MovedEntry z space meant gets) (some (moved_number z space meant gets)) none
+says_moved : (z space meant gets : ℕ) → Says (Some (MovedEntry z space meant gets)) (some (moved_number z space meant gets)) none
 unfolding moved_of apart_of if_any
 says_moved z space meant gets = record { first = refl; second = refl }
 
 -- moved if it is pushed
-decided : (m : MovedNumber) {o : Option MovedNumber} {a : Option NoItem} (b : Bool) → o ≡ only (not (not b)) m → a ≡ none → Says (pick b (MovedEntry m.z m.space m.meant m.gets) Nothing) o a
+decided : (m : MovedNumber) {o : Option MovedNumber} {a : Option NoItem} (b : Bool) → o ≡ only (not (not b)) m → a ≡ none → Says (pick b (Some (MovedEntry m.z m.space m.meant m.gets)) None) o a
 unfolding pick only
 decided m true e₁ e₂ = rw (e₁, e₂) (says_moved m.z m.space m.meant m.gets)
 decided m false e₁ e₂ = rw (e₁, e₂) says_nothing
 
 -- ---- a scope this many scopes out
 
-unfoldable scope_for : Option Floor → (d : ℕ) → Reached
-scope_for none d = Nowhere
-scope_for (some f) d = OuterAt f.row d
+unfoldable scope_for : Option Floor → (d : ℕ) → CodeOption Outer
+scope_for none d = None
+scope_for (some f) d = Some (record { scope = f.row; out = d })
 
 counts_out : (form : List ℕ) (fs : List Floor) (d : ℕ) → Chain form fs → scope_outward form (first_row fs) (Out d) ≡ scope_for (get_elem? fs d) d
 unfolding scope_for
@@ -87,7 +85,7 @@ counts_out form fs d C = scope_outward_lem form (Out d) fs C ∙ go (get_elem? f
     go none e = let same : d ≡ 0 + d = omega arith in ap (λ (k : ℕ). first_wanted form (Out k) 0 fs) same ∙ count_past form fs d 0 e
     go (some f) e =
         let same : d ≡ 0 + d = omega arith in
-        ap (λ (k : ℕ). first_wanted form (Out k) 0 fs) same ∙ (count_out form fs d 0 f e ∙ ap (λ (k : ℕ). OuterAt f.row k) (sym same))
+        ap (λ (k : ℕ). first_wanted form (Out k) 0 fs) same ∙ (count_out form fs d 0 f e ∙ ap (λ (k : ℕ). Some (record { scope = f.row; out = k })) (sym same))
 
 -- ---- the number of a row
 
@@ -95,11 +93,11 @@ abbrev number_of : Written → Number
 number_of w = numbered w.z w.space w.number
 
 module _ (form : List ℕ) (r : ℕ) where
-  not_written : (e : ℕ) (c : ℕ) → code_at form r ≡ c → e_at form r ≡ e → ((eqb c 3 && eqb e 0) || (eqb c 5 && ltb e 2)) ≡ false → (out : List ℕ) (at : ℕ) → entry_at form r out at ≡ Nothing
+  not_written : (e : ℕ) (c : ℕ) → code_at form r ≡ c → e_at form r ≡ e → ((eqb c 3 && eqb e 0) || (eqb c 5 && ltb e 2)) ≡ false → (out : List ℕ) (at : ℕ) → entry_at form r out at ≡ None
   unfolding entry_at is_written
   not_written e c hc he no_number out at = sym (no! _ (rw (hc, he) no_number) refl)
 
-  entry_of : (out : List ℕ) (at s : ℕ) (wanted : Wanted) (o : Reached) (n : Number) → is_written form r ≡ true → scope_of form r ≡ s → scope_wanted form r ≡ wanted → number_at form r ≡ n → scope_outward form s wanted ≡ o
+  entry_of : (out : List ℕ) (at s : ℕ) (wanted : Wanted) (o : CodeOption Outer) (n : Number) → is_written form r ≡ true → scope_of form r ≡ s → scope_wanted form r ≡ wanted → number_at form r ≡ n → scope_outward form s wanted ≡ o
       → entry_at form r out at ≡ counted_on form o n out at
   unfolding entry_at
   entry_of out at s wanted o n is around w number reached = sym (yes! _ is refl) ∙ rw (around, w, number, reached)
@@ -139,11 +137,11 @@ module _ (names : List ℕ) (space name n z : ℕ) where
   unfolding written ◌then◌
   a_name d e = rw e
 
-nothing_there : (form : List ℕ) (n : Number) (out : List ℕ) (at : ℕ) → counted_on form Nowhere n out at ≡ Nothing
+nothing_there : (form : List ℕ) (n : Number) (out : List ℕ) (at : ℕ) → counted_on form None n out at ≡ None
 unfolding counted_on
 nothing_there form n out at = refl
 
-found_there : (fs : List Floor) (d : ℕ) (f : Floor) → get_elem? fs d ≡ some f → OuterAt f.row (0 + d) ≡ scope_for (get_elem? fs d) d
+found_there : (fs : List Floor) (d : ℕ) (f : Floor) → get_elem? fs d ≡ some f → Some (record { scope = f.row; out = 0 + d }) ≡ scope_for (get_elem? fs d) d
 unfolding scope_for
 found_there fs d f e = let same : 0 + d ≡ d = omega arith in rw (e, same)
 
@@ -232,7 +230,7 @@ module _ (form out : List ℕ) (before : Scope) (run : Scope × ℕ) (rules : Ru
         let I = item w f x e q in
         let here : get_elem? gs w.out ≡ some I.g = sym (counted_after w) ∙ I.in_after in
         let S = stands_at out gs w.out I.g chain_after here in
-        let there : scope_outward out (scope_of out at) (Out w.out) ≡ OuterAt I.g.row w.out = ap (λ (s : ℕ). scope_outward out s (Out w.out)) in_scope_lem ∙ (counts_out out gs w.out chain_after ∙ ap (λ (o : Option Floor). scope_for o w.out) here) in
+        let there : scope_outward out (scope_of out at) (Out w.out) ≡ Some (record { scope = I.g.row; out = w.out }) = ap (λ (s : ℕ). scope_outward out s (Out w.out)) in_scope_lem ∙ (counts_out out gs w.out chain_after ∙ ap (λ (o : Option Floor). scope_for o w.out) here) in
         let found = counted_in_lem out I.g S.0 w.space w.number I.y S.1 I.is in
         let moving = pushed_moves out f I.g S.0 S.1 I.same (originals_in w f e) (aliases_in w I.g here) w.z w.space w.number x I.y q I.is in
         let lists = an_item before after p w number f e I.g x I.y I.in_after q I.is in
@@ -241,7 +239,7 @@ module _ (form out : List ℕ) (before : Scope) (run : Scope × ℕ) (rules : Ru
     -- Whatever it counts to.
     says_number : entry_at form r out at ≡ counted_on form (scope_for (get_elem? fs w.out) w.out) (number_of w) out at → Says (entry_at form r out at) (moved_at before after p) (apart_at before p)
     unfolding counted_on counted_entry meant_by scope_for
-    says_number e = subst (λ (x : Entry). Says x (moved_at before after p) (apart_at before p)) (sym e) (go (get_elem? fs w.out) refl)
+    says_number e = subst (λ (x : CodeOption Entry). Says x (moved_at before after p) (apart_at before p)) (sym e) (go (get_elem? fs w.out) refl)
       where
         counts : (f : Floor) → get_elem? fs w.out ≡ some f → (o : Option Located) → counted_row f w.space w.number ≡ o
             → Says (meant_by out at w.out (number_of w) (find_in form f.row w.space (Numbered w.number))) (moved_at before after p) (apart_at before p)
@@ -271,7 +269,7 @@ module _ (form out : List ℕ) (before : Scope) (run : Scope × ℕ) (rules : Ru
   written_is = rw (U.used_as, known_names.1)
 
   -- its row holds no number
-  none_listed : written names U.operand ≡ none → entry_at form r out at ≡ Nothing → Says (entry_at form r out at) (moved_at before after p) (apart_at before p)
+  none_listed : written names U.operand ≡ none → entry_at form r out at ≡ None → Says (entry_at form r out at) (moved_at before after p) (apart_at before p)
   none_listed e q = let lists = not_listed before after p (written_is ∙ e) in rw (q, lists.0, lists.1) says_nothing
 
   one_listed : (w : Written) → written names U.operand ≡ some w → is_written form r ≡ true → number_at form r ≡ number_of w
@@ -349,7 +347,7 @@ module _ (form out : List ℕ) (before : Scope) (run : Scope × ℕ) (rules : Ru
       by_name_lem : (o : Option ℕ) → nearest_named names name ≡ o → Says (entry_at form r out at) (moved_at before after p) (apart_at before p)
       by_name_lem none e =
           none_listed (ap (written names) q ∙ no_name names space name n z e)
-          (entry_of form r out at U.f.row (scope_wanted form r) Nowhere _ (outer_is_written space n z (Id name) is) U.around refl refl (there ∙ named_nowhere form fs names known_names.2 name 0 e) ∙ nothing_there form _ out at)
+          (entry_of form r out at U.f.row (scope_wanted form r) None _ (outer_is_written space n z (Id name) is) U.around refl refl (there ∙ named_nowhere form fs names known_names.2 name 0 e) ∙ nothing_there form _ out at)
       by_name_lem (some d) e =
           let F = named_found form fs names known_names.2 name 0 d e in
           one_listed (record { z = z; out = d; space = space; number = n }) (ap (written names) q ∙ a_name names space name n z d e) (outer_is_written space n z (Id name) is) (outer_number space n z (Id name) is)

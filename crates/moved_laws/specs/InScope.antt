@@ -1,5 +1,5 @@
 -- A number in a scope of the input and in the same scope of the output, on the rows of both.
-use Rattle.std.specs.Prelude.{◌≡◌, refl, Bool, true, false, ◌||◌, not, ℕ, zero, suc, ◌+◌, leb}
+use Rattle.std.specs.Prelude.{◌≡◌, refl, Bool, true, false, ◌||◌, not, ℕ, zero, suc, ◌+◌, leb, None}
 use Rattle.std.proofs.Math.Path.{ap}
 use Rattle.std.proofs.Common.{sym, ◌∙◌, subst}
 use Rattle.std.proofs.Math.Option
@@ -22,7 +22,6 @@ use Rattle.moving.specs.Moved.{same_place}
 use Rattle.moving.proofs.Laws.Lists.{Same, NoneInFields}
 use Rattle.scopes.specs.Scopes.{find_in}
 use Rattle.scopes.specs.declared.Key.TheVariants.{Number, Inserted}
-use Rattle.scopes.specs.declared.Found.TheVariants.{At as FoundAt, Nothing}
 use Rattle.numbers.specs.Entries.{numbered, reaches, is_pushed}
 use Rattle.reading_laws.specs.Find.{search, find_in_lem}
 use Rattle.reading_laws.specs.Floors.{Stands}
@@ -78,7 +77,7 @@ floors_aliases (scope kind name gs) way fs a e =
 
 module _ (form : List ℕ) (f : Floor) (beyond : ℕ) (S : Stands form f beyond) (space n : ℕ) where
   -- a number without an item
-  pub none_found : counted_row f space n ≡ none → find_in form f.row space (Number n) ≡ Nothing
+  pub none_found : counted_row f space n ≡ none → find_in form f.row space (Number n) ≡ None
   unfolding counted_row
   none_found e =
       let same : 0 + n ≡ n = omega arith in

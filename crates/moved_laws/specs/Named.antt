@@ -1,5 +1,5 @@
 -- The names of the scopes around a place stand in their OPEN rows: going outward by a name finds the scope that the rules find.
-use Rattle.std.specs.Prelude.{◌≡◌, Bool, true, false}
+use Rattle.std.specs.Prelude.{◌≡◌, Bool, true, false, Some, None}
 use Rattle.std.proofs.Math.Path.{refl, ap, subst}
 use Rattle.std.proofs.Common.{sym, ◌∙◌, arith}
 use Rattle.std.proofs.Math.Option.{Option, none, some, map}
@@ -20,7 +20,6 @@ use Rattle.places.specs.Counting.{originals_from_lem, elem_map}
 use Rattle.moving.specs.Moved.{held_scope, names_to, nearest_named}
 use Rattle.row_parts.specs.Parts.{code_at, x_at, rows_in}
 use Rattle.scopes.specs.declared.Wanted.TheVariants.{Named}
-use Rattle.scopes.specs.declared.Outer.TheVariants.{At as OuterAt, Nowhere}
 use Rattle.reading_laws.specs.Stand.{At, x_part, behind, behind_length, at_left, at_right}
 use Rattle.reading_laws.specs.Floors.{Stands, first_row, FieldAt, field_of_lem, held_stands}
 use Rattle.reading_laws.specs.Outward.{first_wanted}
@@ -89,7 +88,7 @@ module _ (form : List ℕ) where
 
   -- ---- outward by a name
 
-  pub named_found : (fs : List Floor) (names : List ℕ) → NamesAre form fs names → (name out d : ℕ) → nearest_named names name ≡ some d → (f : Floor) × (get_elem? fs d ≡ some f) × (first_wanted form (Named name) out fs ≡ OuterAt f.row (out + d))
+  pub named_found : (fs : List Floor) (names : List ℕ) → NamesAre form fs names → (name out d : ℕ) → nearest_named names name ≡ some d → (f : Floor) × (get_elem? fs d ≡ some f) × (first_wanted form (Named name) out fs ≡ Some (record { scope = f.row; out = out + d }))
   unfolding nearest_named first_wanted when◌then◌else◌
   named_found [] [] N name out d e = no_option d e
   named_found [] (m ∷ ms) N name out d e = absurd N
@@ -104,20 +103,20 @@ module _ (form : List ℕ) where
       suc_back (some k) d e = (k, refl, some_same (suc k) d e)
 
       go : (b : Bool) → eqb m name ≡ b → (d : ℕ) → (when b then some 0 else map suc (nearest_named ms name)) ≡ some d
-          → ((k : ℕ) → nearest_named ms name ≡ some k → (g : Floor) × (get_elem? fs k ≡ some g) × (first_wanted form (Named name) (out + 1) fs ≡ OuterAt g.row (out + 1 + k)))
-          → (g : Floor) × (get_elem? (f ∷ fs) d ≡ some g) × (first_wanted form (Named name) out (f ∷ fs) ≡ OuterAt g.row (out + d))
+          → ((k : ℕ) → nearest_named ms name ≡ some k → (g : Floor) × (get_elem? fs k ≡ some g) × (first_wanted form (Named name) (out + 1) fs ≡ Some (record { scope = g.row; out = out + 1 + k })))
+          → (g : Floor) × (get_elem? (f ∷ fs) d ≡ some g) × (first_wanted form (Named name) out (f ∷ fs) ≡ Some (record { scope = g.row; out = out + d }))
       go true q d e below =
           let first : 0 ≡ d = some_same 0 d e in
           let same : out ≡ out + d = omega (arith, first) in
-          (f, ap (get_elem? (f ∷ fs)) (sym first), sym (yes! _ (here ∙ q) refl) ∙ ap (λ (k : ℕ). OuterAt f.row k) same)
+          (f, ap (get_elem? (f ∷ fs)) (sym first), sym (yes! _ (here ∙ q) refl) ∙ ap (λ (k : ℕ). Some (record { scope = f.row; out = k })) same)
       go false q d e below =
           let B = suc_back (nearest_named ms name) d e in
           let I = below B.0 B.1 in
           let next = B.2 in
           let on : out + 1 + B.0 ≡ out + d = omega (arith, next) in
-          (I.0, ap (get_elem? (f ∷ fs)) (sym next) ∙ I.1, sym (no! _ (here ∙ q) refl) ∙ (I.2 ∙ ap (λ (k : ℕ). OuterAt I.0.row k) on))
+          (I.0, ap (get_elem? (f ∷ fs)) (sym next) ∙ I.1, sym (no! _ (here ∙ q) refl) ∙ (I.2 ∙ ap (λ (k : ℕ). Some (record { scope = I.0.row; out = k })) on))
 
-  pub named_nowhere : (fs : List Floor) (names : List ℕ) → NamesAre form fs names → (name out : ℕ) → nearest_named names name ≡ none → first_wanted form (Named name) out fs ≡ Nowhere
+  pub named_nowhere : (fs : List Floor) (names : List ℕ) → NamesAre form fs names → (name out : ℕ) → nearest_named names name ≡ none → first_wanted form (Named name) out fs ≡ None
   unfolding nearest_named first_wanted when◌then◌else◌
   named_nowhere [] [] N name out e = refl
   named_nowhere [] (m ∷ ms) N name out e = absurd N
@@ -128,7 +127,7 @@ module _ (form : List ℕ) where
       none_back none e = refl
       none_back (some k) e = no_option (suc k) (sym e)
 
-      go : (b : Bool) → eqb m name ≡ b → (when b then some 0 else map suc (nearest_named ms name)) ≡ none → (nearest_named ms name ≡ none → first_wanted form (Named name) (out + 1) fs ≡ Nowhere)
-          → first_wanted form (Named name) out (f ∷ fs) ≡ Nowhere
+      go : (b : Bool) → eqb m name ≡ b → (when b then some 0 else map suc (nearest_named ms name)) ≡ none → (nearest_named ms name ≡ none → first_wanted form (Named name) (out + 1) fs ≡ None)
+          → first_wanted form (Named name) out (f ∷ fs) ≡ None
       go true q e below = no_option 0 (sym e)
       go false q e below = sym (no! _ (ap (λ (x : ℕ). eqb x name) N.0 ∙ q) refl) ∙ below (none_back (nearest_named ms name) e)

@@ -1,5 +1,5 @@
 -- In a scope: a number moves exactly if an inserted declaration of its space has it or a lower one.
-use Rattle.std.specs.Prelude.{◌≡◌, Bool, ◌&&◌, ◌||◌, not, ◌⊎◌, eqb, leb}
+use Rattle.std.specs.Prelude.{◌≡◌, Bool, ◌&&◌, ◌||◌, not, ◌⊎◌, eqb, leb, Some}
 use Rattle.std.proofs.Math.Path.{refl, ap}
 use Rattle.std.proofs.Common.{sym, ◌∙◌, subst, inl, inr, arith}
 use Rattle.std.proofs.Math.Bool.{true, false}
@@ -22,8 +22,6 @@ use Rattle.places.specs.Counting.{standing}
 use Rattle.moving.specs.Moved.{same_place}
 use Rattle.moving.proofs.Laws.Lists.{Kin, nothing_left, stays, comes, NoneInFields, place_same}
 use Rattle.scopes.specs.declared.Key.TheVariants.{Inserted}
-use Rattle.scopes.specs.declared.Found.{Found}
-use Rattle.scopes.specs.declared.Found.TheVariants.{At as FoundAt, Nothing}
 use Rattle.numbers.specs.Entries.{reaches}
 use Rattle.reading_laws.specs.Find.{search}
 
@@ -82,7 +80,7 @@ module _ (space : ℕ) where
   too_high (x ∷ xs) start n h = go (eqb x.standing.decl.space space) (is_fresh x.standing.decl.name) (too_high xs start n h) (too_high xs (start + 1) n (omega arith))
     where
       go : (b c : Bool) → reaches (search space Inserted start xs) n ≡ false → reaches (search space Inserted (start + 1) xs) n ≡ false
-          → reaches (pick (b && c) (FoundAt x.row start) (search space Inserted (pick b (start + 1) start) xs)) n ≡ false
+          → reaches (pick (b && c) (Some (record { row = x.row; number = start })) (search space Inserted (pick b (start + 1) start) xs)) n ≡ false
       go true true e₁ e₂ = omega (tests, h)
       go true false e₁ e₂ = e₂
       go false c e₁ e₂ = e₁
@@ -109,7 +107,7 @@ module _ (space : ℕ) where
 
       go : (b c : Bool) → is_fresh x.standing.decl.name ≡ c → (n : ℕ) → ((from m : ℕ) → reaches (search space Inserted from xs) (from + m) ≡ fresh_to rest m)
           → reaches (search space Inserted (start + 1) xs) start ≡ false
-          → reaches (pick (b && c) (FoundAt x.row start) (search space Inserted (pick b (start + 1) start) xs)) (start + n)
+          → reaches (pick (b && c) (Some (record { row = x.row; number = start })) (search space Inserted (pick b (start + 1) start) xs)) (start + n)
           ≡ fresh_to (map standing (when b then x ∷ located_of xs space else located_of xs space)) n
       go true true e n below none_here = let low : leb start (start + n) ≡ true = omega tests in low ∙ sym (found n e)
       go true false e n below none_here = past n e below none_here

@@ -1,5 +1,5 @@
 -- The entries of rows that stand one behind another: of a field's own rows, of its operands.
-use Rattle.std.specs.Prelude.{◌≡◌, refl, Bool, true, false, ◌&&◌, ◌||◌, eqb, ltb, take}
+use Rattle.std.specs.Prelude.{◌≡◌, refl, Bool, true, false, ◌&&◌, ◌||◌, eqb, ltb, take, Option as CodeOption, None}
 use Rattle.std.proofs.Math.Path.{ap, sym}
 use Rattle.std.proofs.Common.{ap₂, ◌∙◌, subst, add-one, suc-add, length-append}
 use Rattle.std.proofs.Math.Option.{Option, none, some}
@@ -16,14 +16,14 @@ use Rattle.rules.specs.Laws.Results.{some_same, no_option}
 use Rattle.places.proofs.RowAt.{operand_row_of}
 use Rattle.moving.specs.Moved.{MovedNumber, NoItem, if_any}
 use Rattle.row_parts.specs.Parts.{code_at, e_at, rows_in}
-use Rattle.numbers.specs.declared.Entry.{Entry}
-use Rattle.numbers.specs.declared.Entry.TheVariants.{Moved, Apart, Nothing}
 use Rattle.numbers.specs.Entries.{is_written, entry_at}
 use Rattle.moved_list.specs.Listing.{behind_from, behind_next, follow, entries_from, moved_of, apart_of}
 use Rattle.moved_list.proofs.Ways.{moved_append, apart_append}
 use Rattle.reading_laws.specs.Stand.{Is, At, code_part, behind, behind_length, at_left, at_right}
 use Rattle.reading_laws.specs.Even.{code_of, Flat}
 use Rattle.moved_laws.specs.AtPlace.{Says, says_nothing}
+use Rattle.numbers.specs.declared.Entry.TheVariants.{Moved, Apart}
+use Rattle.numbers.specs.declared.Entry.{Entry}
 
 -- ---- rows without numbers
 
@@ -41,7 +41,7 @@ pub record Quiet (r : Row) : Type 0 where
 module _ (form out : List ℕ) where
   -- the entries of n rows from `row` on, where the output's row goes from `at` to `to`
   pub record Span (row n at : ℕ) (ms : List MovedNumber) (ns : List NoItem) (to : ℕ) : Type 0 where
-    pub entries : List Entry
+    pub entries : List (CodeOption Entry)
     pub are : (left : ℕ) → entries_from form out row (n + left) at ≡ entries ++ entries_from form out (row + n) left to
     pub first : moved_of entries ≡ ms
     pub second : apart_of entries ≡ ns
@@ -64,7 +64,7 @@ module _ (form out : List ℕ) where
             let a : n + m + left ≡ n + (m + left) = omega arith in
             let b : row + n + m ≡ row + (n + m) = omega arith in
             ap (λ (k : ℕ). entries_from form out row k at) a
-            ∙ (P.are (m + left) ∙ (ap (λ (l : List Entry). P.entries ++ l) (Q.are left ∙ ap (λ (k : ℕ). Q.entries ++ entries_from form out k left to) b) ∙ sym (append_assoc P.entries Q.entries _)))
+            ∙ (P.are (m + left) ∙ (ap (λ (l : List (CodeOption Entry)). P.entries ++ l) (Q.are left ∙ ap (λ (k : ℕ). Q.entries ++ entries_from form out k left to) b) ∙ sym (append_assoc P.entries Q.entries _)))
             );
         first = moved_append P.entries Q.entries ∙ ap₂ (λ (x y : List MovedNumber). x ++ y) P.first Q.first;
         second = apart_append P.entries Q.entries ∙ ap₂ (λ (x y : List NoItem). x ++ y) P.second Q.second;
@@ -85,13 +85,13 @@ module _ (form out : List ℕ) where
   unfolding follow encode
   stays_at row at r is f = let c : code_at form row ≡ code_of r = ap code_part is in sym (no! _ (rw (c, f.not_open_lem, f.not_close)) refl)
 
-  quiet_entry : (row to : ℕ) (r : Row) → Is form row r → Silent r → entry_at form row out to ≡ Nothing
+  quiet_entry : (row to : ℕ) (r : Row) → Is form row r → Silent r → entry_at form row out to ≡ None
   unfolding entry_at is_written encode
   quiet_entry row to r is q = let c : code_at form row ≡ code_of r = ap code_part is in sym (no! _ (rw (c, q.not_ref, q.not_outer)) refl)
 
   silent_row : (row at to : ℕ) (r : Row) → Is form row r → Silent r → follow out at (code_at form row) ≡ to → Span row 1 at [] [] to
   unfolding if_any
-  silent_row row at to r is q e = one_row row at to none none e (subst (λ (x : Entry). Says x none none) (sym (quiet_entry row to r is q)) says_nothing)
+  silent_row row at to r is q e = one_row row at to none none e (subst (λ (x : CodeOption Entry). Says x none none) (sym (quiet_entry row to r is q)) says_nothing)
 
   -- rows without numbers, in one scope
   pub quiet_rows : (row at : ℕ) (rs : List Row) → All Quiet rs → At form row rs → Span row (length rs) at [] [] at

@@ -1,4 +1,5 @@
 -- The ways through the code.
+use Rattle.std.specs.Prelude.{Option, Some, None}
 use mathlib.Core.Path.{◌≡◌, refl, sym, ap, ap₂, ◌∙◌}
 use mathlib.Core.Bool.{Bool, true, false, ◌||◌}
 use mathlib.Core.List.{List, [], ◌∷◌, ◌++◌, append-nil, append_assoc}
@@ -18,10 +19,10 @@ use Rattle.row_parts.specs.Parts.{code_at, rows_in}
 use Rattle.moving.specs.Moved.{MovedNumber, NoItem}
 use Rattle.moving.specs.MovedAnswer.{moved_bytes, apart_bytes}
 use Rattle.numbers.specs.Entries.{entry_at}
-use Rattle.numbers.specs.declared.Entry.{Entry}
-use Rattle.numbers.specs.declared.Entry.TheVariants.{Moved, Apart, Nothing}
 use Rattle.moved_list.specs.declared.Listed.{Listed}
 use Rattle.moved_list.specs.Listing.{behind_from, behind_next, follow, entries_from, entries_in, moved_number, no_item, moved_of, apart_of, listed, none, noted}
+use Rattle.numbers.specs.declared.Entry.TheVariants.{Moved, Apart}
+use Rattle.numbers.specs.declared.Entry.{Entry}
 
 -- ---- a row of the output in the same scope
 
@@ -75,18 +76,18 @@ apart_put l l₁ l₂ l₃ at z space number e₁ e₂ e₃ =
     let q : at + 8 ≡ at + length (bytes 4 z) + length (bytes 4 space) = omega (arith, length_word z, length_word space) in
     rw (append-nil, e₃, e₂, e₁, q, p, sets_append, sets_append)
 
-module _ (s : Listed) (moved apart l : List ℕ) (e : Entry) where
-  pub noted_moved : (z space meant gets : ℕ) → e ≡ Moved z space meant gets → l ≡ sets moved (16 * s.moved) (moved_bytes (moved_number z space meant gets ∷ []))
+module _ (s : Listed) (moved apart l : List ℕ) (e : Option Entry) where
+  pub noted_moved : (z space meant gets : ℕ) → e ≡ Some (Moved z space meant gets) → l ≡ sets moved (16 * s.moved) (moved_bytes (moved_number z space meant gets ∷ []))
       → (listed (s.moved + 1) s.apart & l & apart) ≡ noted s moved apart (e ∷ [])
   unfolding noted moved_of apart_of apart_bytes
   noted_moved z space meant gets q h = rw (h, q, add-zero)
 
-  pub noted_apart : (z space number : ℕ) → e ≡ Apart z space number → l ≡ sets apart (12 * s.apart) (apart_bytes (no_item z space number ∷ []))
+  pub noted_apart : (z space number : ℕ) → e ≡ Some (Apart z space number) → l ≡ sets apart (12 * s.apart) (apart_bytes (no_item z space number ∷ []))
       → (listed s.moved (s.apart + 1) & moved & l) ≡ noted s moved apart (e ∷ [])
   unfolding noted moved_of apart_of moved_bytes
   noted_apart z space number q h = rw (h, q, add-zero)
 
-pub noted_nothing : (s : Listed) (moved apart : List ℕ) (e : Entry) → e ≡ Nothing → (s & moved & apart) ≡ noted s moved apart (e ∷ [])
+pub noted_nothing : (s : Listed) (moved apart : List ℕ) (e : Option Entry) → e ≡ None → (s & moved & apart) ≡ noted s moved apart (e ∷ [])
 unfolding noted moved_of apart_of moved_bytes apart_bytes
 noted_nothing s moved apart e q = rw (q, add-zero, add-zero)
 
@@ -94,19 +95,19 @@ pub ruleset put_ways = (moved_put, apart_put, noted_moved, noted_apart, noted_no
 
 -- ---- the rows
 
-pub moved_append : (es fs : List Entry) → moved_of (es ++ fs) ≡ moved_of es ++ moved_of fs
+pub moved_append : (es fs : List (Option Entry)) → moved_of (es ++ fs) ≡ moved_of es ++ moved_of fs
 unfolding moved_of
 moved_append [] fs = refl
-moved_append (Moved z space meant gets ∷ es) fs = ap (λ (l : List MovedNumber). moved_number z space meant gets ∷ l) (moved_append es fs)
-moved_append (Apart z space number ∷ es) fs = moved_append es fs
-moved_append (Nothing ∷ es) fs = moved_append es fs
+moved_append (Some (Moved z space meant gets) ∷ es) fs = ap (λ (l : List MovedNumber). moved_number z space meant gets ∷ l) (moved_append es fs)
+moved_append (Some (Apart z space number) ∷ es) fs = moved_append es fs
+moved_append (None ∷ es) fs = moved_append es fs
 
-pub apart_append : (es fs : List Entry) → apart_of (es ++ fs) ≡ apart_of es ++ apart_of fs
+pub apart_append : (es fs : List (Option Entry)) → apart_of (es ++ fs) ≡ apart_of es ++ apart_of fs
 unfolding apart_of
 apart_append [] fs = refl
-apart_append (Moved z space meant gets ∷ es) fs = apart_append es fs
-apart_append (Apart z space number ∷ es) fs = ap (λ (l : List NoItem). no_item z space number ∷ l) (apart_append es fs)
-apart_append (Nothing ∷ es) fs = apart_append es fs
+apart_append (Some (Moved z space meant gets) ∷ es) fs = apart_append es fs
+apart_append (Some (Apart z space number) ∷ es) fs = ap (λ (l : List NoItem). no_item z space number ∷ l) (apart_append es fs)
+apart_append (None ∷ es) fs = apart_append es fs
 
 moved_bytes_lem : (ms ns : List MovedNumber) → moved_bytes (ms ++ ns) ≡ moved_bytes ms ++ moved_bytes ns
 unfolding moved_bytes
@@ -159,7 +160,7 @@ apart_size (m ∷ ms) =
     )
 
 -- entries behind others
-module _ (s r : Listed) (moved apart m a : List ℕ) (es fs : List Entry) (so_far : (r & m & a) ≡ noted s moved apart es) where
+module _ (s r : Listed) (moved apart m a : List ℕ) (es fs : List (Option Entry)) (so_far : (r & m & a) ≡ noted s moved apart es) where
   noted_more : noted r m a fs ≡ noted s moved apart (es ++ fs)
   unfolding noted
   noted_more =
@@ -184,7 +185,7 @@ module _ (form out moved apart : List ℕ) (s : Listed) (row rows at : ℕ) (T :
   unfolding entries_from noted moved_of apart_of moved_bytes apart_bytes
   list_end h = let e : rows - row ≡ 0 = omega arith in (rw (e, add-zero, add-zero) at inv)
 
-  pub list_turn : row < rows → (c here : ℕ) → c ≡ code_at form row → here ≡ follow out at c → (e : Entry) → e ≡ entry_at form row out here → (r : Listed) (m a : List ℕ)
+  pub list_turn : row < rows → (c here : ℕ) → c ≡ code_at form row → here ≡ follow out at c → (e : Option Entry) → e ≡ entry_at form row out here → (r : Listed) (m a : List ℕ)
       → (r & m & a) ≡ noted s moved apart (e ∷ []) → noted r m a (entries_from form out (row + 1) (rows - (row + 1)) here) ≡ T
   unfolding entries_from
   list_turn h c here hc hh e he r m a w =

@@ -77,32 +77,34 @@ fn put_apart(list: &mut [u8], n: u32, z: u32, space: u8, number: u32)
 }
 
 // Writes an entry into its list.
-fn put(entry: Entry, moved: &mut [u8], apart: &mut [u8], s: Listed) -> Listed
+fn put(entry: Option<Entry>, moved: &mut [u8], apart: &mut [u8], s: Listed) -> Listed
     requires { (s.moved < 4294967295) × (s.apart < 4294967295) }
     ensures apart_after { (result & moved.new & apart.new) ≡ noted s moved.old apart.old (entry ∷ []) }
     ensures moved_bound { (result.moved ≤ s.moved + 1) × (result.apart ≤ s.apart + 1) }
 {
     match entry {
-        Entry::Moved {
-            z,
-            space,
-            meant,
-            gets,
-        } => {
+        Some(
+            Entry::Moved {
+                z,
+                space,
+                meant,
+                gets,
+            },
+        ) => {
             put_moved(moved, s.moved, z, space, meant, gets);
             Listed {
                 moved: s.moved + 1,
                 apart: s.apart,
             }
         }
-        Entry::Apart { z, space, number } => {
+        Some(Entry::Apart { z, space, number }) => {
             put_apart(apart, s.apart, z, space, number);
             Listed {
                 moved: s.moved,
                 apart: s.apart + 1,
             }
         }
-        Entry::Nothing => s,
+        None => s,
     }
 }
 

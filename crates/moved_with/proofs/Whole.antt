@@ -1,4 +1,5 @@
 -- The ways through the whole run, in areas that are large enough and in others.
+use Rattle.std.specs.Prelude.{Result, Ok, Err, ℕ}
 use mathlib.Core.Path.{◌≡◌, refl, ap, sym, ◌∙◌, subst}
 use mathlib.Core.Bool.{Bool, true, false, ◌||◌}
 use mathlib.Core.Option.{some}
@@ -23,7 +24,6 @@ use Rattle.limits.specs.Held.{setting}
 use Rattle.refusal.specs.declared.Refusal.{Refusal}
 use Rattle.resolver.specs.Meaning.{Numbers, Said, numbers}
 use Rattle.resolver.specs.Meaning as resolved
-use Rattle.resolver.specs.declared.run.Answer.{Answer as Resolved}
 use Rattle.resolver.proofs.Bytes.{all_bytes}
 use Rattle.names.specs.Table.{Slot}
 use Rattle.resolver_with.specs.Areas.{Lent, roomy, Cleared}
@@ -35,10 +35,10 @@ use Rattle.reading_laws.specs.OnBytes
 use Rattle.reading_laws.specs.OnBytes.{body, all_within}
 use Rattle.moved.specs.Meaning.{meaning, ruled, held}
 use Rattle.moved.specs.Run.{rows_of, rows_asked, fronts_t}
-use Rattle.moved.specs.declared.run.Answer.TheVariants.{Listed as ListedAnswer, Refused}
 use Rattle.moved.proofs.Agrees.{answer_counted, asked, is_short_lem, Short, short, refuses, accepts, no_room_refuses}
 use Rattle.moved.proofs.Whole.{is_accepted}
 use Rattle.moved_with.specs.With.{moved_with, buffers_with}
+use Rattle.refusal.specs.declared.Refused.{Refused}
 
 module _ (form o m a : List ℕ) (lent : Lent) (i rows : ℕ) (asks : setting i ≡ by.asked form) (are : rows ≡ rows_asked i form) where
   abbrev enough : Bool
@@ -84,10 +84,10 @@ module _ (form o m a : List ℕ) (lent : Lent) (i rows : ℕ) (asks : setting i 
     none_fit : (o : List ℕ) → Short all form o m a
     none_fit o = short all form o m a (subst (λ (k : ℕ). is_short_lem all form o m a k ≡ true) (sym rows_asked_lem) (sym is ∙ e))
 
-    pub short_answers : meaning (Refused (record { number = 3; place = 0 })) ≡ ruled answers
+    pub short_answers : meaning (Err (record { number = 3; place = 0 })) ≡ ruled answers
     short_answers = go enough refl
       where
-        go : (x : Bool) → enough ≡ x → meaning (Refused (record { number = 3; place = 0 })) ≡ ruled answers
+        go : (x : Bool) → enough ≡ x → meaning (Err (record { number = 3; place = 0 })) ≡ ruled answers
         go true q = ap ruled (sym (answers_roomy q ∙ (none_fit o).answers))
         go false q = ap ruled (sym (answers_small q ∙ (none_fit []).answers))
 
@@ -116,7 +116,7 @@ module _ (form o m a : List ℕ) (lent : Lent) (i rows : ℕ) (asks : setting i 
     long : (o : List ℕ) → is_short_lem all form o m a (asked all form) ≡ false
     long o = subst (λ (k : ℕ). is_short_lem all form o m a k ≡ false) (sym rows_asked_lem) (sym is ∙ fit)
 
-    module _ (x : Resolved) (o' : List ℕ) (said : resolved.meaning x ≡ resolved.ruled (answer_with form (length o) lent)) (left : o' ≡ output_with form o lent) (r : Refusal) (told : numbers r.number r.place ≡ (resolved.meaning x).plain) where
+    module _ (x : Result ℕ Refused) (o' : List ℕ) (said : resolved.meaning x ≡ resolved.ruled (answer_with form (length o) lent)) (left : o' ≡ output_with form o lent) (r : Refusal) (told : numbers r.number r.place ≡ (resolved.meaning x).plain) where
       told_roomy : enough ≡ true → numbers r.number r.place ≡ (resolved.ruled (answer all form (length o))).plain
       told_roomy e = told ∙ ap (λ (s : Said). s.plain) (said ∙ ap resolved.ruled (resolved_roomy e))
 
@@ -132,10 +132,10 @@ module _ (form o m a : List ℕ) (lent : Lent) (i rows : ℕ) (asks : setting i 
       left_small e = rw e at left
 
       -- the resolver refuses
-      refused_returns : (r.number ≡ 0 → ⊥) → (meaning (Refused r) ≡ ruled answers) × (held o' m a ≡ leaves)
+      refused_returns : (r.number ≡ 0 → ⊥) → (meaning (Err r) ≡ ruled answers) × (held o' m a ≡ leaves)
       refused_returns n = go enough refl
         where
-          go : (x : Bool) → enough ≡ x → (meaning (Refused r) ≡ ruled answers) × (held o' m a ≡ leaves)
+          go : (x : Bool) → enough ≡ x → (meaning (Err r) ≡ ruled answers) × (held o' m a ≡ leaves)
           go true q =
               let R = refuses all form o m a (long o) r.number r.place o' (told_roomy q) (left_roomy q) n in
               (R.0 ∙ ap ruled (sym (answers_roomy q)), R.1 ∙ sym (leaves_roomy q))
@@ -143,7 +143,7 @@ module _ (form o m a : List ℕ) (lent : Lent) (i rows : ℕ) (asks : setting i 
               let R = refuses all form [] m a (long []) r.number r.place (output all form []) (told_small q) refl n in
               (R.0 ∙ ap ruled (sym (answers_small q)), ap (λ (z : List ℕ). held z m a) (left_small q) ∙ sym (leaves_small q))
 
-      pub refused_answers : (r.number ≡ 0 → ⊥) → meaning (Refused r) ≡ ruled answers
+      pub refused_answers : (r.number ≡ 0 → ⊥) → meaning (Err r) ≡ ruled answers
       refused_answers n = (refused_returns n).0
 
       pub refused_leaves : (r.number ≡ 0 → ⊥) → held o' m a ≡ leaves
@@ -151,10 +151,10 @@ module _ (form o m a : List ℕ) (lent : Lent) (i rows : ℕ) (asks : setting i 
 
       -- it accepts
       module _ (each : (i : ℕ) → Fits w8 (get_or form i 0)) (n : r.number ≡ 0) (l : Listed) (m' a' : List ℕ) (lists : (l & m' & a') ≡ fronts_t (body (setting i) form) (body (setting i) o') m a rows) where
-        pub listed_returns : (meaning (ListedAnswer l) ≡ ruled answers) × (held o' m' a' ≡ leaves)
+        pub listed_returns : (meaning (Ok l) ≡ ruled answers) × (held o' m' a' ≡ leaves)
         listed_returns = go enough refl
           where
-            go : (x : Bool) → enough ≡ x → (meaning (ListedAnswer l) ≡ ruled answers) × (held o' m' a' ≡ leaves)
+            go : (x : Bool) → enough ≡ x → (meaning (Ok l) ≡ ruled answers) × (held o' m' a' ≡ leaves)
             go true q =
                 let Y = is_accepted (answer all form (length o)) r.number r.place (answer_counted all form (length o)) (told_roomy q) n in
                 let bs = all_bytes form each in

@@ -14,7 +14,7 @@ ghost use Rattle.moved_with.specs.With.{moved_with, buffers_with};
 
 use fixed::HEADER;
 use lent_areas::clear_areas;
-use moved::run::{Answer, fill_fronts, refusal_in, rows_asked};
+use moved::run::{fill_fronts, refusal_in, rows_asked};
 use moved_list::Listed;
 use names::{Slot, least};
 use refusal::{ROOM, Refusal};
@@ -60,7 +60,7 @@ pub fn moved_with(
     known: &mut [u16],
     chains: &mut [u16],
     ends: &mut [u32],
-) -> Answer
+) -> Result<Listed, Refusal>
     ensures result_value { meaning result ≡ ruled (moved_with form.now (rooms_of (held out.old moved.old apart.old)) (lent_of entered.old names.old known.old chains.old ends.old)) }
     ensures apart_after { held out.new moved.new apart.new ≡ buffers_with form.now (held out.old moved.old apart.old) (lent_of entered.old names.old known.old chains.old ends.old) }
     ensures cleared { Cleared (asked form.now).version entered.old entered.new names.old names.new known.old known.new chains.old chains.new ends.old ends.new }
@@ -69,14 +69,14 @@ pub fn moved_with(
     let rows = rows_asked(form, i);
     if are_short(moved.len(), apart.len(), rows) {
         clear_areas(i, entered, names, known, chains, ends);
-        return Answer::Refused(Refusal {
+        return Err(Refusal {
             number: ROOM,
             place: 0,
         });
     }
     let refusal = refusal_in(resolve_with(form, out, entered, names, known, chains, ends));
     if refusal.number != 0 {
-        return Answer::Refused(refusal);
+        return Err(refusal);
     }
-    Answer::Listed(list_behind(form, out, moved, apart, rows, i))
+    Ok(list_behind(form, out, moved, apart, rows, i))
 }

@@ -1,4 +1,5 @@
 -- The ways through the code.
+use Rattle.std.specs.Prelude.{Option, Some, None}
 use mathlib.Core.Path.{◌≡◌, refl, ◌∙◌}
 use mathlib.Core.Bool.{Bool, true, false, ◌&&◌, ◌||◌}
 use mathlib.Core.List.{List}
@@ -11,16 +12,14 @@ use Rattle.row_parts.specs.Parts.{code_at, b_at, e_at, x_at, y_at, z_at}
 use Rattle.scopes.specs.Scopes.{scope_of, find_in, scope_outward}
 use Rattle.readings.specs.Meaning.{space_sought, outer_wanted}
 use Rattle.scopes.specs.declared.Key.TheVariants.{Number as Numbered, Inserted}
-use Rattle.scopes.specs.declared.Found.{Found}
-use Rattle.scopes.specs.declared.Found.TheVariants.{At as FoundAt, Nothing as NotFound}
 use Rattle.scopes.specs.declared.Wanted.{Wanted}
 use Rattle.scopes.specs.declared.Wanted.TheVariants.{Out}
-use Rattle.scopes.specs.declared.Outer.{Outer}
-use Rattle.scopes.specs.declared.Outer.TheVariants.{At as OuterAt, Nowhere}
 use Rattle.numbers.specs.declared.Number.{Number}
-use Rattle.numbers.specs.declared.Entry.{Entry}
-use Rattle.numbers.specs.declared.Entry.TheVariants.{Moved, Apart, Nothing}
 use Rattle.numbers.specs.Entries.{is_written, numbered, number_at, scope_wanted, reaches, is_pushed, gets, gets_entry, gets_in, output_entry, meant_by, counted_entry, counted_in, entry_at}
+use Rattle.numbers.specs.declared.Entry.TheVariants.{Moved, Apart}
+use Rattle.numbers.specs.declared.Entry.{Entry}
+use Rattle.scopes.specs.declared.Found.{Found}
+use Rattle.scopes.specs.declared.Outer.{Outer}
 
 -- ---- the number of a row
 
@@ -49,60 +48,60 @@ module _ (form : List ℕ) (row c : ℕ) (code : c ≡ code_at form row) where
 -- ---- in the output
 
 module _ (out : List ℕ) (scope : ℕ) (n : Number) where
-  module _ (f : Found) (got : f ≡ find_in out scope n.space Inserted) where
-    pub pushed_at : (row number : ℕ) → f ≡ FoundAt row number → leb number n.number ≡ is_pushed out scope n
+  module _ (f : Option Found) (got : f ≡ find_in out scope n.space Inserted) where
+    pub pushed_at : (row number : ℕ) → f ≡ Some (record { row = row; number = number }) → leb number n.number ≡ is_pushed out scope n
     unfolding is_pushed reaches
     pushed_at row number q = rw (← got, q)
 
-    pub pushed_not : f ≡ NotFound → false ≡ is_pushed out scope n
+    pub pushed_not : f ≡ None → false ≡ is_pushed out scope n
     unfolding is_pushed reaches
     pushed_not q = rw (← got, q)
 
   module _ (meant : ℕ) (b : Bool) (pushed : b ≡ is_pushed out scope n) where
-    pub gets_stays : b ≡ false → Nothing ≡ gets_entry out scope n meant
+    pub gets_stays : b ≡ false → None ≡ gets_entry out scope n meant
     unfolding gets_entry
     gets_stays h = no! _ (rw (← pushed) h) refl
 
-    module _ (h : b ≡ true) (f : Found) (got : f ≡ find_in out scope n.space (Numbered n.number)) where
-      pub gets_moved : (row number : ℕ) → f ≡ FoundAt row number → Moved n.z n.space meant row ≡ gets_entry out scope n meant
+    module _ (h : b ≡ true) (f : Option Found) (got : f ≡ find_in out scope n.space (Numbered n.number)) where
+      pub gets_moved : (row number : ℕ) → f ≡ Some (record { row = row; number = number }) → Some (Moved n.z n.space meant row) ≡ gets_entry out scope n meant
       unfolding gets_entry gets
       gets_moved row number q = yes! _ (rw (← pushed) h) (rw (← got, q))
 
-      pub gets_nothing : f ≡ NotFound → Nothing ≡ gets_entry out scope n meant
+      pub gets_nothing : f ≡ None → None ≡ gets_entry out scope n meant
       unfolding gets_entry gets
       gets_nothing q = yes! _ (rw (← pushed) h) (rw (← got, q))
 
-module _ (out : List ℕ) (at away : ℕ) (n : Number) (meant s : ℕ) (around : s ≡ scope_of out at) (o : Outer) (got : o ≡ scope_outward out s (Out away)) where
-  pub output_at : (scope far : ℕ) → o ≡ OuterAt scope far → (X : Entry) → X ≡ gets_entry out scope n meant → X ≡ output_entry out at away n meant
+module _ (out : List ℕ) (at away : ℕ) (n : Number) (meant s : ℕ) (around : s ≡ scope_of out at) (o : Option Outer) (got : o ≡ scope_outward out s (Out away)) where
+  pub output_at : (scope far : ℕ) → o ≡ Some (record { scope = scope; out = far }) → (X : Option Entry) → X ≡ gets_entry out scope n meant → X ≡ output_entry out at away n meant
   unfolding output_entry gets_in
   output_at scope far q X x = x ∙ rw (← around, ← got, q)
 
-  pub output_nowhere : o ≡ Nowhere → Nothing ≡ output_entry out at away n meant
+  pub output_nowhere : o ≡ None → None ≡ output_entry out at away n meant
   unfolding output_entry gets_in
   output_nowhere q = rw (← around, ← got, q)
 
 -- ---- in the input
 
-module _ (form : List ℕ) (scope away : ℕ) (n : Number) (out : List ℕ) (at : ℕ) (f : Found) (got : f ≡ find_in form scope n.space (Numbered n.number)) where
-  pub counted_at : (row number : ℕ) → f ≡ FoundAt row number → (X : Entry) → X ≡ output_entry out at away n row → X ≡ counted_entry form scope away n out at
+module _ (form : List ℕ) (scope away : ℕ) (n : Number) (out : List ℕ) (at : ℕ) (f : Option Found) (got : f ≡ find_in form scope n.space (Numbered n.number)) where
+  pub counted_at : (row number : ℕ) → f ≡ Some (record { row = row; number = number }) → (X : Option Entry) → X ≡ output_entry out at away n row → X ≡ counted_entry form scope away n out at
   unfolding counted_entry meant_by
   counted_at row number q X x = x ∙ rw (← got, q)
 
-  pub counted_apart : f ≡ NotFound → Apart n.z n.space n.number ≡ counted_entry form scope away n out at
+  pub counted_apart : f ≡ None → Some (Apart n.z n.space n.number) ≡ counted_entry form scope away n out at
   unfolding counted_entry meant_by
   counted_apart q = rw (← got, q)
 
 module _ (form : List ℕ) (row : ℕ) (out : List ℕ) (at : ℕ) (b : Bool) (written : b ≡ is_written form row) where
-  pub entry_none : b ≡ false → Nothing ≡ entry_at form row out at
+  pub entry_none : b ≡ false → None ≡ entry_at form row out at
   unfolding entry_at
   entry_none h = no! _ (rw (← written) h) refl
 
-  module _ (h : b ≡ true) (s : ℕ) (around : s ≡ scope_of form row) (w : Wanted) (wanted : w ≡ scope_wanted form row) (o : Outer) (got : o ≡ scope_outward form s w) where
-    pub entry_at_lem : (scope away : ℕ) → o ≡ OuterAt scope away → (n : Number) → n ≡ number_at form row → (X : Entry) → X ≡ counted_entry form scope away n out at → X ≡ entry_at form row out at
+  module _ (h : b ≡ true) (s : ℕ) (around : s ≡ scope_of form row) (w : Wanted) (wanted : w ≡ scope_wanted form row) (o : Option Outer) (got : o ≡ scope_outward form s w) where
+    pub entry_at_lem : (scope away : ℕ) → o ≡ Some (record { scope = scope; out = away }) → (n : Number) → n ≡ number_at form row → (X : Option Entry) → X ≡ counted_entry form scope away n out at → X ≡ entry_at form row out at
     unfolding entry_at counted_in
     entry_at_lem scope away q n hn X x = yes! _ (rw (← written) h) (x ∙ rw (← around, ← wanted, ← got, q, hn))
 
-    pub entry_nowhere : o ≡ Nowhere → Nothing ≡ entry_at form row out at
+    pub entry_nowhere : o ≡ None → None ≡ entry_at form row out at
     unfolding entry_at counted_in
     entry_nowhere q = yes! _ (rw (← written) h) (rw (← around, ← wanted, ← got, q))
 

@@ -1,19 +1,17 @@
 -- What is listed of a row: its number, the declaration that it meant in the input, and the one that it gets in the output.
-use Rattle.std.specs.Prelude.{Bool, false, ◌&&◌, ◌||◌, List, ℕ, eqb, leb, ltb}
+use Rattle.std.specs.Prelude.{Bool, false, ◌&&◌, ◌||◌, List, ℕ, eqb, leb, ltb, Option, Some, None}
 use Rattle.kit.specs.Pick.{pick}
+use Rattle.numbers.specs.declared.Entry.TheVariants.{Moved, Apart}
 use Rattle.row_parts.specs.Parts.{code_at, b_at, e_at, x_at, y_at, z_at}
 use Rattle.scopes.specs.Scopes.{scope_of, find_in, scope_outward}
 use Rattle.readings.specs.Meaning.{space_sought, outer_wanted}
 use Rattle.scopes.specs.declared.Key.TheVariants.{Number as Numbered, Inserted}
-use Rattle.scopes.specs.declared.Found.{Found}
-use Rattle.scopes.specs.declared.Found.TheVariants.{At as FoundAt, Nothing as NotFound}
 use Rattle.scopes.specs.declared.Wanted.{Wanted}
 use Rattle.scopes.specs.declared.Wanted.TheVariants.{Out}
-use Rattle.scopes.specs.declared.Outer.{Outer}
-use Rattle.scopes.specs.declared.Outer.TheVariants.{At as OuterAt, Nowhere}
 use Rattle.numbers.specs.declared.Number.{Number}
 use Rattle.numbers.specs.declared.Entry.{Entry}
-use Rattle.numbers.specs.declared.Entry.TheVariants.{Moved, Apart, Nothing}
+use Rattle.scopes.specs.declared.Found.{Found}
+use Rattle.scopes.specs.declared.Outer.{Outer}
 
 -- ---- the number of a row
 
@@ -37,46 +35,46 @@ scope_wanted form row = pick (eqb (code_at form row) 5) (outer_wanted (e_at form
 -- ---- in the output
 
 -- is the number of what is found at most n?
-unfoldable pub reaches : Found → (n : ℕ) → Bool
-reaches (FoundAt row number) n = leb number n
-reaches NotFound n = false
+unfoldable pub reaches : Option Found → (n : ℕ) → Bool
+reaches (Some (record { row = row; number = number })) n = leb number n
+reaches None n = false
 
 -- has an inserted declaration this number or a lower one?
 unfoldable pub is_pushed : (out : List ℕ) (scope : ℕ) → Number → Bool
 is_pushed out scope n = reaches (find_in out scope n.space Inserted) n.number
 
-unfoldable pub gets : Number → (meant : ℕ) → Found → Entry
-gets n meant (FoundAt row number) = Moved n.z n.space meant row
-gets n meant NotFound = Nothing
+unfoldable pub gets : Number → (meant : ℕ) → Option Found → Option Entry
+gets n meant (Some (record { row = row; number = number })) = Some (Moved n.z n.space meant row)
+gets n meant None = None
 
 -- a number that meant something in the input, in its scope of the output
-unfoldable pub gets_entry : (out : List ℕ) (scope : ℕ) → Number → (meant : ℕ) → Entry
+unfoldable pub gets_entry : (out : List ℕ) (scope : ℕ) → Number → (meant : ℕ) → Option Entry
 gets_entry out scope n meant =
-    pick (is_pushed out scope n) (gets n meant (find_in out scope n.space (Numbered n.number))) Nothing
+    pick (is_pushed out scope n) (gets n meant (find_in out scope n.space (Numbered n.number))) None
 
-unfoldable pub gets_in : (out : List ℕ) → Outer → Number → (meant : ℕ) → Entry
-gets_in out (OuterAt scope away) n meant = gets_entry out scope n meant
-gets_in out Nowhere n meant = Nothing
+unfoldable pub gets_in : (out : List ℕ) → Option Outer → Number → (meant : ℕ) → Option Entry
+gets_in out (Some (record { scope = scope; out = away })) n meant = gets_entry out scope n meant
+gets_in out None n meant = None
 
 -- this many scopes out from a row
-unfoldable pub output_entry : (out : List ℕ) (at away : ℕ) → Number → (meant : ℕ) → Entry
+unfoldable pub output_entry : (out : List ℕ) (at away : ℕ) → Number → (meant : ℕ) → Option Entry
 output_entry out at away n meant = gets_in out (scope_outward out (scope_of out at) (Out away)) n meant
 
 -- ---- in the input
 
-unfoldable pub meant_by : (out : List ℕ) (at away : ℕ) → Number → Found → Entry
-meant_by out at away n (FoundAt row number) = output_entry out at away n row
-meant_by out at away n NotFound = Apart n.z n.space n.number
+unfoldable pub meant_by : (out : List ℕ) (at away : ℕ) → Number → Option Found → Option Entry
+meant_by out at away n (Some (record { row = row; number = number })) = output_entry out at away n row
+meant_by out at away n None = Some (Apart n.z n.space n.number)
 
 -- a number in its scope of the input, which is `away` scopes out
-unfoldable pub counted_entry : (form : List ℕ) (scope away : ℕ) → Number → (out : List ℕ) (at : ℕ) → Entry
+unfoldable pub counted_entry : (form : List ℕ) (scope away : ℕ) → Number → (out : List ℕ) (at : ℕ) → Option Entry
 counted_entry form scope away n out at = meant_by out at away n (find_in form scope n.space (Numbered n.number))
 
-unfoldable pub counted_in : (form : List ℕ) → Outer → Number → (out : List ℕ) (at : ℕ) → Entry
-counted_in form (OuterAt scope away) n out at = counted_entry form scope away n out at
-counted_in form Nowhere n out at = Nothing
+unfoldable pub counted_in : (form : List ℕ) → Option Outer → Number → (out : List ℕ) (at : ℕ) → Option Entry
+counted_in form (Some (record { scope = scope; out = away })) n out at = counted_entry form scope away n out at
+counted_in form None n out at = None
 
 -- `at` is a row of the output in the scope of the input's row
-unfoldable pub entry_at : (form : List ℕ) (row : ℕ) (out : List ℕ) (at : ℕ) → Entry
+unfoldable pub entry_at : (form : List ℕ) (row : ℕ) (out : List ℕ) (at : ℕ) → Option Entry
 entry_at form row out at =
-    pick (is_written form row) (counted_in form (scope_outward form (scope_of form row) (scope_wanted form row)) (number_at form row) out at) Nothing
+    pick (is_written form row) (counted_in form (scope_outward form (scope_of form row) (scope_wanted form row)) (number_at form row) out at) None

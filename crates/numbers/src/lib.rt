@@ -29,7 +29,6 @@ pub enum Entry {
         space: u8,
         number: u32,
     },
-    Nothing,
 }
 
 // A number: the place of its row, the space in which it is counted.
@@ -86,67 +85,74 @@ fn is_pushed(out: &[u8], scope: u16, n: Number) -> bool
     ensures { result ≡ is_pushed out.now scope n }
 {
     match find(out, scope, n.space, Key::Inserted) {
-        Found::At { row: _, number } => number <= n.number,
-        Found::Nothing => false,
+        Some(Found { number, .. }) => number <= n.number,
+        None => false,
     }
 }
 
 // A number that meant something in the input, in its scope of the output.
-fn gets_entry(out: &[u8], scope: u16, n: Number, meant: u16) -> Entry
+fn gets_entry(out: &[u8], scope: u16, n: Number, meant: u16) -> Option<Option<Entry>>
     ensures { result ≡ gets_entry out.now scope n meant }
 {
     if is_pushed(out, scope, n) {
         match find(out, scope, n.space, Key::Number(n.number)) {
-            Found::At { row, number: _ } => Entry::Moved {
+            Some(Found { row, .. }) => Some(Entry::Moved {
                 z: n.z,
                 space: n.space,
                 meant,
                 gets: row,
-            },
-            Found::Nothing => Entry::Nothing,
+            }),
+            None => None,
         }
     } else {
-        Entry::Nothing
+        None
     }
 }
 
 // The same, this many scopes out from a row of the output.
-fn output_entry(out: &[u8], at: u16, away: u32, n: Number, meant: u16) -> Entry
+fn output_entry(out: &[u8], at: u16, away: u32, n: Number, meant: u16) -> Option<Option<Entry>>
     ensures { result ≡ output_entry out.now at away n meant }
 {
     match scope_outward(out, scope_of(out, at), Wanted::Out(away)) {
-        Outer::At { scope, out: _ } => gets_entry(out, scope, n, meant),
-        Outer::Nowhere => Entry::Nothing,
+        Some(Outer { scope, .. }) => gets_entry(out, scope, n, meant),
+        None => None,
     }
 }
 
 // A number in its scope of the input, which is this many scopes out.
-fn counted_entry(form: &[u8], scope: u16, away: u32, n: Number, out: &[u8], at: u16) -> Entry
+fn counted_entry(
+    form: &[u8],
+    scope: u16,
+    away: u32,
+    n: Number,
+    out: &[u8],
+    at: u16,
+) -> Option<Option<Entry>>
     ensures { result ≡ counted_entry form.now scope away n out.now at }
 {
     match find(form, scope, n.space, Key::Number(n.number)) {
-        Found::At { row, number: _ } => output_entry(out, at, away, n, row),
-        Found::Nothing => Entry::Apart {
+        Some(Found { row, .. }) => output_entry(out, at, away, n, row),
+        None => Some(Entry::Apart {
             z: n.z,
             space: n.space,
             number: n.number,
-        },
+        }),
     }
 }
 
 // What is listed of a row of the input, where `at` is a row of the output in the same scope. A number whose scope does not exist is not
 // listed.
-pub fn entry_at(form: &[u8], row: u16, out: &[u8], at: u16) -> Entry
+pub fn entry_at(form: &[u8], row: u16, out: &[u8], at: u16) -> Option<Option<Entry>>
     ensures { result ≡ entry_at form.now row out.now at }
 {
     if is_written(form, row) {
         match scope_outward(form, scope_of(form, row), scope_wanted(form, row)) {
-            Outer::At { scope, out: away } => {
+            Some(Outer { scope, out: away }) => {
                 counted_entry(form, scope, away, number_at(form, row), out, at)
             }
-            Outer::Nowhere => Entry::Nothing,
+            None => None,
         }
     } else {
-        Entry::Nothing
+        None
     }
 }

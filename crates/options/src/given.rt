@@ -27,13 +27,6 @@ pub struct Options {
     pub first: u8,
 }
 
-// What the arguments have for options, or a sentence on standard error that says what is wrong.
-#[derive(Clone, Copy)]
-pub enum Given {
-    Options(Options),
-    Wrong,
-}
-
 // The next argument was an option; there is none; or it is wrong.
 #[derive(Clone, Copy)]
 enum Turn {
@@ -131,7 +124,7 @@ fn by_next(host: Host<'_>, options: Options, takes: u8) -> Turn {
 }
 
 // The options behind a command's name, which is the argument at `first`; `takes` are those that it takes.
-pub fn read_options(host: Host<'_>, first: u8, takes: u8) -> Given {
+pub fn read_options(host: Host<'_>, first: u8, takes: u8) -> Option<Options> {
     let mut given = Options {
         set: 0,
         names: 0,
@@ -141,10 +134,10 @@ pub fn read_options(host: Host<'_>, first: u8, takes: u8) -> Given {
     while turns < 16 {
         match by_next(host, given, takes) {
             Turn::More(more) => given = more,
-            Turn::Done => return Given::Options(given),
-            Turn::Wrong => return Given::Wrong,
+            Turn::Done => return Some(given),
+            Turn::Wrong => return None,
         }
         turns += 1;
     }
-    Given::Wrong
+    None
 }

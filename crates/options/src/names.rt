@@ -2,7 +2,7 @@
 use crate::given::Options;
 use files::host::{Host, arg};
 use files::path_parts::front;
-use files::read::{Loaded, load};
+use files::read::load;
 use name_file::wrong_line;
 use words::{say, say_number};
 
@@ -17,25 +17,25 @@ fn say_wrong(host: Host<'_>, path: &[u8], line: u32) {
 }
 
 // Reads the file of a path; a line of it that is wrong is a failure.
-fn load_path(host: Host<'_>, path: &[u8], names: &mut [u8; 65536]) -> Loaded {
+fn load_path(host: Host<'_>, path: &[u8], names: &mut [u8; 65536]) -> Option<usize> {
     match load(host, path, names) {
-        Loaded::Bytes(length) => {
+        Some(length) => {
             let line = wrong_line(front(names, length));
             if line == 0 {
-                Loaded::Bytes(length)
+                Some(length)
             } else {
                 say_wrong(host, path, line);
-                Loaded::Failed
+                None
             }
         }
-        Loaded::Failed => Loaded::Failed,
+        None => None,
     }
 }
 
 // Reads the file of names that the options give; none is a file of no bytes.
-pub fn load_names(host: Host<'_>, options: Options, names: &mut [u8; 65536]) -> Loaded {
+pub fn load_names(host: Host<'_>, options: Options, names: &mut [u8; 65536]) -> Option<usize> {
     if options.names == 0 {
-        return Loaded::Bytes(0);
+        return Some(0);
     }
     let mut path = io::buffer();
     let length = arg(host, options.names as usize, &mut path);

@@ -1,4 +1,5 @@
 -- The ways through the code that says where arcs lead.
+use Rattle.std.specs.Prelude.{Option}
 use mathlib.Core.Path.{◌≡◌, refl, sym, ◌∙◌}
 use mathlib.Core.Bool.{Bool, true, false}
 use mathlib.Core.List.{List}
@@ -8,13 +9,13 @@ use Rattle.kit.specs.Pick.{pick}
 use Rattle.kit.proofs.Laws.{yes!, no! }
 use Rattle.row_parts.specs.Parts.{is_reference}
 use Rattle.readings.specs.Meaning.{meaning_of}
-use Rattle.readings.specs.declared.Meaning.{Meaning}
 use Rattle.meanings.specs.Entries.{Entry, noted, meaning_at}
 use Rattle.meanings.proofs.Noted.{meaning_is}
 use Rattle.picture.specs.Arcs.{row_meant, target_of}
+use Rattle.readings.specs.declared.Meaning.{Meaning}
 
 -- the row of what a reference means
-pub target_meant : (form : List ℕ) (entries : List Entry) (row r : ℕ) (m : Meaning) (b : Bool) → b ≡ is_reference form row → b ≡ true → m ≡ meaning_at form entries row → r ≡ row_meant m row → r ≡ target_of form entries row
+pub target_meant : (form : List ℕ) (entries : List Entry) (row r : ℕ) (m : Option Meaning) (b : Bool) → b ≡ is_reference form row → b ≡ true → m ≡ meaning_at form entries row → r ≡ row_meant m row → r ≡ target_of form entries row
 unfolding target_of
 target_meant form entries row r m b hb t hm hr = yes! _ (rw hb at t) (rw hm at hr)
 

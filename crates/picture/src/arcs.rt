@@ -11,17 +11,12 @@ use row_parts::{is_reference, rows_in};
 pub const MOST: usize = 4096;
 
 // The row that a meaning has, or the row itself whose meaning it is, if there is none.
-fn row_meant(meaning: Meaning, row: u16) -> u16
+fn row_meant(meaning: Option<Meaning>, row: u16) -> u16
     ensures { result ≡ row_meant meaning row }
 {
     match meaning {
-        Meaning::At {
-            row: decl,
-            number: _,
-            out: _,
-            name: _,
-        } => decl,
-        Meaning::Nowhere => row,
+        Some(Meaning { row: decl, .. }) => decl,
+        None => row,
     }
 }
 

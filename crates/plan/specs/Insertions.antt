@@ -1,5 +1,5 @@
 -- Step B as the code takes it: the slots of what is inserted before each field, and of its DECLs.
-use Rattle.std.specs.Prelude.{ℕ, zero, suc, ◌+◌, ◌-◌, ◌/◌, ◌%◌, Bool, false, List, length, replicate, ◌==◌, nat_le, nat_lt, slice_index, slice_index_or, slice_set}
+use Rattle.std.specs.Prelude.{ℕ, zero, suc, ◌+◌, ◌-◌, ◌/◌, ◌%◌, Bool, false, List, length, replicate, ◌==◌, nat_le, nat_lt, slice_index, slice_index_or, slice_set, Option, Some, None, Result, Ok, Err}
 use Rattle.kit.specs.Pick.{pick}
 use Rattle.kit.specs.Out.{Out, ◌&◌}
 use Rattle.rules.specs.Tools.{is_in}
@@ -12,16 +12,13 @@ use Rattle.refusal.specs.declared.Refusal.{Refusal}
 use Rattle.refusal.specs.declared.Told.{Told}
 use Rattle.refusal.specs.Refusals.{refusal_at, untold, of_space}
 use Rattle.names.specs.Table.{Slot, space_of, decl_slot, alias_slot, numbered_slot, first_of, scope_at, between, find_in, met_from, pushed}
-use Rattle.names.specs.declared.Found.{Found}
-use Rattle.names.specs.declared.Met.{Met}
-use Rattle.names.specs.declared.Met.TheVariants.{At as MetAt, Nowhere}
 use Rattle.late.specs.Late.{late_in, before_around}
 use Rattle.plan.specs.Views.{if_decl, if_ref, field_code}
 use Rattle.plan.specs.Enter.{row_number, is_found}
 use Rattle.plan.specs.declared.insertions.PlanState.{PlanState}
 use Rattle.plan.specs.declared.insertions.Reference.{Reference}
-use Rattle.plan.specs.declared.insertions.Planned.{Planned}
-use Rattle.plan.specs.declared.insertions.Planned.TheVariants.{Done, Refused}
+use Rattle.names.specs.declared.Met.{Met}
+use Rattle.refusal.specs.declared.Refused.{Refused}
 
 -- the table of slots, and the next number of each space
 abbrev pub Tables : Type 0
@@ -75,11 +72,11 @@ plan_paths_t names counts p space row (suc more) =
 
 -- what a part of step B answers, with the tables that it leaves
 abbrev pub Step : Type 0
-Step = Out Planned Tables
+Step = Out (Result PlanState Refused) Tables
 
 -- nothing was refused
 unfoldable pub plan_done_t : Out PlanState Tables → Step
-plan_done_t (p & tables) = Done p & tables
+plan_done_t (p & tables) = Ok p & tables
 
 -- a name that the scope has, but no field before this one: those have their slots by now
 unfoldable pub late_here_t : List Slot → PlanState → (space name : ℕ) → Bool
@@ -95,53 +92,53 @@ late_out_t names scopes p out space name =
 unfoldable pub plan_outer_t : (out number : ℕ) → List Slot → List ℕ → PlanState → Reference → Step
 plan_outer_t out number names counts p r =
     pick (is_in (r.space % 256) FOUR) (plan_done_t (insert_alias_t names counts p r.space r.row (out % 4294967296) number))
-    (Refused (refusal_at 8 r.z) (of_space r.space) & names & counts)
+    (Err (record { refusal = refusal_at 8 r.z; told = of_space r.space }) & names & counts)
 
 -- a name that the scope does not have, by where the scopes around have it
-unfoldable pub met_t : Met → List Slot → (scopes : List (List ℕ)) → List ℕ → PlanState → Reference → (name : ℕ) → Step
-met_t Nowhere names scopes counts p r name = Done p & names & counts
-met_t (MetAt out number) names scopes counts p r name =
-    pick (late_out_t names scopes p out r.space name) (Refused (refusal_at 13 r.z) untold & names & counts) (plan_outer_t out number names counts p r)
+unfoldable pub met_t : Option Met → List Slot → (scopes : List (List ℕ)) → List ℕ → PlanState → Reference → (name : ℕ) → Step
+met_t None names scopes counts p r name = Ok p & names & counts
+met_t (Some (record { out = out; number = number })) names scopes counts p r name =
+    pick (late_out_t names scopes p out r.space name) (Err (record { refusal = refusal_at 13 r.z; told = untold }) & names & counts) (plan_outer_t out number names counts p r)
 
 -- a walked name: one of this scope needs nothing, one of a scope further out an outer alias; too late, it is refusal 13
 unfoldable pub plan_name_t : (entered names : List Slot) (scopes : List (List ℕ)) → List ℕ → PlanState → Reference → (name : ℕ) → Step
 plan_name_t entered names scopes counts p r name =
     pick (is_found (find_in (between 0 p.entered entered) r.space name))
-    (pick (late_here_t names p r.space name) (Refused (refusal_at 13 r.z) untold & names & counts) (Done p & names & counts))
+    (pick (late_here_t names p r.space name) (Err (record { refusal = refusal_at 13 r.z; told = untold }) & names & counts) (Ok p & names & counts))
     (met_t (met_from names scopes p.depth p.depth r.space name) names scopes counts p r name)
 
 -- a REF without PATHs: a number stays, a name is walked
 unfoldable pub plan_index_t : Index → (entered names : List Slot) (scopes : List (List ℕ)) → List ℕ → PlanState → Reference → Step
-plan_index_t (Number n) entered names scopes counts p r = Done p & names & counts
+plan_index_t (Number n) entered names scopes counts p r = Ok p & names & counts
 plan_index_t (Name name) entered names scopes counts p r = plan_name_t entered names scopes counts p r name
 
 -- a REF: an alias for each of its PATHs, or what its operand needs
 unfoldable pub plan_ref_t : (entered names : List Slot) (scopes : List (List ℕ)) → List ℕ → PlanState → Reference → Step
 plan_ref_t entered names scopes counts p r =
     pick (nat_lt 0 r.paths)
-    (pick (r.space == 4) (Refused (refusal_at 7 r.z) untold & names & counts)
-    (pick (r.space == 6) (Refused (refusal_at 7 r.z) untold & names & counts)
+    (pick (r.space == 4) (Err (record { refusal = refusal_at 7 r.z; told = untold }) & names & counts)
+    (pick (r.space == 6) (Err (record { refusal = refusal_at 7 r.z; told = untold }) & names & counts)
     (plan_done_t (plan_paths_t names counts p r.space r.row (r.paths - 1)))))
     (plan_index_t r.at entered names scopes counts p r)
 
 -- goes on after a part of step B, by `f` if it is done and by `g` if it refused
 unfoldable pub step_then : {A : Type 0} → Step → (List Slot → List ℕ → PlanState → A) → (Refusal → Told → List Slot → List ℕ → A) → A
-step_then (Done p & names & counts) f g = f names counts p
-step_then (Refused why told & names & counts) f g = g why told names counts
+step_then (Ok p & names & counts) f g = f names counts p
+step_then (Err (record { refusal = why; told = told }) & names & counts) f g = g why told names counts
 
 -- a refusal ends the step
 abbrev pub stops : Refusal → Told → List Slot → List ℕ → Step
-stops why told names counts = Refused why told & names & counts
+stops why told names counts = Err (record { refusal = why; told = told }) & names & counts
 
 -- the rows from i on, of which `left` are left; `row` is the input row of the field
 unfoldable pub plan_operands_t : (field : List ℕ) (entered names : List Slot) (scopes : List (List ℕ)) → List ℕ → PlanState → (row i left : ℕ) → Step
-plan_operands_t field entered names scopes counts p row i zero = Done p & names & counts
+plan_operands_t field entered names scopes counts p row i zero = Ok p & names & counts
 plan_operands_t field entered names scopes counts p row i (suc left) =
     if_ref (row_at field i)
     (λ space at paths z.
     step_then (plan_ref_t entered names scopes counts p (record { space = space; at = at; paths = paths; z = z; row = row_number row i }))
     (λ ns cs q. plan_operands_t field entered ns scopes cs q row (i + 1) left) stops)
-    (Done p & names & counts)
+    (Ok p & names & counts)
     (plan_operands_t field entered names scopes counts p row (i + 1) left)
 
 -- goes on with what a declaration leaves
@@ -168,7 +165,7 @@ rows_after field = length field / 16 - 1
 -- what a field makes the scope insert: nothing where its operands are here_only_lem
 unfoldable pub plan_insertions_t : (field : List ℕ) (entered names : List Slot) (scopes : List (List ℕ)) → List ℕ → PlanState → Step
 plan_insertions_t field entered names scopes counts p =
-    pick (here_only (field_code_t field)) (Done p & names & counts)
+    pick (here_only (field_code_t field)) (Ok p & names & counts)
     (plan_operands_t field entered names scopes counts p p.at 1 (rows_after field))
 
 -- the state with `used` slots in use
@@ -180,7 +177,7 @@ with_used p used =
 unfoldable pub plan_field_t : (field : List ℕ) (entered names : List Slot) (scopes : List (List ℕ)) → List ℕ → PlanState → Step
 plan_field_t field entered names scopes counts p =
     step_then (plan_insertions_t field entered names scopes counts p)
-    (λ ns cs q. declare_then (plan_decls_t field ns cs q.at q.used 1 (rows_after field)) λ ns' cs' used. Done (with_used q used) & ns' & cs')
+    (λ ns cs q. declare_then (plan_decls_t field ns cs q.at q.used 1 (rows_after field)) λ ns' cs' used. Ok (with_used q used) & ns' & cs')
     stops
 
 -- the same state at another row
@@ -193,23 +190,23 @@ unfoldable pub plan_next_t : (rows ends : List ℕ) (entered names : List Slot) 
 plan_next_t rows ends entered names scopes counts p =
     let field = field_rows rows ends p.at in
     step_then (plan_field_t field entered names scopes counts p)
-    (λ ns cs q. Done (moved_t q (row_number p.at (length field / 16))) & ns & cs) stops
+    (λ ns cs q. Ok (moved_t q (row_number p.at (length field / 16))) & ns & cs) stops
 
 -- the fields of a scope; there are at most `turns`
 unfoldable pub plan_fields_t : (rows ends : List ℕ) (entered names : List Slot) (scopes : List (List ℕ)) → List ℕ → PlanState → (turns : ℕ) → Step
-plan_fields_t rows ends entered names scopes counts p zero = Done p & names & counts
+plan_fields_t rows ends entered names scopes counts p zero = Ok p & names & counts
 plan_fields_t rows ends entered names scopes counts p (suc turns) =
     pick (code_at rows p.at == 1)
     (let field = field_rows rows ends p.at in
     step_then (plan_field_t field entered names scopes counts p)
     (λ ns cs q. plan_fields_t rows ends entered ns scopes cs (moved_t q (row_number p.at (length field / 16))) turns) stops)
-    (Done p & names & counts)
+    (Ok p & names & counts)
 
 -- the answer and the table, without the counts
-unfoldable pub plan_seen_t : Step → Out Planned (List Slot)
+unfoldable pub plan_seen_t : Step → Out (Result PlanState Refused) (List Slot)
 plan_seen_t (a & names & counts) = a & names
 
 -- step B of a scope: every space is counted from 0
-unfoldable pub plan_scope_t : (rows ends : List ℕ) (entered names : List Slot) (scopes : List (List ℕ)) → PlanState → Out Planned (List Slot)
+unfoldable pub plan_scope_t : (rows ends : List ℕ) (entered names : List Slot) (scopes : List (List ℕ)) → PlanState → Out (Result PlanState Refused) (List Slot)
 plan_scope_t rows ends entered names scopes p =
     plan_seen_t (plan_fields_t rows ends entered names scopes (replicate 13 0) p (length rows / 16))

@@ -1,7 +1,6 @@
 // Step B: each field's references in order; what is inserted before the field, and then its own DECLs, take their slots.
-ghost use Rattle.std.specs.Prelude.{◌≡◌, ◌-◌, ◌/◌, ◌≤◌, length};
+ghost use Rattle.std.specs.Prelude.{◌≡◌, ◌-◌, ◌/◌, ◌≤◌, length, Some};
 ghost use Rattle.kit.specs.Out.{◌&◌};
-ghost use Rattle.names.specs.declared.Met.TheVariants.{At as MetAt};
 ghost use Rattle.index.specs.Indexed.{Holds, Covers};
 ghost use Rattle.plan.specs.Enter.{row_number};
 ghost use Rattle.plan.specs.Serves.{Serves, Grown, GrownBy};
@@ -14,7 +13,7 @@ use form::part::field_rows;
 use index::{outward, push};
 use late::{before_around, is_late, scope_around};
 use names::{FIRST, Met, SPACE, Scope, Slot, alias_slot, numbered};
-use refusal::{Refusal, Told};
+use refusal::{Refusal, Refused, Told};
 use rows::row::{FIELD, Index, Row, code_at, decl_at, field_at, ref_or_open_at};
 use std::num::wrapping_add_u32;
 
@@ -50,13 +49,6 @@ pub struct PlanState {
     pub before: usize,
     // Whether a name means only what an earlier field declares (rule set 1).
     pub early: bool,
-}
-
-#[derive(Clone, Copy)]
-pub enum Planned {
-    Done(PlanState),
-    // The refusal, and what it tells.
-    Refused(Refusal, Told),
 }
 
 // A REF row, and its number among the input's rows.
@@ -191,32 +183,32 @@ fn plan_outer(
     name: u32,
     out: usize,
     number: u32,
-) -> Planned
+) -> Result<PlanState, Refused>
     requires { Holds names.old chains.old plan.used }
-    ensures { ((result & names.new & counts.new) ≡ met_t (MetAt out number) names.old scopes.now counts.old plan r name) × GrownBy result plan names.new chains.new }
+    ensures { ((result & names.new & counts.new) ≡ met_t (Some (record { out = out; number = number })) names.old scopes.now counts.old plan r name) × GrownBy result plan names.new chains.new }
 {
     if is_late_out(names, chains, scopes, plan, out, r.space, name) {
-        return Planned::Refused(
-            Refusal {
+        return Err(Refused {
+            refusal: Refusal {
                 number: NOT_EARLIER,
                 place: r.z,
             },
-            Told { space: 0, first: 0 },
-        );
+            told: Told { space: 0, first: 0 },
+        });
     }
     if !has(Spaces::Four, (r.space % 256) as u8) {
-        return Planned::Refused(
-            Refusal {
+        return Err(Refused {
+            refusal: Refusal {
                 number: NOT_OUTER,
                 place: r.z,
             },
-            Told {
+            told: Told {
                 space: r.space,
                 first: 0,
             },
-        );
+        });
     }
-    Planned::Done(insert(
+    Ok(insert(
         names,
         chains,
         counts,
@@ -240,25 +232,25 @@ fn plan_name(
     plan: PlanState,
     r: Reference,
     name: u32,
-) -> Planned
+) -> Result<PlanState, Refused>
     requires { Serves names.old chains.old scopes.now plan × Covers entered.now known.now plan.entered }
     ensures { ((result & names.new & counts.new) ≡ plan_name_t entered.now names.old scopes.now counts.old plan r name) × GrownBy result plan names.new chains.new }
 {
     if is_here(entered, known, plan.entered, r.space, name) {
         if is_late_here(names, chains, plan, r.space, name) {
-            return Planned::Refused(
-                Refusal {
+            return Err(Refused {
+                refusal: Refusal {
                     number: NOT_EARLIER,
                     place: r.z,
                 },
-                Told { space: 0, first: 0 },
-            );
+                told: Told { space: 0, first: 0 },
+            });
         }
-        return Planned::Done(plan);
+        return Ok(plan);
     }
     match outward(names, chains, scopes, plan.depth, r.space, name) {
-        Met::Nowhere => Planned::Done(plan),
-        Met::At { out, number } => plan_outer(
+        None => Ok(plan),
+        Some(Met { out, number }) => plan_outer(
             names, chains, scopes, counts, plan, r, name, out, number,
         ),
     }
@@ -274,34 +266,34 @@ fn plan_ref(
     counts: &mut [u32],
     plan: PlanState,
     r: Reference,
-) -> Planned
+) -> Result<PlanState, Refused>
     requires { Serves names.old chains.old scopes.now plan × Covers entered.now known.now plan.entered }
     ensures { ((result & names.new & counts.new) ≡ plan_ref_t entered.now names.old scopes.now counts.old plan r) × GrownBy result plan names.new chains.new }
 {
     if 0 < r.paths {
         if r.space == CORE_TYPE {
-            return Planned::Refused(
-                Refusal {
+            return Err(Refused {
+                refusal: Refusal {
                     number: NOT_EXPORTED,
                     place: r.z,
                 },
-                Told { space: 0, first: 0 },
-            );
+                told: Told { space: 0, first: 0 },
+            });
         }
         if r.space == CORE_INSTANCE_WIDE {
-            return Planned::Refused(
-                Refusal {
+            return Err(Refused {
+                refusal: Refusal {
                     number: NOT_EXPORTED,
                     place: r.z,
                 },
-                Told { space: 0, first: 0 },
-            );
+                told: Told { space: 0, first: 0 },
+            });
         }
-        return Planned::Done(plan_paths(names, chains, counts, plan, r.space, r.paths, r.row));
+        return Ok(plan_paths(names, chains, counts, plan, r.space, r.paths, r.row));
     }
     let at = r.at;
     match at {
-        Index::Number(_) => Planned::Done(plan),
+        Index::Number(_) => Ok(plan),
         Index::Name(name) => plan_name(
             entered, known, names, chains, scopes, counts, plan, r, name,
         ),
@@ -336,7 +328,7 @@ fn plan_row(
     z: u32,
     from: usize,
     i: usize,
-) -> Planned
+) -> Result<PlanState, Refused>
     requires { Serves names.old chains.old scopes.now plan × Covers entered.now known.now plan.entered }
     ensures { ((result & names.new & counts.new) ≡ plan_ref_t entered.now names.old scopes.now counts.old plan (record { space = space; at = at; paths = paths; z = z; row = row_number from i })) × GrownBy result plan names.new chains.new }
 {
@@ -362,7 +354,7 @@ fn plan_operands(
     scopes: &[Scope],
     counts: &mut [u32],
     plan: PlanState,
-) -> Planned
+) -> Result<PlanState, Refused>
     requires { Serves names.old chains.old scopes.now plan × Covers entered.now known.now plan.entered }
     ensures { ((result & names.new & counts.new) ≡ plan_operands_t field.now entered.now names.old scopes.now counts.old plan plan.at 1 (length field.now / 16 - 1)) × GrownBy result plan names.new chains.new }
 {
@@ -384,7 +376,7 @@ fn plan_operands(
                     k,
                 );
                 match planned {
-                    Planned::Done(next) => {
+                    Ok(next) => {
                         // Part by part: copied whole, it takes the bytes behind its last part with it, and they are waited for.
                         p = PlanState {
                             at: next.at,
@@ -397,14 +389,14 @@ fn plan_operands(
                             early: next.early,
                         };
                     }
-                    Planned::Refused(_, _) => return planned,
+                    Err(_) => return planned,
                 }
             }
-            Row::Open { kind: _, name: _ } => return Planned::Done(p),
+            Row::Open { kind: _, name: _ } => return Ok(p),
             _ => {}
         }
     }
-    Planned::Done(p)
+    Ok(p)
 }
 
 // The DECLs of one field.
@@ -457,12 +449,12 @@ fn plan_insertions(
     scopes: &[Scope],
     counts: &mut [u32],
     plan: PlanState,
-) -> Planned
+) -> Result<PlanState, Refused>
     requires { Serves names.old chains.old scopes.now plan × Covers entered.now known.now plan.entered }
     ensures { ((result & names.new & counts.new) ≡ plan_insertions_t field.now entered.now names.old scopes.now counts.old plan) × GrownBy result plan names.new chains.new }
 {
     if here_only(field_code(field)) {
-        return Planned::Done(plan);
+        return Ok(plan);
     }
     plan_operands(field, entered, known, names, chains, scopes, counts, plan)
 }
@@ -477,17 +469,17 @@ fn plan_field(
     scopes: &[Scope],
     counts: &mut [u32],
     plan: PlanState,
-) -> Planned
+) -> Result<PlanState, Refused>
     requires { Serves names.old chains.old scopes.now plan × Covers entered.now known.now plan.entered }
     ensures { ((result & names.new & counts.new) ≡ plan_field_t field.now entered.now names.old scopes.now counts.old plan) × GrownBy result plan names.new chains.new }
 {
     let planned = plan_insertions(field, entered, known, names, chains, scopes, counts, plan);
     match planned {
-        Planned::Refused(_, _) => planned,
-        Planned::Done(p) => {
+        Err(_) => planned,
+        Ok(p) => {
             let mut next = p;
             next.used = plan_decls(field, names, chains, counts, p.at, p.used);
-            Planned::Done(next)
+            Ok(next)
         }
     }
 }
@@ -519,7 +511,7 @@ fn plan_next(
     scopes: &[Scope],
     counts: &mut [u32],
     plan: PlanState,
-) -> Planned
+) -> Result<PlanState, Refused>
     requires { Serves names.old chains.old scopes.now plan × Covers entered.now known.now plan.entered }
     ensures { ((result & names.new & counts.new) ≡ plan_next_t rows.now ends.now entered.now names.old scopes.now counts.old plan) × GrownBy result plan names.new chains.new }
 {
@@ -527,10 +519,8 @@ fn plan_next(
     let field = field_rows(rows, ends, at);
     let planned = plan_field(field, entered, known, names, chains, scopes, counts, plan);
     match planned {
-        Planned::Done(next) => {
-            Planned::Done(moved(next, row_number(at, field.len() / 16) as usize))
-        }
-        Planned::Refused(_, _) => planned,
+        Ok(next) => { Ok(moved(next, row_number(at, field.len() / 16) as usize)) }
+        Err(_) => planned,
     }
 }
 
@@ -545,7 +535,7 @@ fn plan_fields(
     scopes: &[Scope],
     counts: &mut [u32],
     plan: PlanState,
-) -> Planned
+) -> Result<PlanState, Refused>
     requires { Serves names.old chains.old scopes.now plan × Covers entered.now known.now plan.entered }
     ensures { ((result & names.new & counts.new) ≡ plan_fields_t rows.now ends.now entered.now names.old scopes.now counts.old plan (length rows.now / 16)) × GrownBy result plan names.new chains.new }
 {
@@ -554,17 +544,17 @@ fn plan_fields(
     while 0 < turns {
         turns -= 1;
         if code_at(rows, p.at) != FIELD {
-            return Planned::Done(p);
+            return Ok(p);
         }
         let planned = plan_next(rows, ends, entered, known, names, chains, scopes, counts, p);
         match planned {
-            Planned::Done(next) => {
+            Ok(next) => {
                 p = next;
             }
-            Planned::Refused(_, _) => return planned,
+            Err(_) => return planned,
         }
     }
-    Planned::Done(p)
+    Ok(p)
 }
 
 // The scope whose first field is at the plan's row.
@@ -577,7 +567,7 @@ pub fn plan_scope(
     chains: &mut [u16],
     scopes: &[Scope],
     plan: PlanState,
-) -> Planned
+) -> Result<PlanState, Refused>
     requires { Serves names.old chains.old scopes.now plan × Covers entered.now known.now plan.entered }
     ensures { ((result & names.new) ≡ plan_scope_t rows.now ends.now entered.now names.old scopes.now plan) × GrownBy result plan names.new chains.new }
 {

@@ -1,4 +1,5 @@
 -- Ways through the code that reads rows.
+use Rattle.std.specs.Prelude.{Option, Some, None, ℕ}
 use mathlib.Core.Path.{◌≡◌, refl, sym, ap, ◌∙◌}
 use mathlib.Core.Bool.{Bool, true, false, ◌&&◌, not, or-false, and-true, and-false}
 use mathlib.Core.Option.{Option, none, some}
@@ -23,8 +24,6 @@ use Rattle.rows.proofs.Laws.{unsound, no_such_row, sound_field, sound_decl, soun
 use Rattle.codes.specs.Values.{as_option, in_rows, Allows}
 use Rattle.kit.proofs.Tables.{same_at}
 use Rattle.codes.proofs.Laws.{declares_past}
-use Rattle.field_codes.specs.declared.Inner.{Inner}
-use Rattle.field_codes.specs.declared.Inner.TheVariants as inner
 use Rattle.wants.specs.States.{left_of, entry, ref_entry, outer_entry, Right}
 use Rattle.shapes.specs.Starts.{parts_by, known, bare_parts}
 use Rattle.wants.proofs.Laws.{left_before, left_at, is_some, stands}
@@ -192,20 +191,20 @@ module _ (s : ReadState) where
       pub open_kind : b ≡ false → false ≡ may_open_t (current_in s) kind name
       open_kind g = sym (open_as ∙ rw (← x, g) (simp and-false))
 
-module _ (code : ℕ) (i : Inner) (o : as_option i ≡ opens code) where
-  pub opens_nothing : i ≡ inner.Nothing → true ≡ is_none (opens code)
+module _ (code : ℕ) (i : Option ℕ) (o : as_option i ≡ opens code) where
+  pub opens_nothing : i ≡ None → true ≡ is_none (opens code)
   unfolding as_option is_none
   opens_nothing e = rw (← o, e)
 
-  pub opens_some : (k : ℕ) → i ≡ inner.Kind k → false ≡ is_none (opens code)
+  pub opens_some : (k : ℕ) → i ≡ Some k → false ≡ is_none (opens code)
   unfolding as_option is_none
   opens_some k e = rw (← o, e)
 
-  pub other_kind : (kind : ℕ) → i ≡ inner.Nothing → false ≡ same_kind (opens code) kind
+  pub other_kind : (kind : ℕ) → i ≡ None → false ≡ same_kind (opens code) kind
   unfolding as_option same_kind
   other_kind kind e = rw (← o, e)
 
-  pub that_kind : (kind : ℕ) (k : ℕ) → i ≡ inner.Kind k → eqb k kind ≡ same_kind (opens code) kind
+  pub that_kind : (kind : ℕ) (k : ℕ) → i ≡ Some k → eqb k kind ≡ same_kind (opens code) kind
   unfolding as_option same_kind
   that_kind kind k e = rw (← o, e)
 

@@ -1,6 +1,6 @@
 -- The counting reading on rows is that of the rules, for every number at every place: the rows give a place's declaration exactly where the
 -- rules give that place. Where the rules give none, the rows give an inserted field's declaration, which has no place, or nothing.
-use Rattle.std.specs.Prelude.{◌≡◌, Bool, eqb}
+use Rattle.std.specs.Prelude.{◌≡◌, Bool, eqb, Option as CodeOption}
 use Rattle.std.proofs.Math.Path.{refl, ap, subst}
 use Rattle.std.proofs.Common.{sym, ◌∙◌}
 use Rattle.std.proofs.Math.Bool.{true, false}
@@ -25,7 +25,6 @@ use Rattle.places.specs.Counting.{levels, spot_of, elem_map, counted_row_lem, of
 use Rattle.places.proofs.RowAt.{all_at}
 use Rattle.places.proofs.LocatedAt.{AtItsWay, all_at_own_way}
 use Rattle.readings.specs.Meaning.{final_meaning}
-use Rattle.readings.specs.declared.Meaning.{Meaning}
 use Rattle.reading_laws.specs.Everywhere.{of_original, of_floors}
 use Rattle.reading_laws.specs.Outward.{row_meant, IsOriginal}
 use Rattle.reading_laws.specs.Outers.{JustOuter, alias_outer}
@@ -36,6 +35,7 @@ use Rattle.reading_laws.specs.Declared.{Declared, declared_at, inserted_at, Agre
 use Rattle.reading_laws.specs.Meant.{first_of, Rows, use_there, around, around_are, none_inserted_around}
 use Rattle.reading_laws.specs.Whole.{named, ref_row}
 use Rattle.reading_laws.specs.PlacesOriginal.{exactly}
+use Rattle.readings.specs.declared.Meaning.{Meaning}
 
 -- ---- inserted outer aliases count
 
@@ -147,14 +147,14 @@ module _ (s : Scope) (fs : List Floor) (own : All (AtItsWay s) fs) where
       go none q = nothing
       go (some x) q = agree_spot f out space n x e q (spot_of x) refl
 
-  agree_out : (os : List Operand) (m : Meaning) → OfNumbers os → Agree s fs (counted_out (levels fs) os) (said_out fs os m)
+  agree_out : (os : List Operand) (m : CodeOption Meaning) → OfNumbers os → Agree s fs (counted_out (levels fs) os) (said_out fs os m)
   unfolding counted_out said_out ◌then◌
   agree_out os m O =
       subst (λ (os : List Operand). Agree s fs (counted_out (levels fs) os) (said_out fs os m)) (sym O.are)
       (subst (λ (o : Option Level). Agree s fs (o then λ l. counted l O.space O.n then place l) (said_in (get_elem? fs O.up) O.up O.space O.n)) (sym (elem_map (λ (f : Floor). f.level) fs O.up))
       (agree_in (get_elem? fs O.up) O.up O.space O.n refl))
 
-  agree_behind : (f : Floor) (space n : ℕ) (x : Located) (m : Meaning) → get_elem? fs 0 ≡ some f → counted_row f space n ≡ some x → (spot : Spot) → spot_of x ≡ spot → Counts spot
+  agree_behind : (f : Floor) (space n : ℕ) (x : Located) (m : CodeOption Meaning) → get_elem? fs 0 ≡ some f → counted_row f space n ≡ some x → (spot : Spot) → spot_of x ≡ spot → Counts spot
       → Agree s fs (Readings.meant (levels fs) f.level spot) (said_behind fs spot (said (some x) n 0) m)
   unfolding Readings.meant said_behind when◌then◌else◌
   agree_behind f space n x m e q (original field at) t c = agree_spot f 0 space n x e q (original field at) t
@@ -169,7 +169,7 @@ module _ (s : Scope) (fs : List Floor) (own : All (AtItsWay s) fs) where
       go false b = itself
 
 -- a number in the innermost of these scopes
-agree_number : (s : Scope) (f : Floor) (rest : List Floor) → All (AtItsWay s) (f ∷ rest) → AliasesCount f → (named : Located → Meaning) (space n z : ℕ)
+agree_number : (s : Scope) (f : Floor) (rest : List Floor) → All (AtItsWay s) (f ∷ rest) → AliasesCount f → (named : Located → CodeOption Meaning) (space n z : ℕ)
     → Agree s (f ∷ rest) (counting (levels (f ∷ rest)) (ref space (Num n) [] z)) (said_from (f ∷ rest) named 0 space n 0)
 unfolding counting said_from said_end ◌then◌ counted_row
 agree_number s f rest own counts named space n z =
@@ -204,7 +204,7 @@ module _ (form : List ℕ) (s : Scope) (rules : RuleSet) (good : GoodScope rules
       let m = named form in
       let rows : final_meaning form r ≡ said_from fs m 0 space n 0 = (ref_row form s rules good R p r at space n [] z e).1 in
       let reads : counting_reading s p ≡ counting (levels fs) (ref space (Num n) [] z) = counting_is ∙ ap (counting (levels fs)) same in
-      subst (λ (k : Meaning). Agree s (around form s R p r at) (counting_reading s p) k) (sym rows)
+      subst (λ (k : CodeOption Meaning). Agree s (around form s R p r at) (counting_reading s p) k) (sym rows)
       (subst (λ (o : Option Place). Agree s (around form s R p r at) o (said_from fs m 0 space n 0)) (sym reads) (agree_number s U.f U.rest own counts m space n z))
 
   pub counting_input : LowScope s → (space n z : ℕ) → operand_at s p ≡ some (ref space (Num n) [] z) → Agree s (around form s R p r at) (counting_reading s p) (final_meaning form r)

@@ -1,5 +1,5 @@
 -- A declaration that is meant, with all that is said of it: its row, its number, how far out it is, its name.
-use Rattle.std.specs.Prelude.{◌≡◌, refl, Bool, true, false, List, [], ◌∷◌, ◌++◌, ℕ, suc, ◌+◌, ◌-◌, ◌/◌, ◌≤◌, ◌<◌, eqb, ltb, length}
+use Rattle.std.specs.Prelude.{◌≡◌, refl, Bool, true, false, List, [], ◌∷◌, ◌++◌, ℕ, suc, ◌+◌, ◌-◌, ◌/◌, ◌≤◌, ◌<◌, eqb, ltb, length, Option as CodeOption, Some, None}
 use Rattle.std.proofs.Common.{ap, sym, ◌∙◌, arith, ltb-true}
 use Rattle.std.proofs.Math.Path.{subst}
 use Rattle.std.proofs.Math.Option.{Option, none, some}
@@ -17,13 +17,12 @@ use Rattle.places.proofs.RowAt.{decl_row_of, all_at, counted_row_is}
 use Rattle.places.proofs.RowsApart.{elem_lt}
 use Rattle.places.proofs.LocatedAt.{AtItsWay, located_place}
 use Rattle.row_parts.specs.Parts.{x_at, rows_in}
-use Rattle.readings.specs.declared.Meaning.{Meaning}
-use Rattle.readings.specs.declared.Meaning.TheVariants.{At as MeantAt, Nowhere}
 use Rattle.reading_laws.specs.Stand.{Is, At, x_part, at_elem}
+use Rattle.readings.specs.declared.Meaning.{Meaning}
 
 -- The meaning is the declaration at the place `d`: it stands in the scope that is `out` out, as the number-th of its space there, and its
 -- row and its name are those of the tree.
-pub record Declared (s : Scope) (fs : List Floor) (d : Place) (m : Meaning) : Type 0 where
+pub record Declared (s : Scope) (fs : List Floor) (d : Place) (m : CodeOption Meaning) : Type 0 where
   pub f : Floor
   pub out : ℕ
   pub x : Located
@@ -33,10 +32,10 @@ pub record Declared (s : Scope) (fs : List Floor) (d : Place) (m : Meaning) : Ty
   pub counts : counted_row f x.standing.decl.space number ≡ some x
   pub is_decl_lem : decl_at s d ≡ some x.standing.decl
   pub is_row : row_of_decl s d ≡ some x.row
-  pub is : m ≡ MeantAt x.row number out x.standing.decl.name
+  pub is : m ≡ Some (record { row = x.row; number = number; out = out; name = x.standing.decl.name })
 
 -- The meaning is a declaration of an inserted field, which has no place.
-pub record OfInserted (fs : List Floor) (m : Meaning) : Type 0 where
+pub record OfInserted (fs : List Floor) (m : CodeOption Meaning) : Type 0 where
   pub f : Floor
   pub out : ℕ
   pub x : Located
@@ -46,19 +45,19 @@ pub record OfInserted (fs : List Floor) (m : Meaning) : Type 0 where
   pub counts : counted_row f x.standing.decl.space number ≡ some x
   pub spot : spot_of x ≡ inserted h
   pub new : is_inserted h ≡ true
-  pub is : m ≡ MeantAt x.row number out x.standing.decl.name
+  pub is : m ≡ Some (record { row = x.row; number = number; out = out; name = x.standing.decl.name })
 
 -- What the rules' reading gives, and what the rows mean.
-pub data Agree (s : Scope) (fs : List Floor) : Option Place → Meaning → Type 0 where
+pub data Agree (s : Scope) (fs : List Floor) : Option Place → CodeOption Meaning → Type 0 where
   -- a place: its declaration
-  a_place : {d : Place} {m : Meaning} → Declared s fs d m → Agree s fs (some d) m
+  a_place : {d : Place} {m : CodeOption Meaning} → Declared s fs d m → Agree s fs (some d) m
   -- none: the declaration of an inserted field, as of an export alias
-  an_inserted : {m : Meaning} → OfInserted fs m → Agree s fs none m
+  an_inserted : {m : CodeOption Meaning} → OfInserted fs m → Agree s fs none m
   -- none: nothing, where there is no such number or no such scope
-  nothing : Agree s fs none Nowhere
+  nothing : Agree s fs none None
 
 -- a place is its declaration
-pub the_place : (s : Scope) (fs : List Floor) (d : Place) (m : Meaning) (o : Option Place) → o ≡ some d → Agree s fs o m → Declared s fs d m
+pub the_place : (s : Scope) (fs : List Floor) (d : Place) (m : CodeOption Meaning) (o : Option Place) → o ≡ some d → Agree s fs o m → Declared s fs d m
 the_place s fs d m (some c) e (a_place D) = subst (λ (c : Place). Declared s fs c m) (some_same c d e) D
 the_place s fs d m none e (an_inserted I) = no_option d e
 the_place s fs d m none e nothing = no_option d e
@@ -110,7 +109,7 @@ place_way l (original field at) d e = ap (λ (p : Place). p.way) (sym (some_same
 place_way l (inserted h) d e = no_option d e
 
 module _ (s : Scope) (fs : List Floor) (f : Floor) (out space n : ℕ) (x : Located) (around : get_elem? fs out ≡ some f) (q : counted_row f space n ≡ some x) where
-  pub declared_at : AtItsWay s f → (d : Place) → place f.level (spot_of x) ≡ some d → Declared s fs d (MeantAt x.row n out x.standing.decl.name)
+  pub declared_at : AtItsWay s f → (d : Place) → place f.level (spot_of x) ≡ some d → Declared s fs d (Some (record { row = x.row; number = n; out = out; name = x.standing.decl.name }))
   declared_at own d e =
       let L = located_place s f space n x d own q e in
       record {
@@ -126,7 +125,7 @@ module _ (s : Scope) (fs : List Floor) (f : Floor) (out space n : ℕ) (x : Loca
         is = refl;
       }
 
-  pub inserted_at : (h : Head) → spot_of x ≡ inserted h → OfInserted fs (MeantAt x.row n out x.standing.decl.name)
+  pub inserted_at : (h : Head) → spot_of x ≡ inserted h → OfInserted fs (Some (record { row = x.row; number = n; out = out; name = x.standing.decl.name }))
   unfolding counted_row
   inserted_at h e =
       record {

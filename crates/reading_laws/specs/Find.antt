@@ -1,5 +1,5 @@
 -- The search for a declaration goes through the rows of a scope's fields as through the scope's declarations.
-use Rattle.std.specs.Prelude.{◌≡◌, ◌&&◌}
+use Rattle.std.specs.Prelude.{◌≡◌, ◌&&◌, Option as CodeOption, Some, None}
 use Rattle.std.proofs.Math.Path.{refl, ap, subst}
 use Rattle.std.proofs.Common.{sym, ◌∙◌, arith}
 use Rattle.std.proofs.Math.Bool.{false}
@@ -21,10 +21,9 @@ use Rattle.places.proofs.RowAt.{decls_of, own_decls}
 use Rattle.row_parts.specs.Parts.{code_at, b_at, x_at, rows_in}
 use Rattle.scopes.specs.Scopes.{level_behind, declares, is_meant, find_from, find_in}
 use Rattle.scopes.specs.declared.Key.{Key}
-use Rattle.scopes.specs.declared.Found.{Found}
-use Rattle.scopes.specs.declared.Found.TheVariants.{At as FoundAt, Nothing}
 use Rattle.reading_laws.specs.Stand.{Is, At, code_part, b_part, x_part, behind, behind_length, behind_append, at_left, at_right}
 use Rattle.reading_laws.specs.Even.{code_of, Even, nothing, flat, nest, fields_even}
+use Rattle.scopes.specs.declared.Found.{Found}
 
 -- ---- turns of the search: one for each row
 
@@ -83,15 +82,15 @@ out_one level = omega arith
 -- ---- the declarations of a scope, gone through
 
 -- the first of a space by a name or a number, with `number` of that space before
-unfoldable pub search : (space : ℕ) → Key → (number : ℕ) → List Located → Found
-search space key number [] = Nothing
+unfoldable pub search : (space : ℕ) → Key → (number : ℕ) → List Located → CodeOption Found
+search space key number [] = None
 search space key number (x ∷ xs) =
     let here = eqb x.standing.decl.space space in
-    pick (here && is_meant key x.standing.decl.name number) (FoundAt x.row number)
+    pick (here && is_meant key x.standing.decl.name number) (Some (record { row = x.row; number = number }))
     (search space key (pick here (number + 1) number) xs)
 
 module _ (form : List ℕ) (space : ℕ) (key : Key) where
-  abbrev from : (row left level number : ℕ) → Found
+  abbrev from : (row left level number : ℕ) → CodeOption Found
   from row left level number = find_from form space key row left level number
 
   -- inside another scope
@@ -108,13 +107,13 @@ module _ (form : List ℕ) (space : ℕ) (key : Key) where
   unfolding find_from declares level_behind pick
   open_step row left number e = rw e
 
-  close_step : (row left number : ℕ) → code_at form row ≡ 8 → from row (suc left) 0 number ≡ Nothing
+  close_step : (row left number : ℕ) → code_at form row ≡ 8 → from row (suc left) 0 number ≡ None
   unfolding find_from pick
   close_step row left number e = rw e
 
   decl_step : (row left number : ℕ) (d : Declaration) → Is form row (Decl d.space d.name d.z)
       → from row (suc left) 0 number
-      ≡ pick (eqb d.space space && is_meant key d.name number) (FoundAt row number) (from (row + 1) left 0 (pick (eqb d.space space) (number + 1) number))
+      ≡ pick (eqb d.space space && is_meant key d.name number) (Some (record { row = row; number = number })) (from (row + 1) left 0 (pick (eqb d.space space) (number + 1) number))
   unfolding find_from declares level_behind encode pick
   decl_step row left number d e =
       let c : code_at form row ≡ 2 = ap code_part e in
@@ -171,7 +170,7 @@ module _ (form : List ℕ) (space : ℕ) (key : Key) where
       let t = eqb s.decl.space space in
       let next : row + 1 ≡ suc row = add-one row in
       decl_step row (turns (decl_rows (decls_of ss)) left) number s.decl a.0
-      ∙ ap (λ (x : Found). pick (t && is_meant key s.decl.name number) (FoundAt row number) x)
+      ∙ ap (λ (x : CodeOption Found). pick (t && is_meant key s.decl.name number) (Some (record { row = row; number = number })) x)
       (scan_decls ss (row + 1) left (pick t (number + 1) number) rest a.1 K ∙ ap (λ (n : ℕ). search space key (pick t (number + 1) number) (in_rows n ss ++ rest)) next)
 
   -- a field without the scope that it may hold

@@ -1,6 +1,6 @@
 -- Names that are looked up in one scope: the operands of here_only_lem fields, the instance where PATHs start, the named index of an OUTER. The
 -- rows give the declaration whose number the rules' `find` gives among the declarations of that scope.
-use Rattle.std.specs.Prelude.{◌≡◌, Bool, ◌&&◌, length}
+use Rattle.std.specs.Prelude.{◌≡◌, Bool, ◌&&◌, length, Option as CodeOption, Some, None}
 use Rattle.std.proofs.Math.Path.{refl, ap, subst}
 use Rattle.std.proofs.Common.{sym, ◌∙◌}
 use Rattle.std.proofs.Math.Bool.{true, false, not}
@@ -28,12 +28,7 @@ use Rattle.row_parts.specs.Parts.{code_at, b_at, e_at, x_at, y_at, field_of}
 use Rattle.scopes.specs.Scopes.{scope_of, is_meant, find_in, scope_outward}
 use Rattle.readings.specs.Meaning.{space_sought, is_walked, reading_of, meant, in_scope, in_outer, key_of, outer_wanted, index_key, through_outer, meaning_of}
 use Rattle.scopes.specs.declared.Key.TheVariants.{Name}
-use Rattle.scopes.specs.declared.Found.TheVariants.{At as FoundAt, Nothing}
 use Rattle.scopes.specs.declared.Wanted.TheVariants.{Out}
-use Rattle.scopes.specs.declared.Outer.{Outer as OuterScope}
-use Rattle.scopes.specs.declared.Outer.TheVariants.{At as OuterAt}
-use Rattle.readings.specs.declared.Meaning.{Meaning}
-use Rattle.readings.specs.declared.Meaning.TheVariants.{At as MeantAt, Nowhere}
 use Rattle.reading_laws.specs.Stand.{Is, code_part, b_part, e_part, x_part, y_part}
 use Rattle.reading_laws.specs.Find.{search, find_in_lem}
 use Rattle.reading_laws.specs.Floors.{Stands, Chain, first_row}
@@ -43,14 +38,16 @@ use Rattle.reading_laws.specs.Number.{stands_at}
 use Rattle.reading_laws.specs.Operands.{Used, operand_used}
 use Rattle.reading_laws.specs.Said.{said, sought}
 use Rattle.reading_laws.specs.Meant.{Rows, use_there, around}
+use Rattle.readings.specs.declared.Meaning.{Meaning}
+use Rattle.scopes.specs.declared.Outer.{Outer}
 
 -- what the tree says of a name in a scope that is `out` out: the declaration of the number that is found
-unfoldable pub said_number : Floor → (out space : ℕ) → Option ℕ → Meaning
-said_number f out space none = Nowhere
+unfoldable pub said_number : Floor → (out space : ℕ) → Option ℕ → CodeOption Meaning
+said_number f out space none = None
 said_number f out space (some n) = said (counted_row f space n) n out
 
-unfoldable pub said_name : Option Floor → (out space name : ℕ) → Meaning
-said_name none out space name = Nowhere
+unfoldable pub said_name : Option Floor → (out space name : ℕ) → CodeOption Meaning
+said_name none out space name = None
 said_name (some f) out space name = said_number f out space (find (declarations f.level.fields) space name)
 
 -- ---- the search finds what `find` finds
@@ -59,7 +56,7 @@ abbrev decl_of : Located → Declaration
 decl_of x = x.standing.decl
 
 module _ (space name : ℕ) (is_name : eqb name 0 ≡ false) where
-  find_none : (xs : List Located) (start : ℕ) → find (map decl_of xs) space name ≡ none → search space (Name name) start xs ≡ Nothing
+  find_none : (xs : List Located) (start : ℕ) → find (map decl_of xs) space name ≡ none → search space (Name name) start xs ≡ None
   unfolding search find when◌then◌else◌
   find_none [] start e = refl
   find_none (x ∷ xs) start e = go (eqb (decl_of x).space space) (eqb (decl_of x).name name) refl e (λ n q. find_none xs n q)
@@ -70,8 +67,8 @@ module _ (space name : ℕ) (is_name : eqb name 0 ≡ false) where
 
       go : (b c : Bool) → eqb (decl_of x).name name ≡ c
           → (when b then when c then some 0 else Option.map suc (find (map decl_of xs) space name) else find (map decl_of xs) space name) ≡ none
-          → ((n : ℕ) → find (map decl_of xs) space name ≡ none → search space (Name name) n xs ≡ Nothing)
-          → pick (b && is_meant (Name name) (decl_of x).name start) (FoundAt x.row start) (search space (Name name) (pick b (start + 1) start) xs) ≡ Nothing
+          → ((n : ℕ) → find (map decl_of xs) space name ≡ none → search space (Name name) n xs ≡ None)
+          → pick (b && is_meant (Name name) (decl_of x).name start) (Some (record { row = x.row; number = start })) (search space (Name name) (pick b (start + 1) start) xs) ≡ None
       go true true q e below = no_option 0 (sym e)
       go true false q e below = sym (no! _ (by_name_lem space name is_name (decl_of x).name start ∙ q) refl) ∙ below _ (map_none _ e)
       go false c q e below = sym (no! _ refl refl) ∙ below _ e
@@ -79,7 +76,7 @@ module _ (space name : ℕ) (is_name : eqb name 0 ≡ false) where
   record Finds (start n : ℕ) (xs ys : List Located) : Type 0 where
     x : Located
     counts : get_elem? ys n ≡ some x
-    finds : search space (Name name) start xs ≡ FoundAt x.row (start + n)
+    finds : search space (Name name) start xs ≡ Some (record { row = x.row; number = start + n })
 
   find_some : (xs : List Located) (start n : ℕ) → find (map decl_of xs) space name ≡ some n → Finds start n xs (located_of xs space)
   unfolding search find located_of when◌then◌else◌
@@ -100,7 +97,7 @@ module _ (space name : ℕ) (is_name : eqb name 0 ≡ false) where
           record {
             x = x;
             counts = ap (get_elem? (x ∷ located_of xs space)) (sym zeroth);
-            finds = sym (yes! _ (ap (λ (b : Bool). b && is_meant (Name name) (decl_of x).name start) p ∙ (by_name_lem space name is_name (decl_of x).name start ∙ q)) refl) ∙ ap (λ (k : ℕ). FoundAt x.row k) same;
+            finds = sym (yes! _ (ap (λ (b : Bool). b && is_meant (Name name) (decl_of x).name start) p ∙ (by_name_lem space name is_name (decl_of x).name start ∙ q)) refl) ∙ ap (λ (k : ℕ). Some (record { row = x.row; number = k })) same;
           }
       go true false p q e below =
           let L = less _ n e in
@@ -111,7 +108,7 @@ module _ (space name : ℕ) (is_name : eqb name 0 ≡ false) where
             x = H.x;
             counts = ap (get_elem? (x ∷ located_of xs space)) (sym one_more_lem) ∙ H.counts;
             finds = sym (no! _ (ap (λ (b : Bool). b && is_meant (Name name) (decl_of x).name start) p ∙ (by_name_lem space name is_name (decl_of x).name start ∙ q)) refl)
-                ∙ (ap (λ (k : ℕ). search space (Name name) k xs) (sym (yes! _ p refl)) ∙ (H.finds ∙ ap (λ (k : ℕ). FoundAt H.x.row k) on));
+                ∙ (ap (λ (k : ℕ). search space (Name name) k xs) (sym (yes! _ p refl)) ∙ (H.finds ∙ ap (λ (k : ℕ). Some (record { row = H.x.row; number = k })) on));
           }
       go false c p q e below =
           let H = below start n e in
@@ -139,11 +136,11 @@ decls_of_lem : (f : Floor) → map decl_of (located f.row 0 f.level.fields) ≡ 
 decls_of_lem f = decls_map (located f.row 0 f.level.fields) ∙ (ap decls_of (located_standings f.row 0 f.level.fields) ∙ standing_decls 0 f.level.fields)
 
 module _ (form : List ℕ) where
-  found_meant : (scope out space name row n : ℕ) → find_in form scope space (Name name) ≡ FoundAt row n → in_scope form scope out space (Name name) ≡ MeantAt row n out (x_at form row)
+  found_meant : (scope out space name row n : ℕ) → find_in form scope space (Name name) ≡ Some (record { row = row; number = n }) → in_scope form scope out space (Name name) ≡ Some (record { row = row; number = n; out = out; name = x_at form row })
   unfolding in_scope meant
   found_meant scope out space name row n e = rw e
 
-  none_meant : (scope out space name : ℕ) → find_in form scope space (Name name) ≡ Nothing → in_scope form scope out space (Name name) ≡ Nowhere
+  none_meant : (scope out space name : ℕ) → find_in form scope space (Name name) ≡ None → in_scope form scope out space (Name name) ≡ None
   unfolding in_scope meant
   none_meant scope out space name e = rw e
 
@@ -169,8 +166,8 @@ module _ (form : List ℕ) where
           let x = H.x in
           let same : 0 + n ≡ n = omega arith in
           let named : x_at form x.row ≡ (decl_of x).name = name_at form x.row (decl_of x) (D k f space n x there H.counts).0 in
-          found_meant f.row out space name x.row n (searched ∙ (H.finds ∙ ap (λ (m : ℕ). FoundAt x.row m) same))
-          ∙ (ap (λ (m : ℕ). MeantAt x.row n out m) named ∙ ap (λ (o : Option Located). said o n out) (sym H.counts))
+          found_meant f.row out space name x.row n (searched ∙ (H.finds ∙ ap (λ (m : ℕ). Some (record { row = x.row; number = m })) same))
+          ∙ (ap (λ (m : ℕ). Some (record { row = x.row; number = n; out = out; name = m })) named ∙ ap (λ (o : Option Located). said o n out) (sym H.counts))
 
   -- ---- rows
 
@@ -199,7 +196,7 @@ module _ (form : List ℕ) where
   -- in the scope that is this many out
   name_out_lem : (fs : List Floor) (d space name : ℕ) → eqb name 0 ≡ false → Chain form fs → DeclsAre form fs → in_outer form (scope_outward form (first_row fs) (Out d)) space (Name name) ≡ said_name (get_elem? fs d) d space name
   unfolding said_name in_outer
-  name_out_lem fs d space name is_name C D = ap (λ (o : OuterScope). in_outer form o space (Name name)) outward ∙ go (get_elem? fs d) refl
+  name_out_lem fs d space name is_name C D = ap (λ (o : CodeOption Outer). in_outer form o space (Name name)) outward ∙ go (get_elem? fs d) refl
     where
       same : d ≡ 0 + d
       same = omega arith
@@ -208,10 +205,10 @@ module _ (form : List ℕ) where
       outward = scope_outward_lem form (Out d) fs C ∙ ap (λ (k : ℕ). first_wanted form (Out k) 0 fs) same
 
       go : (o : Option Floor) → get_elem? fs d ≡ o → in_outer form (first_wanted form (Out (0 + d)) 0 fs) space (Name name) ≡ said_name o d space name
-      go none e = ap (λ (o : OuterScope). in_outer form o space (Name name)) (count_past form fs d 0 e)
+      go none e = ap (λ (o : CodeOption Outer). in_outer form o space (Name name)) (count_past form fs d 0 e)
       go (some f) e =
           let S = stands_at form fs d f C e in
-          ap (λ (o : OuterScope). in_outer form o space (Name name)) (count_out form fs d 0 f e ∙ ap (λ (k : ℕ). OuterAt f.row k) (sym same)) ∙ name_in_lem fs d f S.0 d space name is_name D e S.1
+          ap (λ (o : CodeOption Outer). in_outer form o space (Name name)) (count_out form fs d 0 f e ∙ ap (λ (k : ℕ). Some (record { scope = f.row; out = k })) (sym same)) ∙ name_in_lem fs d f S.0 d space name is_name D e S.1
 
 -- ---- the theorems
 

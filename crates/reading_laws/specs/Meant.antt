@@ -1,5 +1,5 @@
 -- On the rows of a tree with an input's names the outward reading gives the declaration at the place that the rules' outward reading gives.
-use Rattle.std.specs.Prelude.{◌≡◌, false, List, [], ◌∷◌, ℕ, suc, ◌+◌, ◌≤◌, eqb, length}
+use Rattle.std.specs.Prelude.{◌≡◌, false, List, [], ◌∷◌, ℕ, suc, ◌+◌, ◌≤◌, eqb, length, Option as CodeOption, Some, None}
 use Rattle.std.proofs.Math.Path.{refl, ap, subst}
 use Rattle.std.proofs.Common.{sym, ◌∙◌, arith}
 use Rattle.std.proofs.Math.Option.{Option, none, some}
@@ -25,14 +25,13 @@ use Rattle.row_parts.specs.Parts.{code_at, b_at, e_at, x_at, y_at, rows_in, fiel
 use Rattle.scopes.specs.Scopes.{scope_of}
 use Rattle.readings.specs.Meaning.{space_sought, is_walked, reading_of, outward_for, meaning_of}
 use Rattle.scopes.specs.declared.Wanted.TheVariants.{Declaring}
-use Rattle.readings.specs.declared.Meaning.{Meaning}
-use Rattle.readings.specs.declared.Meaning.TheVariants.{At as MeantAt, Nowhere}
 use Rattle.reading_laws.specs.Stand.{Is, At, code_part, b_part, e_part, x_part, y_part}
 use Rattle.reading_laws.specs.Floors.{Chain, first_row}
 use Rattle.reading_laws.specs.Everywhere.{of_original, of_floors}
 use Rattle.reading_laws.specs.Outward.{row_meant, scope_outward_lem, IsOriginal, NoneInserted, meant_in, outward_is, outward_declared}
 use Rattle.reading_laws.specs.Declared.{Declared, decls_stand, Agree, a_place, nothing}
 use Rattle.reading_laws.specs.Operands.{Used, used}
+use Rattle.readings.specs.declared.Meaning.{Meaning}
 
 -- ---- an input's names
 
@@ -86,10 +85,10 @@ module _ (form : List ℕ) where
   unfolding outward_for
   outward_at r space name fs C around s is_name = rw (around, scope_outward_lem form (Declaring space name) fs C)
 
-no_row : (m : Meaning) → row_meant m ≡ none → m ≡ Nowhere
+no_row : (m : CodeOption Meaning) → row_meant m ≡ none → m ≡ None
 unfolding row_meant
-no_row (MeantAt row number out name) e = no_option row (sym e)
-no_row Nowhere e = refl
+no_row (Some (record { row = row; number = number; out = out; name = name })) e = no_option row (sym e)
+no_row None e = refl
 
 -- the rows of a tree stand in a form
 pub record Rows (form : List ℕ) (s : Scope) : Type 0 where

@@ -1,5 +1,5 @@
 -- Going outward from row to row finds the declaration that going outward from scope to scope finds.
-use Rattle.std.specs.Prelude.{◌≡◌, Bool, ◌&&◌, not, length}
+use Rattle.std.specs.Prelude.{◌≡◌, Bool, ◌&&◌, not, length, Option as CodeOption, Some, None}
 use Rattle.std.proofs.Math.Path.{refl, ap, sym, subst}
 use Rattle.std.proofs.Common.{◌∙◌}
 use Rattle.std.proofs.Math.Bool.{true, false}
@@ -25,31 +25,28 @@ use Rattle.row_parts.specs.Parts.{code_at, x_at}
 use Rattle.scopes.specs.Scopes.{level_above, scope_above, scope_of, is_meant, find_in, declares_name, is_wanted, outward_from, scope_outward}
 use Rattle.readings.specs.Meaning.{meant, in_scope, in_outer}
 use Rattle.scopes.specs.declared.Key.TheVariants.{Name}
-use Rattle.scopes.specs.declared.Found.{Found}
-use Rattle.scopes.specs.declared.Found.TheVariants.{At as FoundAt, Nothing}
 use Rattle.scopes.specs.declared.Wanted.{Wanted}
 use Rattle.scopes.specs.declared.Wanted.TheVariants.{Out, Declaring}
-use Rattle.scopes.specs.declared.Outer.{Outer}
-use Rattle.scopes.specs.declared.Outer.TheVariants.{At as OuterAt, Nowhere as NoScope}
-use Rattle.readings.specs.declared.Meaning.{Meaning}
-use Rattle.readings.specs.declared.Meaning.TheVariants.{At as MeantAt, Nowhere}
 use Rattle.reading_laws.specs.Find.{search, find_in_lem}
 use Rattle.reading_laws.specs.Floors.{Stands, Chain, first_row}
 use Rattle.reading_laws.specs.Declared.{Declared, declared_at, DeclsAre, name_at}
+use Rattle.readings.specs.declared.Meaning.{Meaning}
+use Rattle.scopes.specs.declared.Found.{Found}
+use Rattle.scopes.specs.declared.Outer.{Outer}
 
 -- ---- the row of a meaning
 
 -- the row of the DECL that is meant
-unfoldable pub row_meant : Meaning → Option ℕ
-row_meant (MeantAt row number out name) = some row
-row_meant Nowhere = none
+unfoldable pub row_meant : CodeOption Meaning → Option ℕ
+row_meant (Some (record { row = row; number = number; out = out; name = name })) = some row
+row_meant None = none
 
 -- ---- scopes outward
 
 -- the first of these scopes that is wanted, where the first of them is `out` out
-unfoldable pub first_wanted : (form : List ℕ) → Wanted → (out : ℕ) → List Floor → Outer
-first_wanted form wanted out [] = NoScope
-first_wanted form wanted out (f ∷ fs) = pick (is_wanted form f.row out wanted) (OuterAt f.row out) (first_wanted form wanted (out + 1) fs)
+unfoldable pub first_wanted : (form : List ℕ) → Wanted → (out : ℕ) → List Floor → CodeOption Outer
+first_wanted form wanted out [] = None
+first_wanted form wanted out (f ∷ fs) = pick (is_wanted form f.row out wanted) (Some (record { scope = f.row; out = out })) (first_wanted form wanted (out + 1) fs)
 
 module _ (form : List ℕ) where
   scope_above_lem : (above level : ℕ) → scope_above form above level ≤ above
@@ -71,20 +68,20 @@ module _ (form : List ℕ) where
       omega (arith, rest, low, around, behind_open)
 
   module _ (wanted : Wanted) where
-    outward_end : (left out : ℕ) → outward_from form wanted left 0 out ≡ NoScope
+    outward_end : (left out : ℕ) → outward_from form wanted left 0 out ≡ None
     unfolding outward_from pick
     outward_end zero out = refl
     outward_end (suc left) out = refl
 
     outward_step : (f : Floor) (outer left out : ℕ) → Stands form f outer
-        → outward_from form wanted (suc left) f.row out ≡ pick (is_wanted form f.row out wanted) (OuterAt f.row out) (outward_from form wanted left outer (out + 1))
+        → outward_from form wanted (suc left) f.row out ≡ pick (is_wanted form f.row out wanted) (Some (record { scope = f.row; out = out })) (outward_from form wanted left outer (out + 1))
     unfolding outward_from
     outward_step f outer left out S =
         let behind_open = S.behind_open in
         let there : eqb f.row 0 ≡ false = omega (tests, behind_open) in
         let up : f.row - 1 ≡ S.open_row = omega (arith, behind_open) in
         let next : scope_of form (f.row - 1) ≡ outer = ap (scope_of form) up ∙ S.around in
-        sym (no! _ there refl) ∙ ap (λ (r : ℕ). pick (is_wanted form f.row out wanted) (OuterAt f.row out) (outward_from form wanted left r (out + 1))) next
+        sym (no! _ there refl) ∙ ap (λ (r : ℕ). pick (is_wanted form f.row out wanted) (Some (record { scope = f.row; out = out })) (outward_from form wanted left r (out + 1))) next
 
     outward_chain : (fs : List Floor) (left out : ℕ) → Chain form fs → length fs ≤ left → outward_from form wanted left (first_row fs) out ≡ first_wanted form wanted out fs
     unfolding first_wanted
@@ -92,7 +89,7 @@ module _ (form : List ℕ) where
     outward_chain (f ∷ fs) zero out C h = absurd (omega arith)
     outward_chain (f ∷ fs) (suc left) out C h =
         outward_step f (first_row fs) left out C.0
-        ∙ ap (λ (x : Outer). pick (is_wanted form f.row out wanted) (OuterAt f.row out) x) (outward_chain fs left (out + 1) C.1 (omega arith))
+        ∙ ap (λ (x : CodeOption Outer). pick (is_wanted form f.row out wanted) (Some (record { scope = f.row; out = out })) x) (outward_chain fs left (out + 1) C.1 (omega arith))
 
     -- from the innermost of these scopes
     pub scope_outward_lem : (fs : List Floor) → Chain form fs → scope_outward form (first_row fs) wanted ≡ first_wanted form wanted 0 fs
@@ -100,19 +97,19 @@ module _ (form : List ℕ) where
     scope_outward_lem fs C = outward_chain fs (first_row fs) 0 C (chain_length fs C)
 
   -- this many scopes out
-  pub count_out : (fs : List Floor) (d out : ℕ) (f : Floor) → get_elem? fs d ≡ some f → first_wanted form (Out (out + d)) out fs ≡ OuterAt f.row (out + d)
+  pub count_out : (fs : List Floor) (d out : ℕ) (f : Floor) → get_elem? fs d ≡ some f → first_wanted form (Out (out + d)) out fs ≡ Some (record { scope = f.row; out = out + d })
   unfolding first_wanted
   count_out [] d out f e = no_option f e
   count_out (g ∷ fs) zero out f e =
       let here : eqb out (out + 0) ≡ true = omega tests in
       let same : out ≡ out + 0 = omega arith in
-      sym (yes! _ here refl) ∙ (ap (λ (h : Floor). OuterAt h.row out) (some_same g f e) ∙ ap (λ (n : ℕ). OuterAt f.row n) same)
+      sym (yes! _ here refl) ∙ (ap (λ (h : Floor). Some (record { scope = h.row; out = out })) (some_same g f e) ∙ ap (λ (n : ℕ). Some (record { scope = f.row; out = n })) same)
   count_out (g ∷ fs) (suc d) out f e =
       let not_here : eqb out (out + suc d) ≡ false = omega tests in
       let on : out + suc d ≡ (out + 1) + d = omega arith in
-      sym (no! _ not_here refl) ∙ (ap (λ (n : ℕ). first_wanted form (Out n) (out + 1) fs) on ∙ (count_out fs d (out + 1) f e ∙ ap (λ (n : ℕ). OuterAt f.row n) (sym on)))
+      sym (no! _ not_here refl) ∙ (ap (λ (n : ℕ). first_wanted form (Out n) (out + 1) fs) on ∙ (count_out fs d (out + 1) f e ∙ ap (λ (n : ℕ). Some (record { scope = f.row; out = n })) (sym on)))
 
-  pub count_past : (fs : List Floor) (d out : ℕ) → get_elem? fs d ≡ none → first_wanted form (Out (out + d)) out fs ≡ NoScope
+  pub count_past : (fs : List Floor) (d out : ℕ) → get_elem? fs d ≡ none → first_wanted form (Out (out + d)) out fs ≡ None
   unfolding first_wanted
   count_past [] d out e = refl
   count_past (g ∷ fs) zero out e = no_option g (sym e)
@@ -137,30 +134,30 @@ module _ (space name : ℕ) (is_name : eqb name 0 ≡ false) where
   tested : (x : Located) (number : ℕ) → (eqb x.standing.decl.space space && is_meant (Name name) x.standing.decl.name number) ≡ (eqb x.standing.decl.space space && eqb x.standing.decl.name name)
   tested x number = ap (λ (b : Bool). eqb x.standing.decl.space space && b) (by_name_lem x.standing.decl.name number)
 
-  pub named_none : (xs : List Located) (number : ℕ) → first_named (map standing xs) space name ≡ none → search space (Name name) number xs ≡ Nothing
+  pub named_none : (xs : List Located) (number : ℕ) → first_named (map standing xs) space name ≡ none → search space (Name name) number xs ≡ None
   unfolding search first_named when◌then◌else◌
   named_none [] number e = refl
   named_none (x ∷ xs) number e = go (eqb x.standing.decl.space space && eqb x.standing.decl.name name) refl e (λ n q. named_none xs n q)
     where
-      rest : Found
+      rest : CodeOption Found
       rest = search space (Name name) (pick (eqb x.standing.decl.space space) (number + 1) number) xs
 
       go : (b : Bool) → (eqb x.standing.decl.space space && eqb x.standing.decl.name name) ≡ b
           → (when b then some x.standing.spot else first_named (map standing xs) space name) ≡ none
-          → ((n : ℕ) → first_named (map standing xs) space name ≡ none → search space (Name name) n xs ≡ Nothing)
-          → pick (eqb x.standing.decl.space space && is_meant (Name name) x.standing.decl.name number) (FoundAt x.row number) rest ≡ Nothing
+          → ((n : ℕ) → first_named (map standing xs) space name ≡ none → search space (Name name) n xs ≡ None)
+          → pick (eqb x.standing.decl.space space && is_meant (Name name) x.standing.decl.name number) (Some (record { row = x.row; number = number })) rest ≡ None
       go true q e below = no_option x.standing.spot (sym e)
       go false q e below = sym (no! _ (tested x number ∙ q) refl) ∙ below _ e
 
   -- the entry that is found, with `start` of that space before: it is the count-th of those of the space, which are `ys`
-  pub record Hit (start : ℕ) (found : Found) (xs ys : List Located) (spot : Spot) : Type 0 where
+  pub record Hit (start : ℕ) (found : CodeOption Found) (xs ys : List Located) (spot : Spot) : Type 0 where
     pub x : Located
     pub k : ℕ
     pub at : get_elem? xs k ≡ some x
     pub is : x.standing.spot ≡ spot
     pub count : ℕ
     pub counts : get_elem? ys count ≡ some x
-    pub finds : found ≡ FoundAt x.row (start + count)
+    pub finds : found ≡ Some (record { row = x.row; number = start + count })
 
   pub named_some : (xs : List Located) (start : ℕ) (spot : Spot) → first_named (map standing xs) space name ≡ some spot → Hit start (search space (Name name) start xs) xs (located_of xs space) spot
   unfolding search first_named located_of when◌then◌else◌
@@ -170,7 +167,7 @@ module _ (space name : ℕ) (is_name : eqb name 0 ≡ false) where
       go : (b c : Bool) → eqb x.standing.decl.name name ≡ c
           → (when b && c then some x.standing.spot else first_named (map standing xs) space name) ≡ some spot
           → ((n : ℕ) → first_named (map standing xs) space name ≡ some spot → Hit n (search space (Name name) n xs) xs (located_of xs space) spot)
-          → Hit start (pick (b && is_meant (Name name) x.standing.decl.name start) (FoundAt x.row start) (search space (Name name) (pick b (start + 1) start) xs)) (x ∷ xs)
+          → Hit start (pick (b && is_meant (Name name) x.standing.decl.name start) (Some (record { row = x.row; number = start })) (search space (Name name) (pick b (start + 1) start) xs)) (x ∷ xs)
           (when b then x ∷ located_of xs space else located_of xs space) spot
       go true true q e below =
           let same : start ≡ start + 0 = omega arith in
@@ -181,7 +178,7 @@ module _ (space name : ℕ) (is_name : eqb name 0 ≡ false) where
             is = some_same _ spot e;
             count = 0;
             counts = refl;
-            finds = sym (yes! _ (by_name_lem x.standing.decl.name start ∙ q) refl) ∙ ap (λ (n : ℕ). FoundAt x.row n) same;
+            finds = sym (yes! _ (by_name_lem x.standing.decl.name start ∙ q) refl) ∙ ap (λ (n : ℕ). Some (record { row = x.row; number = n })) same;
           }
       go true false q e below =
           let H = below (start + 1) e in
@@ -194,7 +191,7 @@ module _ (space name : ℕ) (is_name : eqb name 0 ≡ false) where
             count = suc H.count;
             counts = H.counts;
             finds = sym (no! _ (by_name_lem x.standing.decl.name start ∙ q) refl)
-                ∙ (ap (λ (n : ℕ). search space (Name name) n xs) (sym (yes! _ refl refl)) ∙ (H.finds ∙ ap (λ (n : ℕ). FoundAt H.x.row n) on));
+                ∙ (ap (λ (n : ℕ). search space (Name name) n xs) (sym (yes! _ refl refl)) ∙ (H.finds ∙ ap (λ (n : ℕ). Some (record { row = H.x.row; number = n })) on));
           }
       go false c q e below =
           let H = below start e in
@@ -221,18 +218,18 @@ NoneInserted f = All (λ (x : Located). IsOriginal x.standing.spot) (located f.r
 
 module _ (form : List ℕ) (s : Scope) (space name : ℕ) (is_name : eqb name 0 ≡ false) where
   -- the meaning in the first of these scopes that has the name
-  abbrev pub meant_in : (out : ℕ) → List Floor → Meaning
+  abbrev pub meant_in : (out : ℕ) → List Floor → CodeOption Meaning
   meant_in out fs = in_outer form (first_wanted form (Declaring space name) out fs) space (Name name)
 
-  hit_finds : {found : Found} {xs ys : List Located} {spot : Spot} → (H : Hit space name is_name 0 found xs ys spot) → found ≡ FoundAt H.x.row H.count
-  hit_finds H = let same : 0 + H.count ≡ H.count = omega arith in H.finds ∙ ap (λ (n : ℕ). FoundAt H.x.row n) same
+  hit_finds : {found : CodeOption Found} {xs ys : List Located} {spot : Spot} → (H : Hit space name is_name 0 found xs ys spot) → found ≡ Some (record { row = H.x.row; number = H.count })
+  hit_finds H = let same : 0 + H.count ≡ H.count = omega arith in H.finds ∙ ap (λ (n : ℕ). Some (record { row = H.x.row; number = n })) same
 
   -- what is found there is meant
-  found_here : (f : Floor) (fs : List Floor) (out row number : ℕ) → find_in form f.row space (Name name) ≡ FoundAt row number → meant_in out (f ∷ fs) ≡ MeantAt row number out (x_at form row)
+  found_here : (f : Floor) (fs : List Floor) (out row number : ℕ) → find_in form f.row space (Name name) ≡ Some (record { row = row; number = number }) → meant_in out (f ∷ fs) ≡ Some (record { row = row; number = number; out = out; name = x_at form row })
   unfolding first_wanted declares_name in_outer in_scope meant pick
   found_here f fs out row number e = rw (e, e)
 
-  not_here : (f : Floor) (fs : List Floor) (out : ℕ) → find_in form f.row space (Name name) ≡ Nothing → meant_in out (f ∷ fs) ≡ meant_in (out + 1) fs
+  not_here : (f : Floor) (fs : List Floor) (out : ℕ) → find_in form f.row space (Name name) ≡ None → meant_in out (f ∷ fs) ≡ meant_in (out + 1) fs
   unfolding first_wanted declares_name pick
   not_here f fs out e = rw e
 
@@ -305,5 +302,5 @@ module _ (form : List ℕ) (s : Scope) (space name : ℕ) (is_name : eqb name 0 
           let at_place : place f.level (spot_of H.x) ≡ some d = ap (place f.level) H.is ∙ (P.1 ∙ ap {B = Option Place} some same) in
           let named : x_at form H.x.row ≡ H.x.standing.decl.name = name_at form H.x.row H.x.standing.decl (D 0 f space H.count H.x refl H.counts).0 in
           subst (Declared s all d)
-          (sym (found_here f fs out H.x.row H.count (search_is f (first_row fs) C.0 ∙ hit_finds H) ∙ ap (λ (n : ℕ). MeantAt H.x.row H.count out n) named))
+          (sym (found_here f fs out H.x.row H.count (search_is f (first_row fs) C.0 ∙ hit_finds H) ∙ ap (λ (n : ℕ). Some (record { row = H.x.row; number = H.count; out = out; name = n })) named))
           (declared_at s all f out space H.count H.x there H.counts o d at_place)

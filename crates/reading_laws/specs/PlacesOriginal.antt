@@ -1,5 +1,5 @@
 -- No place has the row of an inserted declaration. So the rows give the row of a place exactly if the rules give that place.
-use Rattle.std.specs.Prelude.{◌≡◌, Bool, true, false, ◌||◌}
+use Rattle.std.specs.Prelude.{◌≡◌, Bool, true, false, ◌||◌, Option as CodeOption}
 use Rattle.std.proofs.Math.Path.{refl, ap, sym, subst}
 use Rattle.std.proofs.Common.{◌∙◌}
 use Rattle.std.proofs.Math.Option.{Option, none, some}
@@ -20,7 +20,6 @@ use Rattle.places.specs.PlaceRows.{Placed, originals_from, Floor, floors_at, fie
 use Rattle.places.proofs.RowAt.{all_at}
 use Rattle.places.proofs.RowsApart.{elem_lt, decls_apart}
 use Rattle.row_parts.specs.Parts.{field_of}
-use Rattle.readings.specs.declared.Meaning.{Meaning}
 use Rattle.reading_laws.specs.Stand.{At, code_part, x_part, behind_length, at_left, at_right}
 use Rattle.reading_laws.specs.Even.{code_of}
 use Rattle.reading_laws.specs.Floors.{floors_chain}
@@ -31,6 +30,7 @@ use Rattle.reading_laws.specs.Operands.{field_step, field_self}
 use Rattle.reading_laws.specs.Declared.{OfInserted, Agree, a_place, an_inserted, nothing, the_place}
 use Rattle.reading_laws.specs.Meant.{Rows}
 use Rattle.reading_laws.specs.Whole.{spot_is}
+use Rattle.readings.specs.declared.Meaning.{Meaning}
 
 -- ---- what stands behind the DECLs of a field is no DECL
 
@@ -136,14 +136,14 @@ module _ (form : List ℕ) where
 -- ---- the theorem
 
 module _ (form : List ℕ) (s : Scope) (rules : RuleSet) (good : GoodScope rules s) (R : Rows form s) (way : List ℕ) (fs : List Floor) (are : floors_at s way ≡ some fs) where
-  is_inserted_lem : {m : Meaning} → (I : OfInserted fs m) → Inserted form I.f.row I.h I.x.standing.decl I.x.row
+  is_inserted_lem : {m : CodeOption Meaning} → (I : OfInserted fs m) → Inserted form I.f.row I.h I.x.standing.decl I.x.row
   is_inserted_lem I =
       let S = stands_at form fs I.out I.f (floors_chain form s way fs R.stand R.fit are) I.around in
       let G = all_at _ I.out I.f (floors_good rules s way fs good are) I.around in
       subst (λ spot. SpotIs form I.f.row spot I.x.standing.decl I.x.row) I.spot (spot_is form rules I.f S.0 S.1 G I.x.standing.decl.space I.number I.x I.counts)
 
   -- An inserted declaration is at no place's row.
-  pub no_place : {m : Meaning} → (I : OfInserted fs m) (d : Place) → row_of_decl s d ≡ some I.x.row → ⊥
+  pub no_place : {m : CodeOption Meaning} → (I : OfInserted fs m) (d : Place) → row_of_decl s d ≡ some I.x.row → ⊥
   unfolding row_of_decl decl_row field_at field_in
   no_place I d e =
       let row = I.x.row in
@@ -159,13 +159,13 @@ module _ (form : List ℕ) (s : Scope) (rules : RuleSet) (good : GoodScope rules
       go (g ∷ gs) q x e never = never (original_at form g.level.fields g.row d.field x (floors_chain form s d.way (g ∷ gs) R.stand R.fit q).0.fields e)
 
   -- So the rows give the row of a place exactly if the rules give that place.
-  pub exactly : (o : Option Place) (m : Meaning) → Agree s fs o m → (d : Place) (row : ℕ) → row_of_decl s d ≡ some row → (row_meant m ≡ some row → o ≡ some d) × (o ≡ some d → row_meant m ≡ some row)
+  pub exactly : (o : Option Place) (m : CodeOption Meaning) → Agree s fs o m → (d : Place) (row : ℕ) → row_of_decl s d ≡ some row → (row_meant m ≡ some row → o ≡ some d) × (o ≡ some d → row_meant m ≡ some row)
   unfolding row_meant
   exactly o m A d row e =
       let back : o ≡ some d → row_meant m ≡ some row = λ q. (let D = the_place s fs d m o q A in ap row_meant D.is ∙ (sym D.is_row ∙ e)) in
       (there o m A, back)
     where
-      there : (o : Option Place) (m : Meaning) → Agree s fs o m → row_meant m ≡ some row → o ≡ some d
+      there : (o : Option Place) (m : CodeOption Meaning) → Agree s fs o m → row_meant m ≡ some row → o ≡ some d
       there (some c) m (a_place D) q =
           let same : D.x.row ≡ row = some_same D.x.row row (sym (ap row_meant D.is) ∙ q) in
           ap {B = Option Place} some (decls_apart s c d row (D.is_row ∙ ap {B = Option ℕ} some same) e)

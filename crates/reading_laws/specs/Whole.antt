@@ -1,5 +1,5 @@
 -- Numbers on rows: what a REF or an OUTER of numbers means, and what it means in the end, is what the tree says, for every place.
-use Rattle.std.specs.Prelude.{◌≡◌, Bool, false, eqb, length}
+use Rattle.std.specs.Prelude.{◌≡◌, Bool, false, eqb, length, Option as CodeOption, Some}
 use Rattle.std.proofs.Math.Path.{refl, ap, sym, subst}
 use Rattle.std.proofs.Common.{◌∙◌}
 use Rattle.std.proofs.Math.Bool.{true}
@@ -27,8 +27,6 @@ use Rattle.row_parts.specs.Parts as parts
 use Rattle.scopes.specs.Scopes.{scope_above, scope_of}
 use Rattle.readings.specs.Meaning.{space_sought, reading_of, in_scope, key_of, meaning_of, through_outer, is_inserted_outer, behind, final_meaning}
 use Rattle.scopes.specs.declared.Key.TheVariants.{Number}
-use Rattle.readings.specs.declared.Meaning.{Meaning}
-use Rattle.readings.specs.declared.Meaning.TheVariants.{At as MeantAt}
 use Rattle.reading_laws.specs.Stand.{Is, At, code_part, b_part, e_part, x_part, y_part}
 use Rattle.reading_laws.specs.Even.{Even, nothing, flat, up_even}
 use Rattle.reading_laws.specs.Floors.{Stands, Chain, first_row, scope_behind, floors_chain}
@@ -38,6 +36,7 @@ use Rattle.reading_laws.specs.Operands.{Used, operand_used}
 use Rattle.reading_laws.specs.Declared.{DeclsAre, name_at, decls_stand}
 use Rattle.reading_laws.specs.Meant.{Rows, use_there, around}
 use Rattle.reading_laws.specs.Said.{said, said_in, said_out, said_behind, said_end, said_from, sought}
+use Rattle.readings.specs.declared.Meaning.{Meaning}
 
 -- ---- rows
 
@@ -82,7 +81,7 @@ module _ (form : List ℕ) where
     where
       go : (o : Option Located) → counted_row f space n ≡ o → in_scope form f.row out space (Number n) ≡ said o n out
       go none q = nothing_in form f beyond out space n S q
-      go (some x) q = meant_in_lem form f beyond out space n x S q ∙ ap (λ (name : ℕ). MeantAt x.row n out name) (name_at form x.row x.standing.decl (decls x q))
+      go (some x) q = meant_in_lem form f beyond out space n x S q ∙ ap (λ (name : ℕ). Some (record { row = x.row; number = n; out = out; name = name })) (name_at form x.row x.standing.decl (decls x q))
 
   -- an OUTER of two numbers
   outer_said : (fs : List Floor) (row space d n z : ℕ) → Chain form fs → DeclsAre form fs → scope_of form row ≡ first_row fs → Is form row (Outer space (Num d) (Num n) z)
@@ -92,7 +91,7 @@ module _ (form : List ℕ) where
     where
       counts : (f : Floor) → get_elem? fs d ≡ some f → (o : Option Located) → counted_row f space n ≡ o → through_outer form row ≡ said o n d
       counts f e none q = outer_nothing form fs row space d n z f C around is e q
-      counts f e (some x) q = outer_meant form fs row space d n z f x C around is e q ∙ ap (λ (name : ℕ). MeantAt x.row n d name) (name_at form x.row x.standing.decl (D d f space n x e q).0)
+      counts f e (some x) q = outer_meant form fs row space d n z f x C around is e q ∙ ap (λ (name : ℕ). Some (record { row = x.row; number = n; out = d; name = name })) (name_at form x.row x.standing.decl (D d f space n x e q).0)
 
       go : (o : Option Floor) → get_elem? fs d ≡ o → through_outer form row ≡ said_in o d space n
       go none e = outer_past form fs row space d n z C around is e
@@ -126,11 +125,11 @@ module _ (form : List ℕ) where
       let b : At form row (Field h.code h.builtin h.z ∷ decl_row_of d ∷ Outer space up at z ∷ (operand_rows more ++ export_rows h.export)) = rw (e₁, e₂) at a in
       ((b.0, (b.1.0, tt)), b.1.1.0)
 
-  behind_itself : (row n out name : ℕ) (m : Meaning) → is_inserted_outer form row ≡ false → m ≡ MeantAt row n out name → behind form m ≡ m
+  behind_itself : (row n out name : ℕ) (m : CodeOption Meaning) → is_inserted_outer form row ≡ false → m ≡ Some (record { row = row; number = n; out = out; name = name }) → behind form m ≡ m
   unfolding behind
   behind_itself row n out name m i e = ap (behind form) e ∙ (sym (no! _ i refl) ∙ sym e)
 
-  behind_alias : (row n out name : ℕ) (m : Meaning) → is_inserted_outer form row ≡ true → m ≡ MeantAt row n out name → behind form m ≡ through_outer form (next_of row)
+  behind_alias : (row n out name : ℕ) (m : CodeOption Meaning) → is_inserted_outer form row ≡ true → m ≡ Some (record { row = row; number = n; out = out; name = name }) → behind form m ≡ through_outer form (next_of row)
   unfolding behind
   behind_alias row n out name m i e = ap (behind form) e ∙ sym (yes! _ i refl)
 
@@ -200,7 +199,7 @@ module _ (form : List ℕ) where
         let here = D 0 f space n x refl q in
         go (spot_of x) (spot_is f (first_row rest) C.0 G space n x q) here.0 here.1
       where
-        m : Meaning
+        m : CodeOption Meaning
         m = said (some x) n out
 
         go : (spot : Spot) → SpotIs form f.row spot x.standing.decl x.row → Is form x.row (decl_row_of x.standing.decl) → x.row < 65535
@@ -234,7 +233,7 @@ module _ (form : List ℕ) where
 -- ---- the theorem
 
 -- what stands behind an inserted outer alias, where its OUTER has a name in it
-abbrev pub named : (form : List ℕ) → Located → Meaning
+abbrev pub named : (form : List ℕ) → Located → CodeOption Meaning
 named form x = through_outer form (next_of x.row)
 
 -- for a row in a scope, whether its field is inserted or not

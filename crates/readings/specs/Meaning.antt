@@ -1,20 +1,17 @@
 -- How a reference is read, and which declaration it means: by the outward reading where it is a walked name, by counting where it is a number.
-use Rattle.std.specs.Prelude.{Bool, true, false, List, ℕ, eqb}
+use Rattle.std.specs.Prelude.{Bool, true, false, List, ℕ, eqb, Option, Some, None}
 use Rattle.kit.specs.Pick.{pick}
 use Rattle.row_parts.specs.Parts.{code_at, b_at, e_at, x_at, y_at, next_of}
 use Rattle.scopes.specs.Scopes.{scope_of, find_in, scope_outward}
 use Rattle.scopes.specs.declared.Key.{Key}
 use Rattle.scopes.specs.declared.Key.TheVariants.{Name}
-use Rattle.scopes.specs.declared.Found.{Found}
-use Rattle.scopes.specs.declared.Found.TheVariants.{At as FoundAt, Nothing}
 use Rattle.scopes.specs.declared.Wanted.TheVariants.{Declaring}
-use Rattle.scopes.specs.declared.Outer.{Outer}
-use Rattle.scopes.specs.declared.Outer.TheVariants.{At as OuterAt, Nowhere as NoScope}
 unfoldable pub use Rattle.operands.specs.Operands.{space_sought, is_walked, outer_wanted, index_key, key_of, is_inserted_outer}
-use Rattle.readings.specs.declared.Meaning.{Meaning}
-use Rattle.readings.specs.declared.Meaning.TheVariants.{At, Nowhere}
 use Rattle.readings.specs.declared.Reading.{Reading}
 use Rattle.readings.specs.declared.Reading.TheVariants.{Outward, LookedUp, Counting}
+use Rattle.readings.specs.declared.Meaning.{Meaning}
+use Rattle.scopes.specs.declared.Found.{Found}
+use Rattle.scopes.specs.declared.Outer.{Outer}
 
 -- ---- readings
 
@@ -31,31 +28,31 @@ is_outward Counting = false
 -- ---- meanings
 
 -- what was found, `out` scopes out, with its name
-unfoldable pub meant : (form : List ℕ) → Found → (out : ℕ) → Meaning
-meant form (FoundAt row number) out = At row number out (x_at form row)
-meant form Nothing out = Nowhere
+unfoldable pub meant : (form : List ℕ) → Option Found → (out : ℕ) → Option Meaning
+meant form (Some (record { row = row; number = number })) out = Some (record { row = row; number = number; out = out; name = x_at form row })
+meant form None out = None
 
 -- what a scope that is `out` out declares
-unfoldable pub in_scope : (form : List ℕ) (scope out space : ℕ) → Key → Meaning
+unfoldable pub in_scope : (form : List ℕ) (scope out space : ℕ) → Key → Option Meaning
 in_scope form scope out space key = meant form (find_in form scope space key) out
 
 -- what the scope that was found declares
-unfoldable pub in_outer : (form : List ℕ) → Outer → (space : ℕ) → Key → Meaning
-in_outer form (OuterAt scope out) space key = in_scope form scope out space key
-in_outer form NoScope space key = Nowhere
+unfoldable pub in_outer : (form : List ℕ) → Option Outer → (space : ℕ) → Key → Option Meaning
+in_outer form (Some (record { scope = scope; out = out })) space key = in_scope form scope out space key
+in_outer form None space key = None
 
 -- the innermost scope around a row that declares a name
-unfoldable pub outward_for : (form : List ℕ) (row space name : ℕ) → Meaning
+unfoldable pub outward_for : (form : List ℕ) (row space name : ℕ) → Option Meaning
 outward_for form row space name = in_outer form (scope_outward form (scope_of form row) (Declaring space name)) space (Name name)
 
 -- the declaration at an OUTER's index in its outer scope
-unfoldable pub through_outer : (form : List ℕ) (row : ℕ) → Meaning
+unfoldable pub through_outer : (form : List ℕ) (row : ℕ) → Option Meaning
 through_outer form row =
     let e = e_at form row in
     in_outer form (scope_outward form (scope_of form row) (outer_wanted e (x_at form row))) (b_at form row) (index_key e (y_at form row))
 
 -- what a REF or an OUTER means; a number counts in its own scope, and no alias is followed
-unfoldable pub meaning_of : (form : List ℕ) (row : ℕ) → Meaning
+unfoldable pub meaning_of : (form : List ℕ) (row : ℕ) → Option Meaning
 meaning_of form row =
     let space = space_sought form row in
     pick (eqb (code_at form row) 5) (through_outer form row)
@@ -63,10 +60,10 @@ meaning_of form row =
     (in_scope form (scope_of form row) 0 space (key_of form row)))
 
 -- behind such an alias, what its OUTER counts to
-unfoldable pub behind : (form : List ℕ) → Meaning → Meaning
-behind form (At row number out name) = pick (is_inserted_outer form row) (through_outer form (next_of row)) (At row number out name)
-behind form Nowhere = Nowhere
+unfoldable pub behind : (form : List ℕ) → Option Meaning → Option Meaning
+behind form (Some (record { row = row; number = number; out = out; name = name })) = pick (is_inserted_outer form row) (through_outer form (next_of row)) (Some (record { row = row; number = number; out = out; name = name }))
+behind form None = None
 
 -- what a reference means in the end
-unfoldable pub final_meaning : (form : List ℕ) (row : ℕ) → Meaning
+unfoldable pub final_meaning : (form : List ℕ) (row : ℕ) → Option Meaning
 final_meaning form row = behind form (meaning_of form row)

@@ -14,14 +14,11 @@ use scopes::{Found, Key, Outer, Wanted, find_with, scope_outward_with};
 
 // The DECL row that is meant, its number in its scope, how many scopes out that is, and its name.
 #[derive(Clone, Copy)]
-pub enum Meaning {
-    At {
-        row: u16,
-        number: u32,
-        out: u32,
-        name: u32,
-    },
-    Nowhere,
+pub struct Meaning {
+    pub row: u16,
+    pub number: u32,
+    pub out: u32,
+    pub name: u32,
 }
 
 // How the operand of a row is read.
@@ -61,17 +58,17 @@ pub fn is_outward(form: &[u8], row: u16) -> bool
 }
 
 // What was found, `out` scopes out.
-fn meant(form: &[u8], found: Found, out: u32) -> Meaning
+fn meant(form: &[u8], found: Option<Found>, out: u32) -> Option<Option<Meaning>>
     ensures { result ≡ meant form.now found out }
 {
     match found {
-        Found::At { row, number } => Meaning::At {
+        Some(Found { row, number }) => Some(Meaning {
             row,
             number,
             out,
             name: x_at(form, row),
-        },
-        Found::Nothing => Meaning::Nowhere,
+        }),
+        None => None,
     }
 }
 
@@ -84,7 +81,7 @@ fn outward(
     row: u16,
     space: u8,
     name: u32,
-) -> Meaning
+) -> Option<Option<Meaning>>
     requires { Known form.now known.now names.now numbers.now }
     ensures { result ≡ outward_for form.now row space name }
 {
@@ -96,12 +93,12 @@ fn outward(
         scope_at(form, known, row),
         Wanted::Declaring { space, name },
     ) {
-        Outer::At { scope, out } => meant(
+        Some(Outer { scope, out }) => meant(
             form,
             find_with(form, known, names, numbers, scope, space, Key::Name(name)),
             out,
         ),
-        Outer::Nowhere => Meaning::Nowhere,
+        None => None,
     }
 }
 
@@ -112,7 +109,7 @@ pub fn through_outer_with(
     names: &[u16],
     numbers: &[u16],
     row: u16,
-) -> Meaning
+) -> Option<Option<Meaning>>
     requires { Known form.now known.now names.now numbers.now }
     ensures { result ≡ through_outer form.now row }
 {
@@ -125,7 +122,7 @@ pub fn through_outer_with(
         scope_at(form, known, row),
         outer_wanted(e, x_at(form, row)),
     ) {
-        Outer::At { scope, out } => meant(
+        Some(Outer { scope, out }) => meant(
             form,
             find_with(
                 form,
@@ -138,13 +135,19 @@ pub fn through_outer_with(
             ),
             out,
         ),
-        Outer::Nowhere => Meaning::Nowhere,
+        None => None,
     }
 }
 
 // The declaration that a REF or an OUTER means, found with the tables of the form where they are lent; a number counts in its own scope, and no
 // alias is followed.
-pub fn meaning_with(form: &[u8], known: &[u16], names: &[u16], numbers: &[u16], row: u16) -> Meaning
+pub fn meaning_with(
+    form: &[u8],
+    known: &[u16],
+    names: &[u16],
+    numbers: &[u16],
+    row: u16,
+) -> Option<Option<Meaning>>
     requires { Known form.now known.now names.now numbers.now }
     ensures { result ≡ meaning_of form.now row }
 {
@@ -171,41 +174,43 @@ pub fn meaning_with(form: &[u8], known: &[u16], names: &[u16], numbers: &[u16], 
 }
 
 // The declaration at an OUTER's index in its outer scope.
-pub fn through_outer(form: &[u8], row: u16) -> Meaning
+pub fn through_outer(form: &[u8], row: u16) -> Option<Option<Meaning>>
     ensures { result ≡ through_outer form.now row }
 {
     through_outer_with(form, &[], &[], &[], row)
 }
 
 // The declaration that a REF or an OUTER means; a number counts in its own scope, and no alias is followed.
-pub fn meaning_of(form: &[u8], row: u16) -> Meaning
+pub fn meaning_of(form: &[u8], row: u16) -> Option<Option<Meaning>>
     ensures { result ≡ meaning_of form.now row }
 {
     meaning_with(form, &[], &[], &[], row)
 }
 
 // What a reference means in the end: behind an inserted outer alias, the declaration that the alias's OUTER counts to.
-pub fn final_meaning(form: &[u8], row: u16) -> Meaning
+pub fn final_meaning(form: &[u8], row: u16) -> Option<Option<Meaning>>
     ensures { result ≡ final_meaning form.now row }
 {
     match meaning_of(form, row) {
-        Meaning::At {
-            row: decl,
-            number,
-            out,
-            name,
-        } => {
+        Some(
+            Meaning {
+                row: decl,
+                number,
+                out,
+                name,
+            },
+        ) => {
             if is_inserted_outer(form, decl) {
                 through_outer(form, next(decl))
             } else {
-                Meaning::At {
+                Some(Meaning {
                     row: decl,
                     number,
                     out,
                     name,
-                }
+                })
             }
         }
-        Meaning::Nowhere => Meaning::Nowhere,
+        None => None,
     }
 }

@@ -15,6 +15,13 @@ pub struct Told {
     pub first: u32,
 }
 
+// Why a step answers no rows: the refusal, and what it tells.
+#[derive(Clone, Copy)]
+pub struct Refused {
+    pub refusal: Refusal,
+    pub told: Told,
+}
+
 // The numbers. The header is not that of a form,
 pub const NOT_A_FORM: u32 = 1;
 

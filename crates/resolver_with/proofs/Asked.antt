@@ -1,4 +1,5 @@
 -- Which setting is asked for, and what the rules answer under it alone.
+use Rattle.std.specs.Prelude.{Result, Ok, Err, ℕ}
 use mathlib.Core.Path.{◌≡◌, refl, sym, ap, ◌∙◌}
 use mathlib.Core.Bool.{Bool, true, false, ◌||◌, not}
 use mathlib.Core.Option.{Option, none, some}
@@ -15,29 +16,29 @@ use Rattle.limits.specs.declared.Limits.{Limits}
 use Rattle.limits.specs.Held.{setting_in, limits_of, setting}
 use Rattle.limits.proofs.Laws.{stand_for}
 use Rattle.form.specs.Header.{header_in, header_for, header_to}
-use Rattle.form.specs.declared.header.Header.{Header}
-use Rattle.form.specs.declared.header.Header.TheVariants.{Rows, Wrong, Count}
+use Rattle.form.specs.declared.header.BadHeader.TheVariants.{Wrong, Count}
 use Rattle.resolver_with.specs.Asked.{first, asked_in, asked}
+use Rattle.form.specs.declared.header.BadHeader.{BadHeader}
 
 -- ---- asked_for
 
 -- a header that is not wrong is that of the setting
-some_rows : (s : Setting) (input : List ℕ) (b : Bool) (n : ℕ) → Rows n ≡ header_for (only b s) input → b ≡ true
+some_rows : (s : Setting) (input : List ℕ) (b : Bool) (n : ℕ) → Ok n ≡ header_for (only b s) input → b ≡ true
 unfolding header_for only
 some_rows s input true n e = refl
 some_rows s input false n e = let z : ◌≡◌ {A = ℕ} 0 1 = cc in absurd (omega arith)
 
-some_count : (s : Setting) (input : List ℕ) (b : Bool) → Count ≡ header_for (only b s) input → b ≡ true
+some_count : (s : Setting) (input : List ℕ) (b : Bool) → Err Count ≡ header_for (only b s) input → b ≡ true
 unfolding header_for only
 some_count s input true e = refl
 some_count s input false e = let z : ◌≡◌ {A = ℕ} 0 1 = cc in absurd (omega arith)
 
-not_wrong : {X : Type 0} (b : Bool) (n : ℕ) → Wrong ≡ (when b then Count else Rows n) → X
+not_wrong : {X : Type 0} (b : Bool) (n : ℕ) → Err Wrong ≡ (when b then Err Count else Ok n) → X
 unfolding when◌then◌else◌
 not_wrong true n e = let z : ◌≡◌ {A = ℕ} 0 1 = cc in absurd (omega arith)
 not_wrong false n e = let z : ◌≡◌ {A = ℕ} 0 1 = cc in absurd (omega arith)
 
-no_header : (s : Setting) (input : List ℕ) (b : Bool) → Wrong ≡ header_for (only b s) input → b ≡ false
+no_header : (s : Setting) (input : List ℕ) (b : Bool) → Err Wrong ≡ header_for (only b s) input → b ≡ false
 unfolding header_for header_in only
 no_header s input true e =
     not_wrong (not (between 1 s.version.rows (row_count s.version input)) || not (eqb (length input) (s.version.header + 16 * row_count s.version input))) (row_count s.version input) e
@@ -51,7 +52,7 @@ next_of (suc (suc zero)) h = refl
 next_of (suc (suc (suc i))) h = absurd (omega arith)
 
 module _ (input : List ℕ) (i : ℕ) (T : Setting) (inv : asked_in (drop i all) input ≡ T) where
-  module _ (h : i < 3) (l : Limits) (limits : l ≡ limits_of (setting i)) (said : Header) (got : said ≡ header_to l input) where
+  module _ (h : i < 3) (l : Limits) (limits : l ≡ limits_of (setting i)) (said : Result ℕ BadHeader) (got : said ≡ header_to l input) where
     of_setting : said ≡ header_for (only (has_header (setting i) input) (setting i)) input
     unfolding header_to
     of_setting = rw (limits, stand_for i) at got
@@ -64,13 +65,13 @@ module _ (input : List ℕ) (i : ℕ) (T : Setting) (inv : asked_in (drop i all)
     unfolding when◌then◌else◌
     hit e = rw e at turn
 
-    pub asked_rows : (n : ℕ) → said ≡ Rows n → setting i ≡ T
+    pub asked_rows : (n : ℕ) → said ≡ Ok n → setting i ≡ T
     asked_rows n e = hit (some_rows (setting i) input (has_header (setting i) input) n (sym e ∙ of_setting))
 
-    pub asked_count : said ≡ Count → setting i ≡ T
+    pub asked_count : said ≡ Err Count → setting i ≡ T
     asked_count e = hit (some_count (setting i) input (has_header (setting i) input) (sym e ∙ of_setting))
 
-    pub asked_on : said ≡ Wrong → asked_in (drop (i + 1) all) input ≡ T
+    pub asked_on : said ≡ Err Wrong → asked_in (drop (i + 1) all) input ≡ T
     unfolding when◌then◌else◌
     asked_on e = rw (no_header (setting i) input (has_header (setting i) input) (sym e ∙ of_setting)) at turn
 

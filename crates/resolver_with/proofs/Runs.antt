@@ -1,4 +1,5 @@
 -- Ways through the run.
+use Rattle.std.specs.Prelude.{Result, Ok, Err, ℕ}
 use mathlib.Core.Path.{◌≡◌, refl, sym, ap, ◌∙◌, subst}
 use mathlib.Core.Bool.{Bool, true, false, ◌&&◌}
 use mathlib.Core.List.{List, [], ◌∷◌, ◌++◌}
@@ -24,18 +25,13 @@ use Rattle.form.specs.MarkEnds.{ends_to}
 use Rattle.names.specs.Table.{Slot, empty_slot, no_scope}
 use Rattle.write.specs.WriteState.{Wrote}
 use Rattle.write.specs.declared.alias.WriteState.{WriteState}
-use Rattle.write.specs.declared.alias.Walked.{Walked}
 use Rattle.walk.specs.Scopes.{scope_walk_t, start_in}
 use Rattle.walk.specs.Open.{Served, Stacked}
 use Rattle.whole_form.specs.Whole.{form_of}
-use Rattle.whole_form.specs.declared.read.Form.{Form}
-use Rattle.whole_form.specs.declared.read.Form.TheVariants.{Whole, Refused as NotWhole}
 use Rattle.refusal.specs.Refusals.{untold}
 use Rattle.resolver.specs.Meaning.{meaning, ruled}
 use Rattle.resolver.specs.Admit.{admit, Enough}
 use Rattle.resolver.specs.Run.{seen_of, walk_in, fill_t}
-use Rattle.resolver.specs.declared.run.Answer.{Answer}
-use Rattle.resolver.specs.declared.run.Answer.TheVariants.{Refused}
 use Rattle.resolver.proofs.Bytes.{all_bytes}
 use Rattle.resolver.proofs.Starts.{served_new, stacked_start}
 use Rattle.resolver.proofs.Root.{Able, able_1, able_2, Rooms}
@@ -47,6 +43,7 @@ use Rattle.resolver_with.specs.Asked.{asked}
 use Rattle.resolver_with.specs.With.{answer_with, output_with, Ran}
 use Rattle.resolver_with.proofs.Asked.{answer_asked, output_asked}
 use Rattle.resolver_with.proofs.Zeros.{exact_is, cleared_is}
+use Rattle.refusal.specs.declared.Refused.{Refused}
 
 -- ---- what is in force
 
@@ -103,7 +100,7 @@ module _ (i : ℕ) (entered names : List Slot) (known chains ends : List ℕ) (s
     pub stacked_in : (early : Bool) (s : WriteState) → s ≡ start_in 0 0 early → Stacked (take most (replicate 64 no_scope)) s
     stacked_in early s e = rw stack_is (stacked_start (setting i).version.scopes early s e)
 
-    pub walk_whole : (rows noted out o : List ℕ) (e n : List Slot) (a : Walked) (early : Bool) (s : WriteState) (by : Limits) → early ≡ (setting i).rules.early → by ≡ limits_of (setting i) → s ≡ start_in 0 0 early → noted ≡ ends_to by.scopes rows ends
+    pub walk_whole : (rows noted out o : List ℕ) (e n : List Slot) (a : Result WriteState Refused) (early : Bool) (s : WriteState) (by : Limits) → early ≡ (setting i).rules.early → by ≡ limits_of (setting i) → s ≡ start_in 0 0 early → noted ≡ ends_to by.scopes rows ends
         → (a & e & n & o) ≡ scope_walk_t rows noted (length (take most (replicate 64 no_scope)) - s.depth) entered names (take most (replicate 64 no_scope)) out s → a & o ≡ walk_in (setting i) rows ends entered names out
     unfolding walk_in seen_of
     walk_whole rows noted out o e n a early s by f limits₂ b m w =
@@ -161,18 +158,18 @@ rooms_in i entered names known chains ends suits =
     let c = suits.ends in
     record { ends = omega arith; entered = omega arith; names = omega arith; entered_narrow = omega arith; names_narrow = omega arith }
 
-module _ (i : ℕ) (input old : List ℕ) (entered names : List Slot) (known chains ends : List ℕ) (enough : Bool) (exact : enough ≡ exactly (setting i).version (lent_of entered names known chains ends)) (room : ℕ) (roomy : room ≡ (when enough then length old else 0)) (f : Form) (said : f ≡ form_of (admit (setting i) input room)) where
-  pub refuses_in : (why : Refusal) → f ≡ NotWhole why → Ran (setting i) (exactly (setting i).version (lent_of entered names known chains ends)) input old old (Refused why untold)
+module _ (i : ℕ) (input old : List ℕ) (entered names : List Slot) (known chains ends : List ℕ) (enough : Bool) (exact : enough ≡ exactly (setting i).version (lent_of entered names known chains ends)) (room : ℕ) (roomy : room ≡ (when enough then length old else 0)) (f : Result ℕ Refusal) (said : f ≡ form_of (admit (setting i) input room)) where
+  pub refuses_in : (why : Refusal) → f ≡ Err why → Ran (setting i) (exactly (setting i).version (lent_of entered names known chains ends)) input old old (Err (record { refusal = why; told = untold }))
   refuses_in why e =
-      let q : NotWhole why ≡ form_of (admit (setting i) input room) = sym e ∙ said in
-      subst (λ (b : Bool). Ran (setting i) b input old old (Refused why untold)) exact
+      let q : Err why ≡ form_of (admit (setting i) input room) = sym e ∙ said in
+      subst (λ (b : Bool). Ran (setting i) b input old old (Err (record { refusal = why; told = untold }))) exact
       (record { answers = answers_early (setting i) input room why q ∙ ap (λ (n : ℕ). ruled (answer (setting i ∷ []) input n)) roomy; leaves = go enough roomy q })
     where
-      go : (b : Bool) → room ≡ (when b then length old else 0) → NotWhole why ≡ form_of (admit (setting i) input room) → old ≡ (when b then output (setting i ∷ []) input old else old)
+      go : (b : Bool) → room ≡ (when b then length old else 0) → Err why ≡ form_of (admit (setting i) input room) → old ≡ (when b then output (setting i ∷ []) input old else old)
       go true r q = unfold when◌then◌else◌ in leaves_early (setting i) input room why q old (sym r)
       go false r q = unfold when◌then◌else◌ in refl
 
-  module _ (fine : Enough f (setting i) input room) (rows : ℕ) (e : f ≡ Whole rows) where
+  module _ (fine : Enough f (setting i) input room) (rows : ℕ) (e : f ≡ Ok rows) where
     facts : ((setting i).version.header ≤ length input) × ((setting i).version.header + 64 * rows ≤ room) × (rows ≤ (setting i).version.rows)
     facts = rw e at fine
 
@@ -195,14 +192,14 @@ module _ (i : ℕ) (input old : List ℕ) (entered names : List Slot) (known cha
     pub has_room : (setting i).version.header + 64 * rows ≤ length old
     has_room = omega (arith, facts.1, is_room)
 
-    pub runs_in : (header : ℕ) → header ≡ (setting i).version.header → ((j : ℕ) → Fits w8 (get_or input j 0)) → (a : Answer) (k : List ℕ)
+    pub runs_in : (header : ℕ) → header ≡ (setting i).version.header → ((j : ℕ) → Fits w8 (get_or input j 0)) → (a : Result ℕ Refused) (k : List ℕ)
         → a & k ≡ fill_t (setting i) (walk_in (setting i) (take (length input - header) (drop header input)) ends entered names) (take (header + 64 * rows) old)
         → Ran (setting i) (exactly (setting i).version (lent_of entered names known chains ends)) input old (k ++ drop (header + 64 * rows) old) a
     unfolding when◌then◌else◌
     runs_in header q all a k w =
         let w' : a & k ≡ fill_t (setting i) (walk_in (setting i) (drop (setting i).version.header input) ends entered names) (take ((setting i).version.header + 64 * rows) old) =
         subst (λ (n : ℕ). a & k ≡ fill_t (setting i) (walk_in (setting i) (drop n input) ends entered names) (take (n + 64 * rows) old)) q (rw (all_behind header input) at w) in
-        let whole : Whole rows ≡ form_of (admit (setting i) input (length old)) = rw is_room at (sym e ∙ said) in
+        let whole : Ok rows ≡ form_of (admit (setting i) input (length old)) = rw is_room at (sym e ∙ said) in
         let g = run_agrees (setting i) (able_at i) input old (all_bytes input all) rows whole ends entered names (rooms_in i entered names known chains ends has_suits) a k w' in
         let left : k ++ drop (header + 64 * rows) old ≡ output (setting i ∷ []) input old = subst (λ (n : ℕ). k ++ drop (n + 64 * rows) old ≡ output (setting i ∷ []) input old) (sym q) g.1 in
         subst (λ (b : Bool). Ran (setting i) b input old (k ++ drop (header + 64 * rows) old) a) (sym is_enough ∙ exact)
@@ -210,8 +207,8 @@ module _ (i : ℕ) (input old : List ℕ) (entered names : List Slot) (known cha
 
 -- ---- run_cleared
 
-pub ran_as : (s : Setting) (enough : Bool) (input old new : List ℕ) (a b : Answer) → a ≡ b → Ran s enough input old new a → Ran s enough input old new b
-ran_as s enough input old new a b e r = subst (λ (x : Answer). Ran s enough input old new x) e r
+pub ran_as : (s : Setting) (enough : Bool) (input old new : List ℕ) (a b : Result ℕ Refused) → a ≡ b → Ran s enough input old new a → Ran s enough input old new b
+ran_as s enough input old new a b e r = subst (λ (x : Result ℕ Refused). Ran s enough input old new x) e r
 
 pub zeroed_as : (e e₁ e' n n₁ n' : List Slot) (k k₁ k' c c₁ c' m m₁ m' : List ℕ) → length e₁ ≡ length e → length n₁ ≡ length n → length k₁ ≡ length k → length c₁ ≡ length c → length m₁ ≡ length m
     → Zeroed e₁ e' n₁ n' k₁ k' c₁ c' m₁ m' → Zeroed e e' n n' k k' c c' m m'
@@ -233,7 +230,7 @@ module _ (input old : List ℕ) (e n : List Slot) (k c m : List ℕ) (s : Settin
       exact_is s.version e n k c m a b d f g (ea ∙ ap (λ (x : ℕ). x - (x - length e)) ps) (eb ∙ ap (λ (x : ℕ). x - (x - length n)) ps) (ed ∙ ap (λ (x : ℕ). x - (x - length k)) pl) (ef ∙ ap (λ (x : ℕ). x - (x - length c)) pl)
       (eg ∙ ap (λ (x : ℕ). x - (x - length m)) ps)
 
-  pub at_runs : (new : List ℕ) (r : Answer) → Ran s (exactly s.version (lent_of (take a e) (take b n) (take d k) (take f c) (take g m))) input old new r → Ran s (roomy s.version (lent_of e n k c m)) input old new r
+  pub at_runs : (new : List ℕ) (r : Result ℕ Refused) → Ran s (exactly s.version (lent_of (take a e) (take b n) (take d k) (take f c) (take g m))) input old new r → Ran s (roomy s.version (lent_of e n k c m)) input old new r
   at_runs new r ran = subst (λ (x : Bool). Ran s x input old new r) exact ran
 
   pub at_clears : (e' n' : List Slot) (k' c' m' : List ℕ) → Zeroed (take a e) e' (take b n) n' (take d k) k' (take f c) c' (take g m) m'
@@ -249,7 +246,7 @@ module _ (input old : List ℕ) (e n : List Slot) (k c m : List ℕ) (s : Settin
 
 -- ---- resolve_with
 
-module _ (input old new : List ℕ) (lent : Lent) (r : Answer) (s : Setting) (asks : s ≡ asked input) (ran : Ran s (roomy s.version lent) input old new r) where
+module _ (input old new : List ℕ) (lent : Lent) (r : Result ℕ Refused) (s : Setting) (asks : s ≡ asked input) (ran : Ran s (roomy s.version lent) input old new r) where
   ran_asked : Ran (asked input) (roomy (asked input).version lent) input old new r
   ran_asked = subst (λ (x : Setting). Ran x (roomy x.version lent) input old new r) asks ran
 

@@ -13,14 +13,12 @@ ghost use Rattle.resolver_with.specs.Exact.{Suits, exactly, Zeroed};
 use crate::sizes::{links_for, slots_for};
 use areas::{zero_links, zero_numbers, zero_slots};
 use form::ends::mark_ends_to;
-use form::header::{Header, header_to};
+use form::header::{BadHeader, header_to};
 use limits::{most_scopes, of_input};
 use names::{Scope, Slot, least};
-use refusal::{ROOM, Refusal, Told};
-use resolver::run::{Answer, admitted, blank, finish, header_size};
+use refusal::{ROOM, Refusal, Refused, Told};
+use resolver::run::{admitted, blank, finish, header_size};
 use walk::scopes::{scope_walk, starting};
-use whole_form::read::Form;
-use write::alias::Walked;
 
 // How many settings there are.
 const SETTINGS: usize = 3;
@@ -34,9 +32,9 @@ pub fn asked_for(form: &[u8]) -> usize
         let i = next;
         next += 1;
         match header_to(form, of_input(i)) {
-            Header::Rows(_) => return i,
-            Header::Count => return i,
-            Header::Wrong => {}
+            Ok(_) => return i,
+            Err(BadHeader::Count) => return i,
+            Err(BadHeader::Wrong) => {}
         }
     }
     0
@@ -60,7 +58,7 @@ pub fn walk_in(
     known: &mut [u16],
     chains: &mut [u16],
     ends: &mut [u32],
-) -> Walked
+) -> Result<WriteState, Refused>
     requires { Suits i entered.old names.old known.old chains.old ends.old }
     ensures { (result & out.new) ≡ walk_in (setting i) rows.now ends.old entered.old names.old out.old }
 {
@@ -94,19 +92,19 @@ pub fn fill_in(
     known: &mut [u16],
     chains: &mut [u16],
     ends: &mut [u32],
-) -> Answer
+) -> Result<u32, Refused>
     requires { Suits j entered.old names.old known.old chains.old ends.old }
     ensures { (result & front.new) ≡ fill_t (setting i) (walk_in (setting j) rows.now ends.old entered.old names.old) front.old }
 {
     let header = header_size(i);
     if front.len() < header {
-        return Answer::Refused(
-            Refusal {
+        return Err(Refused {
+            refusal: Refusal {
                 number: ROOM,
                 place: 0,
             },
-            Told { space: 0, first: 0 },
-        );
+            told: Told { space: 0, first: 0 },
+        });
     }
     match walk_in(
         rows,
@@ -118,8 +116,8 @@ pub fn fill_in(
         chains,
         ends,
     ) {
-        Walked::Refused(refusal, told) => blank(front, refusal, told),
-        Walked::Done(s) => finish(front, i, s.to),
+        Err(Refused { refusal, told }) => blank(front, refusal, told),
+        Ok(s) => finish(front, i, s.to),
     }
 }
 
@@ -157,7 +155,7 @@ pub fn run_in(
     known: &mut [u16],
     chains: &mut [u16],
     ends: &mut [u32],
-) -> Answer
+) -> Result<u32, Refused>
     ensures { Ran (setting i) (exactly (setting i).version (lent_of entered.old names.old known.old chains.old ends.old)) form.now out.old out.new result }
 {
     let enough = is_exact(
@@ -169,8 +167,11 @@ pub fn run_in(
         ends.len(),
     );
     match admitted(form, i, room_if(enough, out.len())) {
-        Form::Refused(why) => Answer::Refused(why, Told { space: 0, first: 0 }),
-        Form::Whole(rows) => {
+        Err(why) => Err(Refused {
+            refusal: why,
+            told: Told { space: 0, first: 0 },
+        }),
+        Ok(rows) => {
             let header = header_size(i);
             let size = header + 64 * rows;
             fill_in(
@@ -215,17 +216,17 @@ fn run_cleared(
     known: &mut [u16],
     chains: &mut [u16],
     ends: &mut [u32],
-) -> Answer
+) -> Result<u32, Refused>
     ensures { Ran (setting i) (exactly (setting i).version (lent_of entered.old names.old known.old chains.old ends.old)) form.now out.old out.new result × Zeroed entered.old entered.new names.old names.new known.old known.new chains.old chains.new ends.old ends.new }
 {
     match run_in(form, out, i, entered, names, known, chains, ends) {
-        Answer::Accepted(rows) => {
+        Ok(rows) => {
             clear(entered, names, known, chains, ends);
-            Answer::Accepted(rows)
+            Ok(rows)
         }
-        Answer::Refused(why, told) => {
+        Err(Refused { refusal: why, told }) => {
             clear(entered, names, known, chains, ends);
-            Answer::Refused(why, told)
+            Err(Refused { refusal: why, told })
         }
     }
 }
@@ -240,7 +241,7 @@ pub fn resolve_at(
     known: &mut [u16],
     chains: &mut [u16],
     ends: &mut [u32],
-) -> Answer
+) -> Result<u32, Refused>
     ensures { Ran (setting i) (roomy (setting i).version (lent_of entered.old names.old known.old chains.old ends.old)) form.now out.old out.new result × Cleared (setting i).version entered.old entered.new names.old names.new known.old known.new chains.old chains.new ends.old ends.new }
 {
     let slots = slots_for(i);
@@ -272,7 +273,7 @@ pub fn resolve_with(
     known: &mut [u16],
     chains: &mut [u16],
     ends: &mut [u32],
-) -> Answer
+) -> Result<u32, Refused>
     ensures { (meaning result ≡ ruled (answer_with form.now (length out.old) (lent_of entered.old names.old known.old chains.old ends.old))) × (out.new ≡ output_with form.now out.old (lent_of entered.old names.old known.old chains.old ends.old)) × Cleared (asked form.now).version entered.old entered.new names.old names.new known.old known.new chains.old chains.new ends.old ends.new }
 {
     let i = asked_for(form);

@@ -1,4 +1,5 @@
 -- The ways through the code that finds declarations with the tables of a form.
+use Rattle.std.specs.Prelude.{Option, Some, None}
 use mathlib.Core.Path.{◌≡◌, refl, sym, ◌∙◌}
 use mathlib.Core.Bool.{Bool, true, false, ◌&&◌, not}
 use mathlib.Core.List.{List}
@@ -12,10 +13,9 @@ use Rattle.row_parts.specs.Parts.{x_at, rows_in}
 use Rattle.scopes.specs.Scopes.{scope_of, is_meant, find_in}
 use Rattle.scopes.specs.declared.Key.{Key}
 use Rattle.scopes.specs.declared.Key.TheVariants.{Name, Number}
-use Rattle.scopes.specs.declared.Found.{Found}
-use Rattle.scopes.specs.declared.Found.TheVariants.{At, Nothing}
 use Rattle.scopes.specs.Tables.{stands, count_of, kind_of, is_scope, is_sought, first_above, found_at, Scopes, Chains, Tabled, Known}
 use Rattle.scopes.proofs.ScopedLaws.{both_true, find_first}
+use Rattle.scopes.specs.declared.Found.{Found}
 
 pub is_scope_is : (form : List ℕ) (row rows s : ℕ) → rows ≡ rows_in form → s ≡ scope_of form row → (ltb 0 row && ltb row rows && eqb s row) ≡ is_scope form row
 unfolding is_scope
@@ -26,15 +26,15 @@ unfolding is_sought
 is_sought_is form scope space key row n x d m hd hn hx hm = rw (hd, hm, hn, hx)
 
 module _ (form : List ℕ) (behind : ℕ) where
-  pub found_none : behind ≡ 0 → Nothing ≡ found_at form behind
+  pub found_none : behind ≡ 0 → None ≡ found_at form behind
   unfolding found_at
   found_none e = rw e
 
-  pub found_there : (behind ≡ 0 → ⊥) → (n : ℕ) → n ≡ count_of form (behind - 1) → At (behind - 1) n ≡ found_at form behind
+  pub found_there : (behind ≡ 0 → ⊥) → (n : ℕ) → n ≡ count_of form (behind - 1) → Some (record { row = behind - 1; number = n }) ≡ found_at form behind
   unfolding found_at
   found_there h n e = rw e (sym (same behind (omega arith)))
     where
-      same : (b : ℕ) → b ≡ suc (behind - 1) → found_at form b ≡ At (behind - 1) (count_of form (behind - 1))
+      same : (b : ℕ) → b ≡ suc (behind - 1) → found_at form b ≡ Some (record { row = behind - 1; number = count_of form (behind - 1) })
       same b q = rw q
 
 module _ (form : List ℕ) (row : ℕ) (b : Bool) (is : b ≡ is_scope form row) where
@@ -63,7 +63,7 @@ module _ (key : Key) (wanted : ℕ) where
 pub ruleset key_ways = (scope_left, chains_name, chains_number, kind_name, kind_number_lem, rules)
 
 -- what is first on the chain is what the scope has
-pub follow_is : (form : List ℕ) (scope space : ℕ) (key : Key) (first : ℕ) (f : Found) → is_scope form scope ≡ true → first ≡ first_above form scope space key (rows_in form) 0 → f ≡ found_at form first → f ≡ find_in form scope space key
+pub follow_is : (form : List ℕ) (scope space : ℕ) (key : Key) (first : ℕ) (f : Option Found) → is_scope form scope ≡ true → first ≡ first_above form scope space key (rows_in form) 0 → f ≡ found_at form first → f ≡ find_in form scope space key
 unfolding is_scope
 follow_is form scope space key first f h q e =
     let a = both_true (ltb 0 scope && ltb scope (rows_in form)) (eqb (scope_of form scope) scope) h in

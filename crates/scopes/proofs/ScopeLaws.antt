@@ -1,4 +1,5 @@
 -- The ways through the code that goes through scopes.
+use Rattle.std.specs.Prelude.{Option, Some, None}
 use mathlib.Core.Path.{◌≡◌, refl, sym, ◌∙◌}
 use mathlib.Core.Bool.{Bool, true, false, ◌&&◌, not}
 use mathlib.Core.List.{List}
@@ -13,12 +14,10 @@ use Rattle.row_parts.specs.Parts.{code_at, x_at, rows_in}
 use Rattle.scopes.specs.Scopes.{level_behind, scope_of, declares, is_meant, find_from, find_in, is_found, declares_name, is_wanted, outward_from, scope_outward}
 use Rattle.scopes.specs.declared.Key.{Key}
 use Rattle.scopes.specs.declared.Key.TheVariants.{Name, Number, Inserted}
-use Rattle.scopes.specs.declared.Found.{Found}
-use Rattle.scopes.specs.declared.Found.TheVariants.{At, Nothing}
 use Rattle.scopes.specs.declared.Wanted.{Wanted}
 use Rattle.scopes.specs.declared.Wanted.TheVariants.{Out, Named, Declaring}
+use Rattle.scopes.specs.declared.Found.{Found}
 use Rattle.scopes.specs.declared.Outer.{Outer}
-use Rattle.scopes.specs.declared.Outer.TheVariants.{At as OuterAt, Nowhere}
 
 -- ---- declarations
 
@@ -37,21 +36,21 @@ pub find_start : (form : List ℕ) (scope space rows : ℕ) (key : Key) → rows
 unfolding find_in
 find_start form scope space rows key h = rw h
 
-module _ (form : List ℕ) (space : ℕ) (key : Key) (rows row level number : ℕ) (T : Found) (inv : find_from form space key row (rows - row) level number ≡ T) where
-  pub find_end : rows ≤ row → Nothing ≡ T
+module _ (form : List ℕ) (space : ℕ) (key : Key) (rows row level number : ℕ) (T : Option Found) (inv : find_from form space key row (rows - row) level number ≡ T) where
+  pub find_end : rows ≤ row → None ≡ T
   unfolding find_from
   find_end h = let e : rows - row ≡ 0 = omega arith in rw e at inv
 
   module _ (h : row < rows) (c : ℕ) (code : c ≡ code_at form row) (b : Bool) (bound : b ≡ (eqb level 0 && eqb c 8)) where
-    found : pick b Nothing (pick (declares form row level space && is_meant key (x_at form row) number) (At row number) (find_from form space key (row + 1) (rows - (row + 1)) (level_behind level c) (pick (declares form row level space) (number + 1) number))) ≡ T
+    found : pick b None (pick (declares form row level space && is_meant key (x_at form row) number) (Some (record { row = row; number = number })) (find_from form space key (row + 1) (rows - (row + 1)) (level_behind level c) (pick (declares form row level space) (number + 1) number))) ≡ T
     unfolding find_from
     found = rw (bound, code) (rw (left_suc row rows h) at inv)
 
-    pub find_close : b ≡ true → Nothing ≡ T
+    pub find_close : b ≡ true → None ≡ T
     find_close e = yes! _ e refl ∙ found
 
     module _ (on : b ≡ false) (d : Bool) (here : d ≡ declares form row level space) (x : ℕ) (name : x ≡ x_at form row) (m : Bool) (meant : m ≡ is_meant key x number) where
-      pub find_hit : (d && m) ≡ true → At row number ≡ T
+      pub find_hit : (d && m) ≡ true → Some (record { row = row; number = number }) ≡ T
       find_hit e = no! _ on (yes! _ (rw (← name, ← meant, ← here) e) refl) ∙ found
 
       pub find_on : (d && m) ≡ false → (n l : ℕ) → n ≡ pick d (number + 1) number → l ≡ level_behind level c → find_from form space key (row + 1) (rows - (row + 1)) l n ≡ T
@@ -59,12 +58,12 @@ module _ (form : List ℕ) (space : ℕ) (key : Key) (rows row level number : �
 
 -- ---- outward
 
-module _ (form : List ℕ) (scope space name : ℕ) (f : Found) (w : f ≡ find_in form scope space (Name name)) where
-  pub declares_at : (row number : ℕ) → f ≡ At row number → true ≡ declares_name form scope space name
+module _ (form : List ℕ) (scope space name : ℕ) (f : Option Found) (w : f ≡ find_in form scope space (Name name)) where
+  pub declares_at : (row number : ℕ) → f ≡ Some (record { row = row; number = number }) → true ≡ declares_name form scope space name
   unfolding declares_name
   declares_at row number q = rw (← w, q)
 
-  pub declares_nothing : f ≡ Nothing → false ≡ declares_name form scope space name
+  pub declares_nothing : f ≡ None → false ≡ declares_name form scope space name
   unfolding declares_name
   declares_nothing q = rw (← w, q)
 
@@ -82,21 +81,21 @@ pub outward_start : (form : List ℕ) (scope : ℕ) (wanted : Wanted) → outwar
 unfolding scope_outward
 outward_start form scope wanted = let e : scope - 0 ≡ scope = omega arith in rw e
 
-outward_past : (form : List ℕ) (wanted : Wanted) (left out : ℕ) → Nowhere ≡ outward_from form wanted left 0 out
+outward_past : (form : List ℕ) (wanted : Wanted) (left out : ℕ) → None ≡ outward_from form wanted left 0 out
 unfolding outward_from
 outward_past form wanted zero out = refl
 outward_past form wanted (suc left) out = yes! _ refl refl
 
-module _ (form : List ℕ) (wanted : Wanted) (scope around out : ℕ) (T : Outer) (inv : outward_from form wanted (scope - out) around out ≡ T) where
-  pub outward_end : around ≤ 0 → Nowhere ≡ T
+module _ (form : List ℕ) (wanted : Wanted) (scope around out : ℕ) (T : Option Outer) (inv : outward_from form wanted (scope - out) around out ≡ T) where
+  pub outward_end : around ≤ 0 → None ≡ T
   outward_end h = let e : around ≡ 0 = omega arith in outward_past form wanted (scope - out) out ∙ (rw e at inv)
 
   module _ (h : 0 < around) (inside : around + out ≤ scope) (b : Bool) (is : b ≡ is_wanted form around out wanted) where
-    sought : pick (eqb around 0) Nowhere (pick b (OuterAt around out) (outward_from form wanted (scope - (out + 1)) (scope_of form (around - 1)) (out + 1))) ≡ T
+    sought : pick (eqb around 0) None (pick b (Some (record { scope = around; out = out })) (outward_from form wanted (scope - (out + 1)) (scope_of form (around - 1)) (out + 1))) ≡ T
     unfolding outward_from
     sought = let l : out < scope = omega arith in rw is (rw (left_suc out scope l) at inv)
 
-    pub outward_hit : b ≡ true → OuterAt around out ≡ T
+    pub outward_hit : b ≡ true → Some (record { scope = around; out = out }) ≡ T
     outward_hit e = no! _ (omega tests) (yes! _ e refl) ∙ sought
 
     pub outward_on : b ≡ false → (a : ℕ) → a ≡ scope_of form (around - 1) → outward_from form wanted (scope - (out + 1)) a (out + 1) ≡ T

@@ -1,4 +1,5 @@
 -- The scope of a row says all of how deep it lies in the scopes that are gone through: what stands in a scope is counted and found by it.
+use Rattle.std.specs.Prelude.{Option, Some, None}
 use mathlib.Core.Path.{◌≡◌, refl, sym, ◌∙◌}
 use mathlib.Core.Bool.{Bool, true, false, ◌&&◌}
 use mathlib.Core.Logic.{◌⊎◌, inl, inr}
@@ -14,9 +15,8 @@ use Rattle.kit.proofs.Laws.{yes!, no!, tests, lt_or_le}
 use Rattle.row_parts.specs.Parts.{code_at, b_at, x_at, rows_in}
 use Rattle.scopes.specs.Scopes.{level_behind, level_above, scope_above, scope_of, declares, number_from, number_of, is_meant, find_from, find_in}
 use Rattle.scopes.specs.declared.Key.{Key}
-use Rattle.scopes.specs.declared.Found.{Found}
-use Rattle.scopes.specs.declared.Found.TheVariants.{At, Nothing}
 use Rattle.scopes.specs.Tables.{stands, count_above, count_of, is_sought, first_above, found_at}
+use Rattle.scopes.specs.declared.Found.{Found}
 
 pub both_true : (a b : Bool) → (a && b) ≡ true → (a ≡ true) × (b ≡ true)
 both_true true b e = (refl, e)
@@ -369,12 +369,12 @@ module _ (form : List ℕ) (s space : ℕ) (key : Key) where
         let next : pick (declares form row l space) (n + 1) n ≡ count_above form s space (row + 1) = rw (add-one row, on_declares form s row l space o, q) in
         rw z (by (eqb l 0 && eqb (code_at form row) 8) refl (is_sought form s space key row) refl (λ c m. find_from_lem left (row + 1) (level_behind l (code_at form row)) _ (omega arith) (on_step form s row l b c o) next (none_on row e m)))
       where
-        T : Found
+        T : Option Found
         T = found_at form (first_above form s space key (row + 1 + left) 0)
 
         by : (c : Bool) → (eqb l 0 && eqb (code_at form row) 8) ≡ c → (m : Bool) → is_sought form s space key row ≡ m
             → ((eqb l 0 && eqb (code_at form row) 8) ≡ false → is_sought form s space key row ≡ false → find_from form space key (row + 1) left (level_behind l (code_at form row)) (pick (declares form row l space) (n + 1) n) ≡ T)
-            → pick (eqb l 0 && eqb (code_at form row) 8) Nothing (pick (declares form row l space && is_meant key (x_at form row) n) (At row n) (find_from form space key (row + 1) left (level_behind l (code_at form row)) (pick (declares form row l space) (n + 1) n))) ≡ T
+            → pick (eqb l 0 && eqb (code_at form row) 8) None (pick (declares form row l space && is_meant key (x_at form row) n) (Some (record { row = row; number = n })) (find_from form space key (row + 1) left (level_behind l (code_at form row)) (pick (declares form row l space) (n + 1) n))) ≡ T
         by true h m w i =
             let a = both_true (eqb l 0) (eqb (code_at form row) 8) h in
             let p : scope_above form row 0 ≡ s = rw (eqb-true l 0 a.0) at o.0 in

@@ -1,13 +1,12 @@
 -- The tables of a form of at most 4,096 rows: the scope of each row, the number of each declaration, and chains on which declarations are
 -- found by their name and by their number.
-use Rattle.std.specs.Prelude.{◌≡◌, Bool, ◌&&◌, List, ℕ, zero, suc, ◌+◌, ◌*◌, ◌%◌, ◌≤◌, ◌<◌, eqb, ltb, length, get_or, set}
+use Rattle.std.specs.Prelude.{◌≡◌, Bool, ◌&&◌, List, ℕ, zero, suc, ◌+◌, ◌*◌, ◌%◌, ◌≤◌, ◌<◌, eqb, ltb, length, get_or, set, Option, Some, None}
 use Rattle.kit.specs.Pick.{pick}
 use Rattle.row_parts.specs.Parts.{code_at, b_at, x_at, rows_in}
 use Rattle.scopes.specs.Scopes.{scope_of, is_meant}
 use Rattle.scopes.specs.declared.Key.{Key}
 use Rattle.scopes.specs.declared.Key.TheVariants.{Name, Number, Inserted}
 use Rattle.scopes.specs.declared.Found.{Found}
-use Rattle.scopes.specs.declared.Found.TheVariants.{At, Nothing}
 
 -- ---- the number of a declaration
 
@@ -81,9 +80,9 @@ first_above form scope space key zero found = found
 first_above form scope space key (suc row) found = first_above form scope space key row (pick (is_sought form scope space key row) (suc row) found)
 
 -- the declaration at the row before
-unfoldable pub found_at : (form : List ℕ) (behind : ℕ) → Found
-found_at form zero = Nothing
-found_at form (suc row) = At row (count_of form row)
+unfoldable pub found_at : (form : List ℕ) (behind : ℕ) → Option Found
+found_at form zero = None
+found_at form (suc row) = Some (record { row = row; number = count_of form row })
 
 -- ---- the tables
 

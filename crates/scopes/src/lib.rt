@@ -27,9 +27,9 @@ pub enum Key {
 
 // The DECL row of a declaration, and its number.
 #[derive(Clone, Copy)]
-pub enum Found {
-    At { row: u16, number: u32 },
-    Nothing,
+pub struct Found {
+    pub row: u16,
+    pub number: u32,
 }
 
 // Which scope is looked for, going outward.
@@ -45,9 +45,9 @@ pub enum Wanted {
 
 // A scope, and how many scopes out it is.
 #[derive(Clone, Copy)]
-pub enum Outer {
-    At { scope: u16, out: u32 },
-    Nowhere,
+pub struct Outer {
+    pub scope: u16,
+    pub out: u32,
 }
 
 // Whether a declaration of that name and number has the key; 0 is no name.
@@ -62,7 +62,7 @@ pub fn is_meant(key: Key, name: u32, number: u32) -> bool
 }
 
 // The declaration of a space that a scope has by a name or a number, or its first inserted one.
-pub fn find(form: &[u8], scope: u16, space: u8, key: Key) -> Found
+pub fn find(form: &[u8], scope: u16, space: u8, key: Key) -> Option<Option<Found>>
     ensures { result ≡ find_in form.now scope space key }
 {
     let rows = rows_in(form);
@@ -72,22 +72,22 @@ pub fn find(form: &[u8], scope: u16, space: u8, key: Key) -> Found
     while row < rows {
         let code = code_at(form, row);
         if is_bound(level, code, CLOSE) {
-            return Found::Nothing;
+            return None;
         }
         let is_declaration = declares(form, row, level, space);
         let name = x_at(form, row);
         if is_declaration & is_meant(key, name, number) {
-            return Found::At { row, number };
+            return Some(Found { row, number });
         }
         number = counted(number, is_declaration);
         level = level_behind(level, code);
         row += 1;
     }
-    Found::Nothing
+    None
 }
 
 // The first scope that is wanted, from a scope outward, that scope included.
-pub fn scope_outward(form: &[u8], scope: u16, wanted: Wanted) -> Outer
+pub fn scope_outward(form: &[u8], scope: u16, wanted: Wanted) -> Option<Option<Outer>>
     ensures { result ≡ scope_outward form.now scope wanted }
 {
     scope_outward_with(form, &[], &[], &[], scope, wanted)

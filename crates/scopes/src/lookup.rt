@@ -59,21 +59,28 @@ fn first_on(form: &[u8], known: &[u16], chains: &[u16], scope: u16, space: u8, k
 }
 
 // The declaration at the row before.
-fn found_at(form: &[u8], known: &[u16], behind: u16) -> Found
+fn found_at(form: &[u8], known: &[u16], behind: u16) -> Option<Option<Found>>
     requires { Counts form.now known.now behind }
     ensures { result ≡ found_at form.now behind }
 {
     if behind == 0 {
-        return Found::Nothing;
+        return None;
     }
     let row = behind - 1;
-    Found::At {
+    Some(Found {
         row,
         number: number_at(form, known, row) as u32,
-    }
+    })
 }
 
-fn follow(form: &[u8], known: &[u16], chains: &[u16], scope: u16, space: u8, key: Key) -> Found
+fn follow(
+    form: &[u8],
+    known: &[u16],
+    chains: &[u16],
+    scope: u16,
+    space: u8,
+    key: Key,
+) -> Option<Option<Found>>
     requires { Scopes form.now known.now 4096 × Counts form.now known.now (rows_in form.now) × Chains form.now (kind_of key) chains.now (rows_in form.now) × (0 < kind_of key) × (rows_in form.now ≤ 4096) × (is_scope form.now scope ≡ true) }
     ensures { result ≡ find_in form.now scope space key }
 {
@@ -93,7 +100,7 @@ fn find_known(
     scope: u16,
     space: u8,
     key: Key,
-) -> Found
+) -> Option<Option<Found>>
     requires { Tabled form.now known.now names.now numbers.now }
     ensures { result ≡ find_in form.now scope space key }
 {
@@ -116,7 +123,7 @@ pub fn find_with(
     scope: u16,
     space: u8,
     key: Key,
-) -> Found
+) -> Option<Option<Found>>
     requires { Known form.now known.now names.now numbers.now }
     ensures { result ≡ find_in form.now scope space key }
 {
@@ -141,8 +148,8 @@ fn declares_name(
     ensures { result ≡ declares_name form.now scope space name }
 {
     match find_with(form, known, names, numbers, scope, space, Key::Name(name)) {
-        Found::At { row: _, number: _ } => true,
-        Found::Nothing => false,
+        Some(_) => true,
+        None => false,
     }
 }
 
@@ -176,7 +183,7 @@ pub fn scope_outward_with(
     numbers: &[u16],
     scope: u16,
     wanted: Wanted,
-) -> Outer
+) -> Option<Option<Outer>>
     requires { Known form.now known.now names.now numbers.now }
     ensures { result ≡ scope_outward form.now scope wanted }
 {
@@ -184,10 +191,10 @@ pub fn scope_outward_with(
     let mut out: u32 = 0;
     while 0 < around {
         if is_wanted(form, known, names, numbers, around, out, wanted) {
-            return Outer::At { scope: around, out };
+            return Some(Outer { scope: around, out });
         }
         around = scope_at(form, known, around - 1);
         out += 1;
     }
-    Outer::Nowhere
+    None
 }

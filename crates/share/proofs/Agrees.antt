@@ -1,5 +1,6 @@
 -- Of an input that is accepted, under any setting that the walk is able to take: what the code proposes is what the rules propose, and the
 -- check accepts it. What is not accepted is answered as the resolver answers it.
+use Rattle.std.specs.Prelude.{Result as CodeResult, ℕ}
 use mathlib.Core.Path.{◌≡◌, refl, sym, ap, ◌∙◌, subst}
 use mathlib.Core.Bool.{Bool, true, false}
 use mathlib.Core.Option.{none, some}
@@ -42,18 +43,19 @@ use Rattle.mark_laws.specs.Agrees.{AllMarked, mark_agrees}
 use Rattle.resolver.specs.Meaning.{Said, meaning, ruled}
 use Rattle.resolver.specs.Admit.{is_short, admit}
 use Rattle.resolver.specs.Run.{walk_in}
-use Rattle.resolver.specs.declared.run.Answer.{Answer}
 use Rattle.resolver.proofs.Admits.{steps, Admitted, admitted, answer_one, output_one}
 use Rattle.resolver.proofs.Root.{Able, Walks, Rooms}
 use Rattle.resolver.proofs.Agrees.{Says, fills_accepted, body_rows, body_form}
 use Rattle.moved.proofs.Agrees.{Counted, answer_counted}
 use Rattle.claim_check.specs.Meaning as checked
-use Rattle.claim_check.specs.declared.Verdict.{Verdict}
 use Rattle.share_laws.specs.Relaxed.{relaxed}
 use Rattle.share_laws.specs.Walked.{marked_walks}
 use Rattle.share.specs.declared.Own.{Own}
 use Rattle.share.specs.Run as run
 use Rattle.share.specs.Run.{propose_in, Roomy, is_yes, said_yes, Resolved}
+use Rattle.claim_check.specs.declared.Verdict.{Verdict}
+use Rattle.refusal.specs.declared.Refusal.{Refusal}
+use Rattle.refusal.specs.declared.Refused.{Refused}
 
 -- ---- one setting
 
@@ -223,7 +225,7 @@ module _ (one : Setting) (able : Able one) where
           rw count (fills_accepted one able now n fine.few (omega arith) (walk_in (relaxed one) marked_rows ends entered names) rs W.0 four W.1 W.2)
 
       -- THE PROPOSAL over what the resolver left
-      pub answers_shared : (a : Answer) (l marked : List ℕ) → marked ≡ marked_rows → (a & l) ≡ propose_in one marked ends entered names input (output (one ∷ []) input old)
+      pub answers_shared : (a : CodeResult ℕ Refused) (l marked : List ℕ) → marked ≡ marked_rows → (a & l) ≡ propose_in one marked ends entered names input (output (one ∷ []) input old)
           → (meaning a ≡ ruled (shared (one ∷ []) input (length old))) × (l ≡ shared_output (one ∷ []) input old)
       answers_shared a l marked m p =
           let q : (a & l) ≡ propose_in one marked_rows ends entered names input (output (one ∷ []) input old) = p ∙ ap (λ (x : List ℕ). propose_in one x ends entered names input (output (one ∷ []) input old)) m in
@@ -253,7 +255,7 @@ module _ (one : Setting) (able : Able one) where
         rw c (ap (take (v.header + 16 * length rs)) (q ∙ leaves) ∙ take_written size (v.header + 16 * length rs) (form_bytes one rs) old f)
 
     -- IT IS NEVER REFUSED
-    pub never_refused : (a : Answer) (l : List ℕ) → meaning a ≡ ruled (shared (one ∷ []) input (length old)) → l ≡ shared_output (one ∷ []) input old → (slots links : ℕ) → slots_of v ≤ slots → links_of v ≤ links
+    pub never_refused : (a : CodeResult ℕ Refused) (l : List ℕ) → meaning a ≡ ruled (shared (one ∷ []) input (length old)) → l ≡ shared_output (one ∷ []) input old → (slots links : ℕ) → slots_of v ≤ slots → links_of v ≤ links
         → (rows : ℕ) (claim : List ℕ) (y : Bool) → rows ≡ (meaning a).plain.place → claim ≡ take (v.header + 16 * rows) l → y ≡ is_yes (check_answer (one ∷ []) input claim slots links) → y ≡ false → ⊥
     unfolding is_yes
     never_refused a l m o slots links h k rows claim y r c f z =
@@ -304,5 +306,5 @@ ruled_yes checking.yes = refl
 ruled_yes (checking.no condition row) = refl
 ruled_yes (checking.refused number place carried) = refl
 
-pub said_yes_lem : (v : Verdict) (w : checking.Verdict) (y : Bool) → checked.meaning v ≡ checked.ruled w → y ≡ said_yes (checked.meaning v) → y ≡ is_yes w
+pub said_yes_lem : (v : CodeResult Verdict Refusal) (w : checking.Verdict) (y : Bool) → checked.meaning v ≡ checked.ruled w → y ≡ said_yes (checked.meaning v) → y ≡ is_yes w
 said_yes_lem v w y e q = q ∙ (ap said_yes e ∙ ruled_yes w)

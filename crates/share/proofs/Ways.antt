@@ -1,4 +1,5 @@
 -- The ways through the code.
+use Rattle.std.specs.Prelude.{Result, Ok, Err, ℕ}
 use mathlib.Core.Path.{◌≡◌, refl, sym, ap, ◌∙◌}
 use mathlib.Core.Bool.{Bool, true, false, ◌||◌}
 use mathlib.Core.List.{List, [], ◌∷◌, ◌++◌}
@@ -32,20 +33,20 @@ use Rattle.index.specs.Indexed.{Holds}
 use Rattle.mark.specs.MarkedRows.{mark_rows_t}
 use Rattle.resolver.specs.Meaning.{meaning, ruled}
 use Rattle.resolver.specs.Run.{Ran, no_slots, no_ends, walk_t, fill_t, before}
-use Rattle.resolver.specs.declared.run.Answer.{Answer}
 use Rattle.resolver.proofs.Bytes.{all_bytes}
 use Rattle.resolver.proofs.Starts.{served_start}
 use Rattle.resolver.proofs.Root.{able_1}
 use Rattle.resolver.proofs.Laws.{rooms_1}
 use Rattle.claim_check.specs.Meaning as checked
 use Rattle.claim_check.proofs.Agrees.{table_cleared, index_cleared}
-use Rattle.claim_check.specs.declared.Verdict.{Verdict}
-use Rattle.claim_check.specs.declared.Verdict.TheVariants.{Yes, No, Refused as NotJudged}
+use Rattle.claim_check.specs.declared.Verdict.TheVariants.{Yes, No}
 use Rattle.share.specs.Lent.{too_small, shared_with, output_with}
 use Rattle.share.specs.declared.Own.{Own}
 use Rattle.share.specs.Run as run
 use Rattle.share.specs.Run.{propose_in, mark_t, walked_t, no_rows, propose_t, Roomy, is_yes, said_yes, Large, Resolved}
 use Rattle.share.proofs.Agrees.{none_accepted, as_long, tree, roomy, marks, answers_shared, never_refused, own_resolved}
+use Rattle.claim_check.specs.declared.Verdict.{Verdict}
+use Rattle.refusal.specs.declared.Refused.{Refused}
 
 -- ---- mark_form
 
@@ -58,7 +59,7 @@ marked_form rows ends marked marked' table' p q = ap run.rows_of (q ∙ ap (λ (
 
 -- ---- walk_marked
 
-pub marked_walked : (rows marked part front front' : List ℕ) (r : Answer) → length rows ≤ length marked → part ≡ mark_t rows (take (length rows) marked) → length part ≡ length (take (length rows) marked)
+pub marked_walked : (rows marked part front front' : List ℕ) (r : Result ℕ Refused) → length rows ≤ length marked → part ≡ mark_t rows (take (length rows) marked) → length part ≡ length (take (length rows) marked)
     → (r & front') ≡ fill_t (setting 0) (walk_t (take (length rows) (part ++ drop (length rows) marked))) front → (r & front') ≡ walked_t rows marked front
 unfolding walked_t
 marked_walked rows marked part front front' r h p l q =
@@ -66,7 +67,7 @@ marked_walked rows marked part front front' r h p l q =
 
 -- ---- propose
 
-pub proposed : (form out front : List ℕ) (r : Answer) (size : ℕ) → size ≡ 8 + 64 * ((length form - 8) / 16) → (r & front) ≡ walked_t (take (length form - 8) (drop 8 form)) no_rows (take size out) → (r & front ++ drop size out) ≡ propose_t form out
+pub proposed : (form out front : List ℕ) (r : Result ℕ Refused) (size : ℕ) → size ≡ 8 + 64 * ((length form - 8) / 16) → (r & front) ≡ walked_t (take (length form - 8) (drop 8 form)) no_rows (take size out) → (r & front ++ drop size out) ≡ propose_t form out
 unfolding propose_t before
 proposed form out front r size e q =
     let d : length (drop 8 form) ≡ length form - 8 = length-drop 8 form in
@@ -84,14 +85,14 @@ module _ (out : List ℕ) (i header rows : ℕ) (e : header ≡ (setting i).vers
 
 -- ---- is_yes
 
-module _ (v : Verdict) where
-  pub is_yes_lem : v ≡ Yes → true ≡ said_yes (checked.meaning v)
+module _ (v : Result Verdict Refusal) where
+  pub is_yes_lem : v ≡ Ok Yes → true ≡ said_yes (checked.meaning v)
   is_yes_lem q = rw q
 
-  pub is_no : (condition row : ℕ) → v ≡ No condition row → false ≡ said_yes (checked.meaning v)
+  pub is_no : (condition row : ℕ) → v ≡ Ok (No condition row) → false ≡ said_yes (checked.meaning v)
   is_no condition row q = rw q
 
-  pub is_refusal : (why : Refusal) → v ≡ NotJudged why → false ≡ said_yes (checked.meaning v)
+  pub is_refusal : (why : Refusal) → v ≡ Err why → false ≡ said_yes (checked.meaning v)
   is_refusal why q = rw q
 
 -- ---- is_small
@@ -140,7 +141,7 @@ module _ (input old : List ℕ) (slots links : ℕ) (b : Bool) (is : b ≡ too_s
       go (refused n z c) q = ap ruled (q ∙ sym (shared_refuses base input 0 n z c q))
       go (accepted rs) q = none_accepted (setting 0) able_1 input rs q
 
-  pub small_answers : (r : Answer) → meaning r ≡ ruled (answer base input (length (take 0 old))) → meaning r ≡ ruled (shared_with input (length old) slots links)
+  pub small_answers : (r : Result ℕ Refused) → meaning r ≡ ruled (answer base input (length (take 0 old))) → meaning r ≡ ruled (shared_with input (length old) slots links)
   unfolding shared_with when◌then◌else◌
   small_answers r m = rw (← small) (m ∙ refuses)
 
@@ -177,7 +178,7 @@ module _ (input now : List ℕ) (R : Resolved base input now) (all : (i : ℕ) �
       let l : length (take (length (drop 8 input)) no_rows) ≡ length (drop 8 input) = length-take-le (length (drop 8 input)) no_rows (omega (arith, no_rows_lem, d, left_roomy.long, left_roomy.few)) in
       rw (marks (setting 0) able_1 input R.old bs R.own R.accepts no_ends (take (length (drop 8 input)) no_rows) no_slots a b l).answer
 
-  module _ (a : Answer) (l : List ℕ) (p : (a & l) ≡ propose_t input now) where
+  module _ (a : Result ℕ Refused) (l : List ℕ) (p : (a & l) ≡ propose_t input now) where
     pub shares : (meaning a ≡ ruled (shared base input (length R.old))) × (l ≡ shared_output base input R.old)
     shares =
         answers_shared (setting 0) able_1 input R.old bs R.own R.accepts no_ends no_slots no_slots rooms_1 a l (mark_t (drop 8 input) (take (length (drop 8 input)) no_rows)) marked_is
@@ -190,7 +191,7 @@ module _ (input now : List ℕ) (R : Resolved base input now) (all : (i : ℕ) �
 
 -- ---- share_in
 
-module _ (input old now : List ℕ) (o : Own) (Q : run.Ran base input old now o) (h : o.number ≡ 0) (all : (i : ℕ) → Fits w8 (get_or input i 0)) (a : Answer) (l : List ℕ) (p : (a & l) ≡ propose_t input now) where
+module _ (input old now : List ℕ) (o : Own) (Q : run.Ran base input old now o) (h : o.number ≡ 0) (all : (i : ℕ) → Fits w8 (get_or input i 0)) (a : Result ℕ Refused) (l : List ℕ) (p : (a & l) ≡ propose_t input now) where
   both : (meaning a ≡ ruled (shared base input (length old))) × (l ≡ shared_output base input old)
   unfolding own_resolved
   both = shares input now (own_resolved base input old now o Q h) all a l p
@@ -207,7 +208,7 @@ module _ (slots links : ℕ) (b : Bool) (is : b ≡ too_small slots links) (t : 
   pub large_areas : Large slots links
   large_areas = let z = large slots links (sym is ∙ t) in record { slots_large = z.0; links_large = z.1 }
 
-  pub answers_with : (input : List ℕ) (room : ℕ) (r : Answer) → meaning r ≡ ruled (shared base input room) → meaning r ≡ ruled (shared_with input room slots links)
+  pub answers_with : (input : List ℕ) (room : ℕ) (r : Result ℕ Refused) → meaning r ≡ ruled (shared base input room) → meaning r ≡ ruled (shared_with input room slots links)
   unfolding shared_with when◌then◌else◌
   answers_with input room r p = let f : too_small slots links ≡ false = sym is ∙ t in rw f p
 

@@ -25,7 +25,8 @@ use fixed::HEADER;
 use form::ends::mark_ends;
 use mark::mark_rows;
 use names::Slot;
-use resolver::run::{Answer, fill, header_size, resolve};
+use refusal::Refused;
+use resolver::run::{fill, header_size, resolve};
 
 // ---- the proposal
 
@@ -41,7 +42,7 @@ fn mark_form(rows: &[u8], marked: &mut [u8])
 }
 
 // Runs the steps on the marked rows of a form, into its share of the output.
-fn walk_marked(rows: &[u8], marked: &mut [u8], front: &mut [u8]) -> Answer
+fn walk_marked(rows: &[u8], marked: &mut [u8], front: &mut [u8]) -> Result<u32, Refused>
     requires { length rows.now ≤ length marked.old }
     ensures { (result & front.new) ≡ walked_t rows.now marked.old front.old }
 {
@@ -51,7 +52,7 @@ fn walk_marked(rows: &[u8], marked: &mut [u8], front: &mut [u8]) -> Answer
 }
 
 // Writes the proposal over what the resolver left.
-fn propose(form: &[u8], out: &mut [u8]) -> Answer
+fn propose(form: &[u8], out: &mut [u8]) -> Result<u32, Refused>
     requires { Roomy (setting 0) form.now out.old }
     ensures { (result & out.new) ≡ propose_t form.now out.old }
 {
@@ -75,16 +76,18 @@ pub fn front_of(out: &[u8], i: usize, rows: u32) -> &[u8]
 }
 
 // Whether a verdict accepts.
-pub fn is_yes(verdict: Verdict) -> bool
+pub fn is_yes(verdict: Result<Verdict, Refusal>) -> bool
     ensures { result ≡ said_yes (checked verdict) }
 {
     match verdict {
-        Verdict::Yes => true,
-        Verdict::No {
-            condition: _,
-            row: _,
-        } => false,
-        Verdict::Refused(_) => false,
+        Ok(Verdict::Yes) => true,
+        Ok(
+            Verdict::No {
+                condition: _,
+                row: _,
+            },
+        ) => false,
+        Err(_) => false,
     }
 }
 
@@ -120,27 +123,32 @@ fn clear(table: &mut [Slot], index: &mut [u16])
 // ---- the run
 
 // The number of a refusal, and 0 of none.
-pub fn number_of(answer: Answer) -> u32
+pub fn number_of(answer: Result<u32, Refused>) -> u32
     ensures { result ≡ (meaning answer).plain.number }
 {
     match answer {
-        Answer::Accepted(_) => 0,
-        Answer::Refused(refusal, _) => refusal.number,
+        Ok(_) => 0,
+        Err(Refused { refusal, .. }) => refusal.number,
     }
 }
 
 // How many rows were written; a refusal's place.
-pub fn rows_of(answer: Answer) -> u32
+pub fn rows_of(answer: Result<u32, Refused>) -> u32
     ensures { result ≡ (meaning answer).plain.place }
 {
     match answer {
-        Answer::Accepted(rows) => rows,
-        Answer::Refused(refusal, _) => refusal.place,
+        Ok(rows) => rows,
+        Err(Refused { refusal, .. }) => refusal.place,
     }
 }
 
 // The proposal, once it is seen to be an output of the form.
-fn settle(form: &[u8], out: &mut [u8], table: &mut [Slot], index: &mut [u16]) -> Answer
+fn settle(
+    form: &[u8],
+    out: &mut [u8],
+    table: &mut [Slot],
+    index: &mut [u16],
+) -> Result<u32, Refused>
     requires { Resolved base form.now out.old × Large (length table.old) (length index.old) }
     ensures { ((result & out.new) ≡ propose_t form.now out.old) × (table.new ≡ table_after base form.now table.old) × (index.new ≡ index_after base form.now index.old) }
 {
@@ -155,7 +163,7 @@ fn settle(form: &[u8], out: &mut [u8], table: &mut [Slot], index: &mut [u16]) ->
 #[derive(Clone, Copy)]
 pub struct Own {
     pub number: u32,
-    pub answer: Answer,
+    pub answer: Result<u32, Refused>,
 }
 
 // The resolver's own run.
@@ -168,7 +176,12 @@ fn resolve_own(form: &[u8], out: &mut [u8]) -> Own
 }
 
 // Resolves the form, and where that is accepted writes the proposal over it.
-fn share_in(form: &[u8], out: &mut [u8], table: &mut [Slot], index: &mut [u16]) -> Answer
+fn share_in(
+    form: &[u8],
+    out: &mut [u8],
+    table: &mut [Slot],
+    index: &mut [u16],
+) -> Result<u32, Refused>
     requires { Large (length table.old) (length index.old) }
     ensures result_value { (meaning result ≡ ruled (shared base form.now (length out.old))) × (out.new ≡ shared_output base form.now out.old) }
     ensures table_after { (table.new ≡ table_after base form.now table.old) × (index.new ≡ index_after base form.now index.old) }
@@ -184,7 +197,12 @@ fn share_in(form: &[u8], out: &mut [u8], table: &mut [Slot], index: &mut [u16]) 
 
 // Resolves a form of version 1 so that references share aliases, in the form that `out` holds then. The table and its index are the
 // working areas of the check, and empty afterwards.
-pub fn share(form: &[u8], out: &mut [u8], table: &mut [Slot], index: &mut [u16]) -> Answer
+pub fn share(
+    form: &[u8],
+    out: &mut [u8],
+    table: &mut [Slot],
+    index: &mut [u16],
+) -> Result<u32, Refused>
     ensures result_value { (meaning result ≡ ruled (shared_with form.now (length out.old) (length table.old) (length index.old))) × (out.new ≡ output_with form.now out.old (length table.old) (length index.old)) }
     ensures table_after { (table.new ≡ table_after base form.now table.old) × (index.new ≡ index_after base form.now index.old) }
 {

@@ -1,4 +1,5 @@
 -- Of an input that is accepted under one of the settings in force: the proposal is what the rules propose, and the check accepts it.
+use Rattle.std.specs.Prelude.{Result, ℕ}
 use mathlib.Core.Path.{◌≡◌, refl, sym, ap, ◌∙◌}
 use mathlib.Core.Bool.{Bool, true, false}
 use mathlib.Core.Option.{Option, none, some}
@@ -25,7 +26,6 @@ use Rattle.form.specs.MarkEnds.{Noted, depth_before, end_at_t, with_noted, ends_
 use Rattle.names.specs.Table.{Slot}
 use Rattle.rows.specs.RowAt.{code_at}
 use Rattle.resolver.specs.Meaning.{meaning, ruled}
-use Rattle.resolver.specs.declared.run.Answer.{Answer}
 use Rattle.resolver.proofs.Root.{Able, Rooms}
 use Rattle.resolver_with.specs.Areas.{slots_for, Lent, roomy}
 use Rattle.resolver_with.specs.Asked.{asked}
@@ -36,6 +36,7 @@ use Rattle.share.specs.Run.{propose_in, Roomy, is_yes, Resolved}
 use Rattle.share.proofs.Agrees as one
 use Rattle.share_with.specs.With.{bytes_for}
 use Rattle.share_with.specs.Run.{walk_over, walked_in, propose_with}
+use Rattle.refusal.specs.declared.Refused.{Refused}
 
 -- ---- as many ends are noted as there is room for
 
@@ -89,7 +90,7 @@ module _ (by : Setting) (able : Able by) (input old : List ℕ) (bs : Bytes inpu
         let d = length-drop v.header input in
         length-take-le (length body) (take (bytes_for v) marked) (omega (arith, R.long, R.few))
 
-    shares_in : (a : Answer) (l : List ℕ) → (a & l) ≡ propose_with by input (output (by ∷ []) input old) marked ends entered names
+    shares_in : (a : Result ℕ Refused) (l : List ℕ) → (a & l) ≡ propose_with by input (output (by ∷ []) input old) marked ends entered names
         → (meaning a ≡ ruled (shared (by ∷ []) input (length old))) × (l ≡ shared_output (by ∷ []) input old)
     unfolding propose_with walked_in walk_over propose_in
     shares_in a l p =
@@ -151,7 +152,7 @@ module _ (i : ℕ) (input : List ℕ) (asks : setting i ≡ asked input) where
       left_roomy = one.roomy (setting i) (able_at i) input R.old bs R.own resolved.accepts now (ap length resolved.left ∙ one.as_long (setting i) (able_at i) input R.old)
 
       module _ (marked ends : List ℕ) (entered names : List Slot) (hm : bytes_for (setting i).version ≤ length marked) (hs : slots_for (setting i).version ≤ length ends) (he : slots_for (setting i).version ≤ length entered) (hn : slots_for (setting i).version ≤ length names)
-          (a : Answer) (l : List ℕ) (p : (a & l) ≡ propose_with (setting i) input now marked ends entered names) where
+          (a : Result ℕ Refused) (l : List ℕ) (p : (a & l) ≡ propose_with (setting i) input now marked ends entered names) where
         shares : (meaning a ≡ ruled (shared (setting i ∷ []) input (length R.old))) × (l ≡ shared_output (setting i ∷ []) input R.old)
         unfolding resolved
         shares =

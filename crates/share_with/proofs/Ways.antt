@@ -1,4 +1,5 @@
 -- The ways through the code.
+use Rattle.std.specs.Prelude.{Result, ℕ}
 use mathlib.Core.Path.{◌≡◌, refl, sym, ap, ◌∙◌, subst}
 use mathlib.Core.Bool.{Bool, true, false, ◌||◌, not}
 use mathlib.Core.Logic.{◌⊎◌, inl, inr}
@@ -30,7 +31,6 @@ use Rattle.mark.specs.MarkedRows.{mark_rows_t}
 use Rattle.resolver.specs.Meaning.{meaning, ruled}
 use Rattle.resolver.specs.Run as resolver
 use Rattle.resolver.specs.Run.{walk_in, fill_t, before}
-use Rattle.resolver.specs.declared.run.Answer.{Answer}
 use Rattle.resolver.proofs.Bytes.{all_bytes}
 use Rattle.resolver.proofs.Starts.{served_new}
 use Rattle.clearing.specs.Cleared.{cleared}
@@ -53,6 +53,7 @@ use Rattle.share_laws.specs.Relaxed.{relaxed}
 use Rattle.share_with.specs.With.{bytes_for, too_small, shared_with, output_with}
 use Rattle.share_with.specs.Run.{walk_over, walked_in, propose_with, Linked, Fit}
 use Rattle.share_with.proofs.Agrees as agrees
+use Rattle.refusal.specs.declared.Refused.{Refused}
 
 -- ---- mark_in
 
@@ -103,7 +104,7 @@ module _ (i : ℕ) (e n : List Slot) (k c m : List ℕ) (suits : Suits i e n k c
         ends = r ∙ (suits.ends ∙ slots);
       }
 
-pub walked_in_lem : (i j : ℕ) → setting j ≡ relaxed (setting i) → (rows marked part ends noted front front' : List ℕ) (entered table names : List Slot) (r : Answer) → length rows ≤ length marked → noted ≡ ends_to (setting i).version.scopes rows ends
+pub walked_in_lem : (i j : ℕ) → setting j ≡ relaxed (setting i) → (rows marked part ends noted front front' : List ℕ) (entered table names : List Slot) (r : Result ℕ Refused) → length rows ≤ length marked → noted ≡ ends_to (setting i).version.scopes rows ends
     → (table & part) ≡ mark_rows_t rows noted entered (take (length rows) marked) → length part ≡ length (take (length rows) marked)
     → (r & front') ≡ fill_t (setting i) (walk_in (setting j) (take (length rows) (part ++ drop (length rows) marked)) noted table names) front → (r & front') ≡ walked_in (setting i) rows marked ends entered names front
 unfolding walked_in walk_over
@@ -150,7 +151,7 @@ module _ (i : ℕ) (form out marked ends : List ℕ) (entered names : List Slot)
   propose_by header size bytes slots =
       before (walked_in (setting i) (drop header form) (take bytes marked) (take slots ends) (take slots entered) (take slots names) (take size out)) (drop size out)
 
-  pub proposed_with : (front : List ℕ) (r : Answer) (header size bytes slots : ℕ) → header ≡ (setting i).version.header → size ≡ header + 64 * ((length form - header) / 16)
+  pub proposed_with : (front : List ℕ) (r : Result ℕ Refused) (header size bytes slots : ℕ) → header ≡ (setting i).version.header → size ≡ header + 64 * ((length form - header) / 16)
       → bytes ≡ bytes_for (setting i).version → slots ≡ slots_for (setting i).version
       → (r & front) ≡ walked_in (setting i) (take (length form - header) (drop header form)) (take bytes marked) (take slots ends) (take slots entered) (take slots names) (take size out)
       → (r & front ++ drop size out) ≡ propose_with (setting i) form out marked ends entered names
@@ -197,7 +198,7 @@ module _ (i : ℕ) (form : List ℕ) (bytes slots links : ℕ) (e n : List Slot)
     pub left_roomy : Roomy (setting i) form now
     left_roomy = agrees.left_roomy i form F.asks now R (all_bytes form each)
 
-    module _ (marked : List ℕ) (b : bytes ≡ length marked) (a : Answer) (l : List ℕ) (p : (a & l) ≡ propose_with (setting i) form now marked m e n) where
+    module _ (marked : List ℕ) (b : bytes ≡ length marked) (a : Result ℕ Refused) (l : List ℕ) (p : (a & l) ≡ propose_with (setting i) form now marked m e n) where
       large : bytes_for (setting i).version ≤ length marked
       large = omega (arith, F.bytes_large, b)
 
@@ -276,7 +277,7 @@ pub marked_after : (form : List ℕ) (i : ℕ) → setting i ≡ asked form → 
 marked_after form i asks old new e = e ∙ ap (λ (s : Setting). cleared 0 (bytes_for s.version) old) asks
 
 module _ (input old now : List ℕ) (o : Own) (Q : share.Ran all input old now o) (z : o.number ≡ 0) (each : (j : ℕ) → Fits w8 (get_or input j 0)) (i bytes slots links : ℕ) (e₀ e n₀ n : List Slot) (k₀ k c₀ c m₀ m : List ℕ)
-    (v : Version) (C : Cleared v e₀ e n₀ n k₀ k c₀ c m₀ m) (F : Fit i input bytes slots links (lent_of e₀ n₀ k₀ c₀ m₀)) (marked : List ℕ) (b : bytes ≡ length marked) (a : Answer) (l : List ℕ) (p : (a & l) ≡ propose_with (setting i) input now marked m e n) where
+    (v : Version) (C : Cleared v e₀ e n₀ n k₀ k c₀ c m₀ m) (F : Fit i input bytes slots links (lent_of e₀ n₀ k₀ c₀ m₀)) (marked : List ℕ) (b : bytes ≡ length marked) (a : Result ℕ Refused) (l : List ℕ) (p : (a & l) ≡ propose_with (setting i) input now marked m e n) where
   both : (meaning a ≡ ruled (shared all input (length old))) × (l ≡ shared_output all input old)
   unfolding own_resolved
   both = shares_with i input bytes slots links e n k c m (fit_still v e₀ e n₀ n k₀ k c₀ c m₀ m C i input bytes slots links F) now (own_resolved all input old now o Q z) each marked b a l p
@@ -304,7 +305,7 @@ module _ (form : List ℕ) (i : ℕ) (asks : setting i ≡ asked form) (bytes sl
     no_room true = refl
     no_room false = refl
 
-    pub small_answers : (old : List ℕ) (r : Answer) → meaning r ≡ ruled (resolved.answer_with form (length (take 0 old)) lent) → meaning r ≡ ruled (shared_with form (length old) bytes slots links lent)
+    pub small_answers : (old : List ℕ) (r : Result ℕ Refused) → meaning r ≡ ruled (resolved.answer_with form (length (take 0 old)) lent) → meaning r ≡ ruled (shared_with form (length old) bytes slots links lent)
     unfolding shared_with resolved.answer_with when◌then◌else◌
     small_answers old r m =
         let q : meaning r ≡ ruled (answer all form 0) = m ∙ ap (λ (n : ℕ). ruled (answer all form n)) (no_room (roomy (asked form).version lent)) in
@@ -347,7 +348,7 @@ module _ (form : List ℕ) (i : ℕ) (asks : setting i ≡ asked form) (bytes sl
           lent_large = subst (λ (s : Setting). roomy s.version lent ≡ true) asks (sym f ∙ p.0);
         }
 
-    pub answers_with : (room : ℕ) (r : Answer) → meaning r ≡ ruled (shared all form room) → meaning r ≡ ruled (shared_with form room bytes slots links lent)
+    pub answers_with : (room : ℕ) (r : Result ℕ Refused) → meaning r ≡ ruled (shared all form room) → meaning r ≡ ruled (shared_with form room bytes slots links lent)
     unfolding shared_with when◌then◌else◌
     answers_with room r p = rw not_small p
 

@@ -34,7 +34,8 @@ use lent_areas::are_roomy;
 use limits::of_input;
 use mark::mark_rows;
 use names::Slot;
-use resolver::run::{Answer, header_size};
+use refusal::Refused;
+use resolver::run::header_size;
 use resolver_with::run::{asked_for, fill_in, resolve_with};
 use resolver_with::sizes::{links_for, slots_for};
 use share::{Own, front_of, is_yes, number_of, rows_of};
@@ -82,7 +83,7 @@ fn walk_marked(
     known: &mut [u16],
     chains: &mut [u16],
     ends: &mut [u32],
-) -> Answer
+) -> Result<u32, Refused>
     requires { Suits i entered.old names.old known.old chains.old ends.old × (length rows.now ≤ length marked.old) }
     ensures { (result & front.new) ≡ walked_in (setting i) rows.now marked.old ends.old entered.old names.old front.old }
 {
@@ -121,7 +122,7 @@ fn propose(
     known: &mut [u16],
     chains: &mut [u16],
     ends: &mut [u32],
-) -> Answer
+) -> Result<u32, Refused>
     requires { Roomy (setting i) form.now out.old × Large i entered.old names.old known.old chains.old ends.old × (bytes_for (setting i).version ≤ length marked.old) }
     ensures out_after { (result & out.new) ≡ propose_with (setting i) form.now out.old marked.old ends.old entered.old names.old }
     ensures kept { Kept (bytes_for (setting i).version) marked.old marked.new × Kept (slots_for (setting i).version) entered.old entered.new × Kept (slots_for (setting i).version) names.old names.new × Kept (links_for (setting i).version) known.old known.new × Kept (links_for (setting i).version) chains.old chains.new × Kept (slots_for (setting i).version) ends.old ends.new }
@@ -206,7 +207,7 @@ fn settle(
     known: &mut [u16],
     chains: &mut [u16],
     ends: &mut [u32],
-) -> Answer
+) -> Result<u32, Refused>
     requires { Resolved all form.now out.old × Fit i form.now (length marked.old) (length table.old) (length index.old) (lent_of entered.old names.old known.old chains.old ends.old) }
     ensures out_after { (result & out.new) ≡ propose_with (setting i) form.now out.old marked.old ends.old entered.old names.old }
     ensures marked_after { (marked.new ≡ cleared 0 (bytes_for (setting i).version) marked.old) × (table.new ≡ table_after all form.now table.old) × (index.new ≡ index_after all form.now index.old) }
@@ -255,7 +256,7 @@ fn share_in(
     known: &mut [u16],
     chains: &mut [u16],
     ends: &mut [u32],
-) -> Answer
+) -> Result<u32, Refused>
     requires { Fit i form.now (length marked.old) (length table.old) (length index.old) (lent_of entered.old names.old known.old chains.old ends.old) }
     ensures result_value { (meaning result ≡ ruled (shared all form.now (length out.old))) × (out.new ≡ shared_output all form.now out.old) }
     ensures marked_after { (marked.new ≡ cleared 0 (bytes_for (asked form.now).version) marked.old) × (table.new ≡ table_after all form.now table.old) × (index.new ≡ index_after all form.now index.old) }
@@ -286,7 +287,7 @@ pub fn share_with(
     known: &mut [u16],
     chains: &mut [u16],
     ends: &mut [u32],
-) -> Answer
+) -> Result<u32, Refused>
     ensures result_value { (meaning result ≡ ruled (shared_with form.now (length out.old) (length marked.old) (length table.old) (length index.old) (lent_of entered.old names.old known.old chains.old ends.old))) × (out.new ≡ output_with form.now out.old (length marked.old) (length table.old) (length index.old) (lent_of entered.old names.old known.old chains.old ends.old)) }
     ensures marked_after { (marked.new ≡ cleared 0 (bytes_for (asked form.now).version) marked.old) × (table.new ≡ table_after all form.now table.old) × (index.new ≡ index_after all form.now index.old) }
     ensures cleared { Cleared (asked form.now).version entered.old entered.new names.old names.new known.old known.new chains.old chains.new ends.old ends.new }

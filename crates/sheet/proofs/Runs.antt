@@ -1,4 +1,5 @@
 -- A run of the resolver in the working area, under the settings in force: what is written there is the rules' run, if there is one.
+use Rattle.std.specs.Prelude.{Result, ℕ}
 use mathlib.Core.Path.{◌≡◌, refl, ap, sym, ◌∙◌, subst}
 use mathlib.Core.Bool.{Bool, true, false}
 use mathlib.Core.Option.{Option, none, some}
@@ -26,9 +27,9 @@ use Rattle.binding.proofs.Laws.Runs.{Made, Agree, run_agrees}
 use Rattle.reading_laws.specs.OnBytes
 use Rattle.reading_laws.specs.OnBytes.{AllWithin, begins, form_long}
 use Rattle.resolver.specs.Meaning.{Said, meaning, ruled}
-use Rattle.resolver.specs.declared.run.Answer.{Answer as Resolved}
 use Rattle.resolver.proofs.Bytes.{all_bytes}
 use Rattle.sheet.specs.Run.{rows_written, is_output}
+use Rattle.refusal.specs.declared.Refused.{Refused}
 
 -- ---- the one setting in force
 
@@ -89,7 +90,7 @@ module _ (settings : List Setting) (usual : AllUsual settings) (within : AllWith
   Known rows none = rows ≡ 0
   Known rows (some run) = Wrote run rows
 
-  pub known : (x : Resolved) → meaning x ≡ ruled (answer settings form (length o)) → (rows : ℕ) → rows ≡ rows_written (meaning x).plain → Known rows (run_of settings form)
+  pub known : (x : Result ℕ Refused) → meaning x ≡ ruled (answer settings form (length o)) → (rows : ℕ) → rows ≡ rows_written (meaning x).plain → Known rows (run_of settings form)
   unfolding rows_written pick
   known x said rows is = go (run_of settings form) (answer settings form (length o)) refl agrees (is ∙ ap (λ (w : Said). rows_written w.plain) said)
     where
@@ -109,7 +110,7 @@ lengths_differ xs ys n = go (same_numbers xs ys) refl
     go false e = sym e
 
 module _ (settings : List Setting) (usual : AllUsual settings) (within : AllWithin settings) (form : List ℕ) (head : ℕ) (heads : (v : Setting) → setting_of settings form ≡ some v → head ≡ v.version.header) (resolved o : List ℕ) (fits : (i : ℕ) → Fits w8 (get_or form i 0)) (long : work_size settings form ≤ length o)
-    (x : Resolved) (said : meaning x ≡ ruled (answer settings form (length o))) (rows : ℕ) (is : rows ≡ rows_written (meaning x).plain) where
+    (x : Result ℕ Refused) (said : meaning x ≡ ruled (answer settings form (length o))) (rows : ℕ) (is : rows ≡ rows_written (meaning x).plain) where
   abbrev Here : Option Run → Type 0
   Here r = Known settings usual within form head heads o (all_bytes form fits) long rows r
 

@@ -1,4 +1,5 @@
 -- The ways through what is below the run: bytes compared, rows counted, the working area zeroed.
+use Rattle.std.specs.Prelude.{Result, Ok, Err, ℕ}
 use mathlib.Core.Path.{◌≡◌, refl, ◌∙◌}
 use mathlib.Core.Bool.{Bool, true, false}
 use mathlib.Core.List.{List}
@@ -14,9 +15,8 @@ use Rattle.stores.specs.Zeros.{zero_from}
 use Rattle.refusal.specs.declared.Refusal.{Refusal}
 use Rattle.refusal.specs.declared.Told.{Told}
 use Rattle.resolver.specs.Meaning.{meaning}
-use Rattle.resolver.specs.declared.run.Answer.{Answer}
-use Rattle.resolver.specs.declared.run.Answer.TheVariants.{Accepted, Refused}
 use Rattle.sheet.specs.Run.{rows_written}
+use Rattle.refusal.specs.declared.Refused.{Refused}
 
 -- ---- bytes compared, from the i-th on
 
@@ -44,12 +44,12 @@ module _ (bytes area : List ℕ) (i : ℕ) (T : Bool) (inv : same_numbers (drop 
 
 -- ---- rows that were written
 
-module _ (a : Answer) where
-  pub rows_accepted : (rows : ℕ) → a ≡ Accepted rows → rows ≡ rows_written (meaning a).plain
+module _ (a : Result ℕ Refused) where
+  pub rows_accepted : (rows : ℕ) → a ≡ Ok rows → rows ≡ rows_written (meaning a).plain
   unfolding rows_written
   rows_accepted rows q = rw q (yes! _ refl refl)
 
-  module _ (r : Refusal) (told : Told) (q : a ≡ Refused r told) where
+  module _ (r : Refusal) (told : Told) (q : a ≡ Err (record { refusal = r; told = told })) where
     pub rows_placed : r.number ≡ 0 → r.place ≡ rows_written (meaning a).plain
     unfolding rows_written
     rows_placed h = let t : eqb r.number 0 ≡ true = omega tests in rw q (yes! _ t refl)

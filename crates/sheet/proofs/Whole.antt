@@ -1,4 +1,5 @@
 -- The ways through the whole, under the settings in force.
+use Rattle.std.specs.Prelude.{Result, Ok, ℕ}
 use mathlib.Core.Path.{◌≡◌, refl, ap, ap₂, sym, ◌∙◌, subst}
 use mathlib.Core.Bool.{Bool, true, false, not}
 use mathlib.Core.Option.{Option, none, some}
@@ -38,9 +39,8 @@ use Rattle.sheet_laws.specs.Agrees.{slots_agree}
 use Rattle.sheet.specs.Meaning.{meaning, ruled}
 use Rattle.clearing.specs.Cleared.{cleared}
 use Rattle.sheet.specs.Run.{refused_t, is_output}
-use Rattle.sheet.specs.declared.Answer.{Answer}
-use Rattle.sheet.specs.declared.Answer.TheVariants.{Answered}
 use Rattle.sheet.proofs.Runs.{agrees}
+use Rattle.refusal.specs.declared.Refusal.{Refusal}
 
 -- the size of the working area, for the settings in force
 module _ (settings : List Setting) (form : List ℕ) (size : ℕ) (sized : work_size settings form ≡ size) (old new : List ℕ) where
@@ -96,7 +96,7 @@ module _ (settings : List Setting) (form : List ℕ) (size : ℕ) (area : work_s
   abbrev A : SheetAnswer
   A = sheet_answer settings form resolved sheet (length answers) work
 
-  says : (number : ℕ) → A ≡ refused number 0 [] → (r : Answer) → r ≡ refused_t number → meaning r ≡ ruled A
+  says : (number : ℕ) → A ≡ refused number 0 [] → (r : Result ℕ Refusal) → r ≡ refused_t number → meaning r ≡ ruled A
   says number e r is = rw (is, e)
 
   leaves : (number : ℕ) → A ≡ refused number 0 [] → answers ≡ answers_after A answers
@@ -109,7 +109,7 @@ module _ (settings : List Setting) (form : List ℕ) (size : ℕ) (area : work_s
     unfolding sheet_answer when◌then◌else◌
     unsound = rw (← sound, no)
 
-    pub unsound_says : (r : Answer) → r ≡ refused_t 15 → meaning r ≡ ruled A
+    pub unsound_says : (r : Result ℕ Refusal) → r ≡ refused_t 15 → meaning r ≡ ruled A
     unsound_says r is = says 15 unsound r is
 
     pub unsound_leaves : answers ≡ answers_after A answers
@@ -122,7 +122,7 @@ module _ (settings : List Setting) (form : List ℕ) (size : ℕ) (area : work_s
       unfolding sheet_answer when◌then◌else◌
       small = let t : ltb work size ≡ true = omega tests in rw (← sound, so, area, t)
 
-      pub small_says : (r : Answer) → r ≡ refused_t 3 → meaning r ≡ ruled A
+      pub small_says : (r : Result ℕ Refusal) → r ≡ refused_t 3 → meaning r ≡ ruled A
       small_says r is = says 3 small r is
 
       pub small_leaves : answers ≡ answers_after A answers
@@ -143,7 +143,7 @@ module _ (settings : List Setting) (form : List ℕ) (size : ℕ) (area : work_s
             go none e = refl
             go (some run) e = rw e
 
-        pub other_says : (r : Answer) → r ≡ refused_t 15 → meaning r ≡ ruled A
+        pub other_says : (r : Result ℕ Refusal) → r ≡ refused_t 15 → meaning r ≡ ruled A
         other_says r is = says 15 other r is
 
         pub other_leaves : answers ≡ answers_after A answers
@@ -176,7 +176,7 @@ module _ (settings : List Setting) (form : List ℕ) (size : ℕ) (area : work_s
           unfolding when◌then◌else◌
           no_room = let t : ltb (length answers) (8 * (length sheet / 12)) ≡ true = omega (tests, sized, short) in it.asked ∙ rw t
 
-          pub no_room_says : (r : Answer) → r ≡ refused_t 3 → meaning r ≡ ruled A
+          pub no_room_says : (r : Result ℕ Refusal) → r ≡ refused_t 3 → meaning r ≡ ruled A
           no_room_says r is = says 3 no_room r is
 
           pub no_room_leaves : answers ≡ answers_after A answers
@@ -200,7 +200,7 @@ module _ (settings : List Setting) (form : List ℕ) (size : ℕ) (area : work_s
           unfolding bs bindings
           fitting = let sizes = answers_size bs in let count = length-map (slots sheet) (Sheet.binding it.run.before it.run.after) in let c = count_is sheet in omega (arith, sizes, count, c, sized, room)
 
-          pub answered_says : meaning (Answered n) ≡ ruled A
+          pub answered_says : meaning (Ok n) ≡ ruled A
           unfolding noted
           answered_says = let count : n ≡ 0 + failing bs = (let w = noted_is in cc) in ap (numbers 0) (count ∙ zero-add (failing bs)) ∙ ap ruled (sym found)
 

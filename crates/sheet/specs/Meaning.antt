@@ -1,14 +1,14 @@
 -- Document 01's number and place for each answer, and on success how many slots are not bound as written.
+use Rattle.std.specs.Prelude.{Result, Ok, Err, ℕ}
 use Rattle.rules.specs.Answer as rules
 use Rattle.binding.specs.Sheet.{SheetAnswer, failing}
 use Rattle.resolver.specs.Meaning.{Numbers, numbers}
-use Rattle.sheet.specs.declared.Answer.{Answer}
-use Rattle.sheet.specs.declared.Answer.TheVariants.{Answered, Refused}
+use Rattle.refusal.specs.declared.Refusal.{Refusal}
 
 -- of the code
-abbrev pub meaning : Answer → Numbers
-meaning (Answered n) = numbers 0 n
-meaning (Refused refusal) = numbers refusal.number refusal.place
+abbrev pub meaning : Result ℕ Refusal → Numbers
+meaning (Ok n) = numbers 0 n
+meaning (Err refusal) = numbers refusal.number refusal.place
 
 -- of the rules
 abbrev pub ruled : SheetAnswer → Numbers

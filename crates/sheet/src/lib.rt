@@ -14,8 +14,8 @@ ghost use Rattle.sheet.specs.Run.{refused_t, rows_written, is_output};
 
 use areas::clear_bytes;
 use fixed::bytes_of;
-use refusal::{ROOM, Refusal};
-use resolver::run::{Answer as Resolved, resolve};
+use refusal::{ROOM, Refusal, Refused};
+use resolver::run::resolve;
 use slots::{ANSWER, SLOT, answer_slots, is_sound};
 use stores::zero_from;
 
@@ -25,18 +25,11 @@ pub const AREA: usize = 65480;
 // Refusal 15: no sheet, or not an accepted input and its resolved form.
 pub const NOT_ITS_SHEET: u32 = 15;
 
-#[derive(Clone, Copy)]
-pub enum Answer {
-    // How many slots are not bound as written.
-    Answered(usize),
-    Refused(Refusal),
-}
-
 // Document 01's refusal of that number.
-pub fn refused(number: u32) -> Answer
+pub fn refused(number: u32) -> Result<usize, Refusal>
     ensures { result ≡ refused_t number }
 {
-    Answer::Refused(Refusal { number, place: 0 })
+    Err(Refusal { number, place: 0 })
 }
 
 // Whether `bytes` are what `area` begins with.
@@ -57,12 +50,12 @@ pub fn begins(area: &[u8], bytes: &[u8]) -> bool
 }
 
 // How many rows the resolver wrote, 0 if it refused. It is the number that says so: 0 is no refusal's.
-pub fn rows_written(answer: Resolved) -> u32
+pub fn rows_written(answer: Result<u32, Refused>) -> u32
     ensures { result ≡ rows_written (resolver_says.meaning answer).plain }
 {
     match answer {
-        Resolved::Accepted(rows) => rows,
-        Resolved::Refused(refusal, _) => {
+        Ok(rows) => rows,
+        Err(Refused { refusal, .. }) => {
             if refusal.number == 0 {
                 refusal.place
             } else {
@@ -112,7 +105,7 @@ pub fn check(
     sheet: &[u8],
     answers: &mut [u8],
     work: &mut [u8],
-) -> Answer
+) -> Result<usize, Refusal>
     ensures result_value { meaning result ≡ ruled (sheet_answer base form.now resolved.now sheet.now (length answers.old) (length work.old)) }
     ensures answers_after { answers.new ≡ answers_after (sheet_answer base form.now resolved.now sheet.now (length answers.old) (length work.old)) answers.old }
     ensures work_after { work.new ≡ work_after base form.now work.old }
@@ -131,5 +124,5 @@ pub fn check(
     if answers.len() < answers_size(sheet) {
         return refused(ROOM);
     }
-    Answer::Answered(answer_slots(resolved, sheet, answers))
+    Ok(answer_slots(resolved, sheet, answers))
 }

@@ -1,5 +1,5 @@
 -- What a reference of a resolved form means in the end, on the rows, is the declaration that it reaches by the rules.
-use Rattle.std.specs.Prelude.{◌≡◌, Bool, ℕ}
+use Rattle.std.specs.Prelude.{◌≡◌, Bool, ℕ, Option as CodeOption}
 use Rattle.std.proofs.Math.Path.{refl, ap, subst}
 use Rattle.std.proofs.Common.{sym, ◌∙◌}
 use Rattle.std.proofs.Math.Bool.{true, false}
@@ -20,7 +20,6 @@ use Rattle.places.specs.PlaceRows.{Floor, operand_at, row_of_operand, Located, c
 use Rattle.places.specs.Counting.{spot_of, of_space_all}
 use Rattle.places.proofs.RowAt.{all_at}
 use Rattle.readings.specs.Meaning.{final_meaning}
-use Rattle.readings.specs.declared.Meaning.{Meaning}
 use Rattle.reading_laws.specs.Said.{said, said_in, said_out, said_behind, said_end, said_from, sought}
 use Rattle.reading_laws.specs.Operands.{operand_used}
 use Rattle.reading_laws.specs.Meant.{Rows, use_there}
@@ -30,11 +29,12 @@ use Rattle.binding.specs.Sheet.{as_written, elsewhere, is_ref_at, outer_to, foll
 use Rattle.bound.specs.Bound as code
 use Rattle.bound.specs.declared.Binding.TheVariants.{AsWritten, Elsewhere}
 use Rattle.slots.specs.Slots.{ruled}
+use Rattle.readings.specs.declared.Meaning.{Meaning}
 
 -- ---- what the tree says of a number, and what the sheet's rules reach by it
 
 -- the row and the name of that declaration; or nothing
-record Tells (m : Meaning) (o : Option Located) : Type 0 where
+record Tells (m : CodeOption Meaning) (o : Option Located) : Type 0 where
   n : ℕ
   away : ℕ
   is : m ≡ said o n away
@@ -45,11 +45,11 @@ module _ (fs : List Floor) where
   tells_in none up space n = record { n = 0; away = 0; is = refl }
   tells_in (some f) up space n = record { n = n; away = up; is = refl }
 
-  tells_out : (os : List Operand) (m : Meaning) → OfNumbers os → Tells (said_out fs os m) (outer_to fs os)
+  tells_out : (os : List Operand) (m : CodeOption Meaning) → OfNumbers os → Tells (said_out fs os m) (outer_to fs os)
   unfolding said_out outer_to
   tells_out os m O = subst (λ (os : List Operand). Tells (said_out fs os m) (outer_to fs os)) (sym O.are) (tells_in (get_elem? fs O.up) O.up O.space O.n)
 
-  tells_behind : (x : Located) (n : ℕ) (m : Meaning) (spot : Spot) → Counts spot → Tells (said_behind fs spot (said (some x) n 0) m) (follow fs spot x)
+  tells_behind : (x : Located) (n : ℕ) (m : CodeOption Meaning) (spot : Spot) → Counts spot → Tells (said_behind fs spot (said (some x) n 0) m) (follow fs spot x)
   unfolding said_behind follow when◌then◌else◌
   tells_behind x n m (original field at) c = record { n = n; away = 0; is = refl }
   tells_behind x n m (inserted h) c = go (eqb h.code 11) refl
@@ -58,7 +58,7 @@ module _ (fs : List Floor) where
       go true e = tells_out h.operands m (c (eqb-true h.code 11 e))
       go false e = record { n = n; away = 0; is = refl }
 
-tells_number : (f : Floor) (rest : List Floor) → AliasesCount f → (m : Located → Meaning) (space n z : ℕ) → Tells (said_from (f ∷ rest) m 0 space n 0) (reached_from (f ∷ rest) (ref space (Num n) [] z))
+tells_number : (f : Floor) (rest : List Floor) → AliasesCount f → (m : Located → CodeOption Meaning) (space n z : ℕ) → Tells (said_from (f ∷ rest) m 0 space n 0) (reached_from (f ∷ rest) (ref space (Num n) [] z))
 unfolding said_from said_end reached_from counted_row ◌then◌
 tells_number f rest counts m space n z = go (counted_row f space n) refl
   where
@@ -106,4 +106,4 @@ pub bound_agrees : (form : List ℕ) (s : Scope) (rules : RuleSet) → GoodScope
 unfolding code.bound_at
 bound_agrees form s rules good R numbered p r at z o e is name =
     let T = final_tells form s rules good R numbered p r at z o e is in
-    ap (λ (m : Meaning). ruled (code.bound_to m name)) T.is ∙ bound_is (reached s p) T.n T.away name
+    ap (λ (m : CodeOption Meaning). ruled (code.bound_to m name)) T.is ∙ bound_is (reached s p) T.n T.away name

@@ -1,4 +1,5 @@
 -- The ways through what is below the run.
+use Rattle.std.specs.Prelude.{Result, ℕ}
 use mathlib.Core.Path.{◌≡◌, refl, ap, sym, ◌∙◌}
 use mathlib.Core.Bool.{Bool, true, false, not}
 use mathlib.Core.Logic.{◌⊎◌, inl, inr}
@@ -22,12 +23,12 @@ use Rattle.reading_laws.specs.OnBytes.{body}
 use Rattle.binding.specs.Sheet.{sound_sheet, area_of, first_of, work_size}
 use Rattle.slots.specs.Slots.{answered}
 use Rattle.resolver.specs.Meaning.{meaning, ruled}
-use Rattle.resolver.specs.declared.run.Answer.{Answer as Resolved}
 use Rattle.resolver_with.specs.Areas.{Lent, roomy}
 use Rattle.resolver_with.specs.Asked.{asked}
 use Rattle.resolver_with.specs.With.{answer_with, output_with}
 use Rattle.lent_areas.proofs.InForce.{asked_is, first_asked, header_long}
 use Rattle.sheet_with.specs.With.{area_for, early_t}
+use Rattle.refusal.specs.declared.Refused.{Refused}
 
 -- ---- sizes
 
@@ -64,7 +65,7 @@ module _ (form : List ℕ) (i : ℕ) (asks : setting i ≡ asked form) where
     in_asked : roomy (asked form).version lent ≡ true
     in_asked = ap (λ (s : Setting). roomy s.version lent) (sym asks) ∙ enough
 
-    pub said_roomy : (x : Resolved) (room : ℕ) → meaning x ≡ ruled (answer_with form room lent) → meaning x ≡ ruled (answer all form room)
+    pub said_roomy : (x : Result ℕ Refused) (room : ℕ) → meaning x ≡ ruled (answer_with form room lent) → meaning x ≡ ruled (answer all form room)
     unfolding answer_with when◌then◌else◌
     said_roomy x room e = rw in_asked at e
 

@@ -1,4 +1,5 @@
 -- The ways through the whole.
+use Rattle.std.specs.Prelude.{Result, Ok, ℕ}
 use mathlib.Core.Path.{◌≡◌, refl, ap, sym, ◌∙◌, subst}
 use mathlib.Core.Bool.{Bool, true, false, ◌&&◌, not}
 use mathlib.Core.Option.{some}
@@ -26,11 +27,10 @@ use Rattle.lent_areas.proofs.InForce.{header_long}
 use Rattle.sheet.specs.Meaning.{meaning, ruled}
 use Rattle.clearing.specs.Cleared.{cleared}
 use Rattle.sheet.specs.Run.{refused_t, is_output}
-use Rattle.sheet.specs.declared.Answer.{Answer}
-use Rattle.sheet.specs.declared.Answer.TheVariants.{Answered}
 use Rattle.sheet.proofs.Whole.{work_is, area_cleared, unsound_says, unsound_leaves, small_says, small_leaves, other_says, other_leaves, no_room_says, no_room_leaves, answered_says, answered_leaves}
 use Rattle.sheet_with.specs.With.{sheet_with, area_for, early_t}
 use Rattle.sheet_with.proofs.Ways.{area_is, heads}
+use Rattle.refusal.specs.declared.Refusal.{Refusal}
 
 module _ (form resolved sheet answers : List ℕ) (work : ℕ) (lent : Lent) (i : ℕ) (asks : setting i ≡ asked form) (size : ℕ) (sized : size ≡ area_for (setting i)) (large : Bool) (fits : large ≡ roomy (setting i).version lent) where
   abbrev A : SheetAnswer
@@ -80,15 +80,15 @@ module _ (form resolved sheet answers : List ℕ) (work : ℕ) (lent : Lent) (i 
       go true e = leb-true size work e
       go false e = let no_way : ◌≡◌ {A = ℕ} 0 1 = cc in absurd (omega arith)
 
-  abbrev Says : Answer → (new : List ℕ) → Type 0
+  abbrev Says : Result ℕ Refusal → (new : List ℕ) → Type 0
   Says r new = (meaning r ≡ ruled A) × (new ≡ answers_after A answers)
 
-  says : (r : Answer) (new : List ℕ) → meaning r ≡ ruled (sheet_answer all form resolved sheet (length answers) told) → new ≡ answers_after (sheet_answer all form resolved sheet (length answers) told) answers → Says r new
+  says : (r : Result ℕ Refusal) (new : List ℕ) → meaning r ≡ ruled (sheet_answer all form resolved sheet (length answers) told) → new ≡ answers_after (sheet_answer all form resolved sheet (length answers) told) answers → Says r new
   says r new p q = (p ∙ ap ruled A-is, q ∙ ap (λ (a : SheetAnswer). answers_after a answers) A-is)
 
   module _ (e : ℕ) (early : e ≡ early_t sheet enough) where
     -- no sheet, or an area is too small
-    pub early_returns : (e ≡ 0 → ⊥) → (r : Answer) → r ≡ refused_t e → Says r answers
+    pub early_returns : (e ≡ 0 → ⊥) → (r : Result ℕ Refusal) → r ≡ refused_t e → Says r answers
     unfolding early_t pick
     early_returns n r is = go (sound_sheet sheet) enough refl refl early
       where
@@ -118,19 +118,19 @@ module _ (form resolved sheet answers : List ℕ) (work : ℕ) (lent : Lent) (i 
       so = ap not late.0
 
       module _ (s : Bool) (same : s ≡ is_output (run_of all form) resolved) where
-        pub other_returns : not s ≡ true → (r : Answer) → r ≡ refused_t 15 → Says r answers
+        pub other_returns : not s ≡ true → (r : Result ℕ Refusal) → r ≡ refused_t 15 → Says r answers
         other_returns w r is =
             says r answers (other_says all form size area resolved sheet answers told (sound_sheet sheet) refl so (told_large is_enough) s same w r is) (other_leaves all form size area resolved sheet answers told (sound_sheet sheet) refl so (told_large is_enough) s same w)
 
         module _ (its : not s ≡ false) (each : ℕ) (count : each ≡ 8 * (length sheet / 12)) where
-          pub no_room_returns : length answers < each → (r : Answer) → r ≡ refused_t 3 → Says r answers
+          pub no_room_returns : length answers < each → (r : Result ℕ Refusal) → r ≡ refused_t 3 → Says r answers
           no_room_returns short r is =
               says r answers (no_room_says all form size area resolved sheet answers told (sound_sheet sheet) refl so (told_large is_enough) s same its each count short r is)
               (no_room_leaves all form size area resolved sheet answers told (sound_sheet sheet) refl so (told_large is_enough) s same its each count short)
 
-          pub answered_returns : each ≤ length answers → ((j : ℕ) → Fits w8 (get_or form j 0)) → (n : ℕ) (new : List ℕ) → (n & new) ≡ answered (body (setting i) resolved) sheet answers → Says (Answered n) new
+          pub answered_returns : each ≤ length answers → ((j : ℕ) → Fits w8 (get_or form j 0)) → (n : ℕ) (new : List ℕ) → (n & new) ≡ answered (body (setting i) resolved) sheet answers → Says (Ok n) new
           answered_returns room bytes n new w =
-              says (Answered n) new (answered_says all form size area resolved sheet answers told (sound_sheet sheet) refl so (told_large is_enough) s same its each count room all_usual all_within (setting i).version.header (heads form i asks _ refl) bytes n new w)
+              says (Ok n) new (answered_says all form size area resolved sheet answers told (sound_sheet sheet) refl so (told_large is_enough) s same its each count room all_usual all_within (setting i).version.header (heads form i asks _ refl) bytes n new w)
               (answered_leaves all form size area resolved sheet answers told (sound_sheet sheet) refl so (told_large is_enough) s same its each count room all_usual all_within (setting i).version.header (heads form i asks _ refl) bytes n new w)
 
   -- the working area

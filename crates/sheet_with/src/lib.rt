@@ -22,7 +22,7 @@ use names::{Slot, least};
 use refusal::ROOM;
 use resolver::run::header_size;
 use resolver_with::run::{asked_for, resolve_with};
-use sheet::{Answer, NOT_ITS_SHEET, answers_size, begins, refused, rows_written};
+use sheet::{NOT_ITS_SHEET, answers_size, begins, refused, rows_written};
 use slots::{answer_slots, is_sound};
 use stores::zero_from;
 
@@ -112,7 +112,7 @@ pub fn check_with(
     known: &mut [u16],
     chains: &mut [u16],
     ends: &mut [u32],
-) -> Answer
+) -> Result<usize, Refusal>
     ensures result_value { meaning result ≡ ruled (sheet_with form.now resolved.now sheet.now (length answers.old) (length work.old) (lent_of entered.old names.old known.old chains.old ends.old)) }
     ensures answers_after { answers.new ≡ answers_after (sheet_with form.now resolved.now sheet.now (length answers.old) (length work.old) (lent_of entered.old names.old known.old chains.old ends.old)) answers.old }
     ensures work_after { work.new ≡ work_after all form.now work.old }
@@ -150,5 +150,5 @@ pub fn check_with(
     if answers.len() < answers_size(sheet) {
         return refused(ROOM);
     }
-    Answer::Answered(answer_behind(resolved, sheet, answers, i))
+    Ok(answer_behind(resolved, sheet, answers, i))
 }

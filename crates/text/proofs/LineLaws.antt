@@ -1,4 +1,5 @@
 -- The ways through the code that tells what a line is.
+use Rattle.std.specs.Prelude.{Option, None, Result, Ok, Err}
 use mathlib.Core.Path.{◌≡◌, refl, sym, ◌∙◌}
 use mathlib.Core.Bool.{Bool, true, false}
 use mathlib.Core.List.{List, [], ◌∷◌}
@@ -13,8 +14,8 @@ use Rattle.kit.proofs.Laws.{yes!, no!, tests, drop_next, past}
 use Rattle.text.specs.Lines.{is_blank_byte, is_blank, is_comment, is_apart, is_closed, has_bracket, sized, number_then, row_in, line_of}
 use Rattle.text.specs.Numbers.{number_behind}
 use Rattle.text.specs.declared.lines.Why.TheVariants.{NoRow, Second}
-use Rattle.text.specs.declared.lines.Line.{Line}
-use Rattle.text.specs.declared.lines.Line.TheVariants.{Nothing, Wrong}
+use Rattle.parts.specs.declared.Parts.{Parts}
+use Rattle.text.specs.declared.lines.Why.{Why}
 
 -- ---- blank lines and comments
 
@@ -95,19 +96,19 @@ pub ruleset bracket_ways = (bracket_end, bracket_hit, bracket_on, rules)
 
 -- the six numbers that were found, and what is left of the line behind each
 module _ (line l₁ l₂ l₃ l₄ l₅ l₆ : List ℕ) (code b e x y z : ℕ) (h₁ : (code & l₁) ≡ number_behind 91 line) (h₂ : (b & l₂) ≡ number_behind 32 l₁) (h₃ : (e & l₃) ≡ number_behind 32 l₂) (h₄ : (x & l₄) ≡ number_behind 32 l₃) (h₅ : (y & l₅) ≡ number_behind 32 l₄) (h₆ : (z & l₆) ≡ number_behind 32 l₅) where
-  found : pick (is_closed l₆) (pick (has_bracket l₆) (Wrong Second) (sized code b e x y z)) (Wrong NoRow) ≡ row_in line
+  found : pick (is_closed l₆) (pick (has_bracket l₆) (Err Second) (sized code b e x y z)) (Err NoRow) ≡ row_in line
   unfolding row_in number_then
   found = rw (← h₁) (rw (← h₂) (rw (← h₃) (rw (← h₄) (rw (← h₅) (rw (← h₆) refl)))))
 
   module _ {t : Bool} (closed : t ≡ is_closed l₆) where
-    pub row_none : t ≡ false → Wrong NoRow ≡ row_in line
+    pub row_none : t ≡ false → Err NoRow ≡ row_in line
     row_none q = no! _ (rw (← closed) q) refl ∙ found
 
     module _ (q : t ≡ true) {u : Bool} (second : u ≡ has_bracket l₆) where
-      pub row_second : u ≡ true → Wrong Second ≡ row_in line
+      pub row_second : u ≡ true → Err Second ≡ row_in line
       row_second p = yes! _ (rw (← closed) q) (yes! _ (rw (← second) p) refl) ∙ found
 
-      pub row_sized : (r : Line) → u ≡ false → r ≡ sized code b e x y z → r ≡ row_in line
+      pub row_sized : (r : Result (Option Parts) Why) → u ≡ false → r ≡ sized code b e x y z → r ≡ row_in line
       row_sized r p s = yes! _ (rw (← closed) q) (no! _ (rw (← second) p) s) ∙ found
 
 pub ruleset row_ways = (row_none, row_second, row_sized, rules)
@@ -115,16 +116,16 @@ pub ruleset row_ways = (row_none, row_second, row_sized, rules)
 -- ---- a line
 
 module _ (line : List ℕ) (b : Bool) (is : b ≡ is_blank line) where
-  pub line_blank : b ≡ true → Nothing ≡ line_of line
+  pub line_blank : b ≡ true → Ok None ≡ line_of line
   unfolding line_of
   line_blank h = yes! _ (rw (← is) h) refl
 
   module _ (h : b ≡ false) (d : Bool) (said : d ≡ is_comment line) where
-    pub line_comment : d ≡ true → Nothing ≡ line_of line
+    pub line_comment : d ≡ true → Ok None ≡ line_of line
     unfolding line_of
     line_comment q = no! _ (rw (← is) h) (yes! _ (rw (← said) q) refl)
 
-    pub line_row : (r : Line) → d ≡ false → r ≡ row_in line → r ≡ line_of line
+    pub line_row : (r : Result (Option Parts) Why) → d ≡ false → r ≡ row_in line → r ≡ line_of line
     unfolding line_of
     line_row r q e = no! _ (rw (← is) h) (no! _ (rw (← said) q) e)
 

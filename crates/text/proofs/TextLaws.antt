@@ -1,4 +1,5 @@
 -- The lines of a text, and the form that they make.
+use Rattle.std.specs.Prelude.{Some, None, Result, Ok, Err, ℕ}
 use mathlib.Core.Path.{◌≡◌, refl, sym, ap, ◌∙◌}
 use mathlib.Core.Bool.{Bool, true, false}
 use mathlib.Core.List.{List, [], ◌∷◌, ◌++◌}
@@ -17,11 +18,9 @@ use Rattle.parts.specs.declared.Parts.{Parts}
 use Rattle.text.specs.Lines.{on_first, lines_of, line_length, line_of}
 use Rattle.text.specs.declared.lines.Why.{Why}
 use Rattle.text.specs.declared.lines.Why.TheVariants.{Many, Empty}
-use Rattle.text.specs.declared.lines.Line as line
-use Rattle.text.specs.declared.lines.Line.TheVariants.{Nothing, Row}
-use Rattle.text.specs.declared.Parsed.{Parsed}
-use Rattle.text.specs.declared.Parsed.TheVariants.{Rows, Wrong}
+use Rattle.parts.specs.declared.Parts.{Parts}
 use Rattle.text.specs.Text.{start_bytes, row_bytes, header, most_rows, ended, line_then, lines_then, parsed}
+use Rattle.text.specs.declared.Wrong.{Wrong}
 
 -- ---- how many rows there can be
 
@@ -149,11 +148,11 @@ pub header_room : (rows n : ℕ) → rows ≤ most_rows n → (rows ≡ 0 → �
 header_room rows n h z = let f = rows_fit n in omega (arith, f)
 
 module _ (line rows : ℕ) (out : List ℕ) where
-  pub end_empty : rows ≡ 0 → (Wrong line Empty & out) ≡ ended line rows out
+  pub end_empty : rows ≡ 0 → (Err (record { line = line; why = Empty }) & out) ≡ ended line rows out
   unfolding ended
   end_empty h = yes! _ (omega tests) refl
 
-  pub end_rows : (out₁ : List ℕ) → (rows ≡ 0 → ⊥) → out₁ ≡ sets out 0 (header rows) → (Rows rows & out₁) ≡ ended line rows out
+  pub end_rows : (out₁ : List ℕ) → (rows ≡ 0 → ⊥) → out₁ ≡ sets out 0 (header rows) → (Ok rows & out₁) ≡ ended line rows out
   unfolding ended
   end_rows out₁ h e = no! _ (omega tests) (rw e)
 
@@ -190,12 +189,12 @@ first_line : (l : List ℕ) → 0 < length l → First l
 first_line [] h = absurd (omega arith)
 first_line (b ∷ bs) h = first_case b bs (eqb b 10) refl (first_line bs)
 
-module _ (text out : List ℕ) (most from number rows : ℕ) (T : Out Parsed (List ℕ)) (inv : lines_then (lines_of (drop from text)) most number rows out ≡ T) where
-  pub text_end : (r : Out Parsed (List ℕ)) → length text ≤ from → r ≡ ended number rows out → r ≡ T
+module _ (text out : List ℕ) (most from number rows : ℕ) (T : Out (Result ℕ Wrong) (List ℕ)) (inv : lines_then (lines_of (drop from text)) most number rows out ≡ T) where
+  pub text_end : (r : Out (Result ℕ Wrong) (List ℕ)) → length text ≤ from → r ≡ ended number rows out → r ≡ T
   unfolding lines_then lines_of
   text_end r h e = e ∙ (rw (drop_of_length-le text {i = from} h) at inv)
 
-  module _ (h : from < length text) (end : ℕ) (is : end ≡ from + line_length (drop from text)) (l : line.Line) (read : l ≡ line_of (take (end - from) (drop from text))) where
+  module _ (h : from < length text) (end : ℕ) (is : end ≡ from + line_length (drop from text)) (l : Result (Option Parts) Why) (read : l ≡ line_of (take (end - from) (drop from text))) where
     first : lines_of (drop from text) ≡ take (end - from) (drop from text) ∷ lines_of (drop end text)
     first =
         let n : line_length (drop from text) ≡ end - from = omega (arith, is) in
@@ -210,20 +209,20 @@ module _ (text out : List ℕ) (most from number rows : ℕ) (T : Out Parsed (Li
     unfolding lines_then
     text_turn = rw read (rw first at inv)
 
-    pub text_nothing : l ≡ Nothing → lines_then (lines_of (drop end text)) most (number + 1) rows out ≡ T
+    pub text_nothing : l ≡ Ok None → lines_then (lines_of (drop end text)) most (number + 1) rows out ≡ T
     unfolding line_then
     text_nothing q = rw q at text_turn
 
-    pub text_wrong : (why : Why) → l ≡ line.TheVariants.Wrong why → (Wrong (number + 1) why & out) ≡ T
+    pub text_wrong : (why : Why) → l ≡ Err why → (Err (record { line = number + 1; why = why }) & out) ≡ T
     unfolding line_then
     text_wrong why q = rw q at text_turn
 
-    module _ (p : Parts) (q : l ≡ Row p) where
-      row_turn : pick (ltb rows most) (lines_then (lines_of (drop end text)) most (number + 1) (rows + 1) (sets out (8 + 16 * rows) (row_bytes p))) (Wrong (number + 1) Many & out) ≡ T
+    module _ (p : Parts) (q : l ≡ Ok (Some p)) where
+      row_turn : pick (ltb rows most) (lines_then (lines_of (drop end text)) most (number + 1) (rows + 1) (sets out (8 + 16 * rows) (row_bytes p))) (Err (record { line = number + 1; why = Many }) & out) ≡ T
       unfolding line_then
       row_turn = rw q at text_turn
 
-      pub text_many : most ≤ rows → (Wrong (number + 1) Many & out) ≡ T
+      pub text_many : most ≤ rows → (Err (record { line = number + 1; why = Many }) & out) ≡ T
       text_many m = no! _ (omega tests) refl ∙ row_turn
 
       pub text_row : (a : ℕ) (out₁ : List ℕ) → rows < most → a ≡ 8 + 16 * rows → out₁ ≡ sets out a (row_bytes p) → lines_then (lines_of (drop end text)) most (number + 1) (rows + 1) out₁ ≡ T

@@ -1,13 +1,12 @@
 -- The lines of a text, and what a line is: a row, a comment, blank, or wrong.
-use Rattle.std.specs.Prelude.{Bool, true, false, ◌||◌, List, [], ◌∷◌, ℕ, zero, suc, eqb, ltb, get_or}
+use Rattle.std.specs.Prelude.{Bool, true, false, ◌||◌, List, [], ◌∷◌, ℕ, zero, suc, eqb, ltb, get_or, Option, Some, None, Result, Ok, Err}
 use Rattle.kit.specs.Pick.{pick}
 use Rattle.kit.specs.Out.{Out, ◌&◌}
 use Rattle.parts.specs.PartsAt.{parts}
 use Rattle.text.specs.Numbers.{number_behind}
 use Rattle.text.specs.declared.lines.Why.{Why}
 use Rattle.text.specs.declared.lines.Why.TheVariants.{NoRow, Second, LargeCode, LargeB, LargeE, LargeX, LargeY, LargeZ}
-use Rattle.text.specs.declared.lines.Line.{Line}
-use Rattle.text.specs.declared.lines.Line.TheVariants.{Nothing, Row, Wrong}
+use Rattle.parts.specs.declared.Parts.{Parts}
 
 -- ---- the lines, each with the byte that ends it
 
@@ -58,22 +57,22 @@ has_bracket [] = false
 has_bracket (byte ∷ bytes) = pick (eqb byte 91) true (has_bracket bytes)
 
 -- six numbers, if each fits its part
-unfoldable pub sized : (code b e x y z : ℕ) → Line
+unfoldable pub sized : (code b e x y z : ℕ) → Result (Option Parts) Why
 sized code b e x y z =
-    pick (ltb 255 code) (Wrong LargeCode)
-    (pick (ltb 255 b) (Wrong LargeB)
-    (pick (ltb 65535 e) (Wrong LargeE)
-    (pick (ltb 4294967295 x) (Wrong LargeX)
-    (pick (ltb 4294967295 y) (Wrong LargeY)
-    (pick (ltb 4294967295 z) (Wrong LargeZ)
-    (Row (parts code b e x y z)))))))
+    pick (ltb 255 code) (Err LargeCode)
+    (pick (ltb 255 b) (Err LargeB)
+    (pick (ltb 65535 e) (Err LargeE)
+    (pick (ltb 4294967295 x) (Err LargeX)
+    (pick (ltb 4294967295 y) (Err LargeY)
+    (pick (ltb 4294967295 z) (Err LargeZ)
+    (Ok (Some (parts code b e x y z))))))))
 
 -- what is made of a number and of what is left behind it
-unfoldable pub number_then : Out ℕ (List ℕ) → (ℕ → List ℕ → Line) → Line
+unfoldable pub number_then : Out ℕ (List ℕ) → (ℕ → List ℕ → Result (Option Parts) Why) → Result (Option Parts) Why
 number_then (number & left) f = f number left
 
 -- `[`, six numbers with a blank between them, `]`, and a comment in which no bracket opens
-unfoldable pub row_in : List ℕ → Line
+unfoldable pub row_in : List ℕ → Result (Option Parts) Why
 row_in line =
     number_then (number_behind 91 line) (λ code left.
     number_then (number_behind 32 left) (λ b left.
@@ -81,10 +80,10 @@ row_in line =
     number_then (number_behind 32 left) (λ x left.
     number_then (number_behind 32 left) (λ y left.
     number_then (number_behind 32 left) (λ z left.
-    pick (is_closed left) (pick (has_bracket left) (Wrong Second) (sized code b e x y z)) (Wrong NoRow)))))))
+    pick (is_closed left) (pick (has_bracket left) (Err Second) (sized code b e x y z)) (Err NoRow)))))))
 
 -- ---- a line
 
 -- what a line is: nothing where it is blank or a comment, else a row or what is wrong with it
-unfoldable pub line_of : List ℕ → Line
-line_of line = pick (is_blank line) Nothing (pick (is_comment line) Nothing (row_in line))
+unfoldable pub line_of : List ℕ → Result (Option Parts) Why
+line_of line = pick (is_blank line) (Ok None) (pick (is_comment line) (Ok None) (row_in line))

@@ -11,7 +11,7 @@ ghost use Rattle.kit.specs.Out.{◌&◌};
 ghost use Rattle.text.specs.Lines.{line_length};
 ghost use Rattle.text.specs.Text.{most_rows, ended, parsed};
 
-use crate::lines::{Line, Why, line_of};
+use crate::lines::{Why, line_of};
 use crate::store::{put_header, put_parts};
 use fixed::{HEADER, bytes_of};
 
@@ -20,9 +20,9 @@ pub const MOST: u32 = 4092;
 
 // A form, with the number of its rows; or the first line that is wrong, and why.
 #[derive(Clone, Copy)]
-pub enum Parsed {
-    Rows(u32),
-    Wrong { line: usize, why: Why },
+pub struct Wrong {
+    pub line: usize,
+    pub why: Why,
 }
 
 // How many rows a form in this many bytes can have.
@@ -52,22 +52,22 @@ fn behind_line(text: &[u8], from: usize) -> usize
 }
 
 // What is answered where the text ends.
-fn end_text(out: &mut [u8], line: usize, rows: u32) -> Parsed
+fn end_text(out: &mut [u8], line: usize, rows: u32) -> Result<u32, Wrong>
     requires { rows ≤ most_rows (length out.old) }
     ensures { (result & out.new) ≡ ended line rows out.old }
 {
     if rows == 0 {
-        return Parsed::Wrong {
+        return Err(Wrong {
             line,
             why: Why::Empty,
-        };
+        });
     }
     put_header(out, rows);
-    Parsed::Rows(rows)
+    Ok(rows)
 }
 
 // Turns a text into the form that its lines make. After a wrong line the rows before it are in `out`, and no header.
-pub fn parse(text: &[u8], out: &mut [u8]) -> Parsed
+pub fn parse(text: &[u8], out: &mut [u8]) -> Result<u32, Wrong>
     ensures { (result & out.new) ≡ parsed text.now out.old }
 {
     let most = most_rows(out.len());
@@ -78,14 +78,14 @@ pub fn parse(text: &[u8], out: &mut [u8]) -> Parsed
         let end = behind_line(text, from);
         line += 1;
         match line_of(&text[from..end]) {
-            Line::Nothing => {}
-            Line::Wrong(why) => return Parsed::Wrong { line, why },
-            Line::Row(parts) => {
+            Ok(None) => {}
+            Err(why) => return Err(Wrong { line, why }),
+            Ok(Some(parts)) => {
                 if most <= rows {
-                    return Parsed::Wrong {
+                    return Err(Wrong {
                         line,
                         why: Why::Many,
-                    };
+                    });
                 }
                 put_parts(out, bytes_of(rows), parts);
                 rows += 1;

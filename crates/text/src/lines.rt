@@ -20,14 +20,6 @@ pub enum Why {
     Empty,
 }
 
-// A blank line or a comment; a row; or neither.
-#[derive(Clone, Copy)]
-pub(crate) enum Line {
-    Nothing,
-    Row(Parts),
-    Wrong(Why),
-}
-
 // Whether a byte is a blank, a tab or of the end of a line.
 fn is_blank_byte(byte: u8) -> bool
     ensures { result ≡ is_blank_byte byte }
@@ -97,39 +89,39 @@ fn has_bracket(line: &[u8], from: usize) -> bool
 }
 
 // A row of six numbers, if each fits its part.
-fn sized_row(code: u64, b: u64, e: u64, x: u64, y: u64, z: u64) -> Line
+fn sized_row(code: u64, b: u64, e: u64, x: u64, y: u64, z: u64) -> Result<Option<Parts>, Why>
     ensures { result ≡ sized code b e x y z }
 {
     if 255 < code {
-        return Line::Wrong(Why::LargeCode);
+        return Err(Why::LargeCode);
     }
     if 255 < b {
-        return Line::Wrong(Why::LargeB);
+        return Err(Why::LargeB);
     }
     if 65535 < e {
-        return Line::Wrong(Why::LargeE);
+        return Err(Why::LargeE);
     }
     if 4294967295 < x {
-        return Line::Wrong(Why::LargeX);
+        return Err(Why::LargeX);
     }
     if 4294967295 < y {
-        return Line::Wrong(Why::LargeY);
+        return Err(Why::LargeY);
     }
     if 4294967295 < z {
-        return Line::Wrong(Why::LargeZ);
+        return Err(Why::LargeZ);
     }
-    Line::Row(Parts {
+    Ok(Some(Parts {
         code: code as u8,
         b: b as u8,
         e: e as u32,
         x: x as u32,
         y: y as u32,
         z: z as u32,
-    })
+    }))
 }
 
 // A row, if the line is one.
-fn row_in(line: &[u8]) -> Line
+fn row_in(line: &[u8]) -> Result<Option<Parts>, Why>
     ensures { result ≡ row_in line.now }
 {
     let code = number_behind(line, 0, b'[');
@@ -140,23 +132,23 @@ fn row_in(line: &[u8]) -> Line
     let z = number_behind(line, y.end, b' ');
     if is_closed(line, z.end) {
         if has_bracket(line, z.end) {
-            Line::Wrong(Why::Second)
+            Err(Why::Second)
         } else {
             sized_row(code.value, b.value, e.value, x.value, y.value, z.value)
         }
     } else {
-        Line::Wrong(Why::NoRow)
+        Err(Why::NoRow)
     }
 }
 
-pub(crate) fn line_of(line: &[u8]) -> Line
+pub(crate) fn line_of(line: &[u8]) -> Result<Option<Parts>, Why>
     ensures { result ≡ line_of line.now }
 {
     if is_blank(line) {
-        return Line::Nothing;
+        return Ok(None);
     }
     if is_comment(line) {
-        return Line::Nothing;
+        return Ok(None);
     }
     row_in(line)
 }

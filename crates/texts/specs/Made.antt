@@ -1,12 +1,9 @@
 -- What is answered of a text once what is wrong with it was said.
-use Rattle.std.specs.Prelude.{List, ℕ}
+use Rattle.std.specs.Prelude.{List, ℕ, Option, Some, None, Result, Ok, Err}
 use Rattle.kit.specs.Out.{Out, ◌&◌}
-use Rattle.text.specs.declared.Parsed.{Parsed}
-use Rattle.text.specs.declared.Parsed.TheVariants.{Rows, Wrong}
-use Rattle.texts.specs.declared.make.Made.{Made}
-use Rattle.texts.specs.declared.make.Made.TheVariants.{Form, Nothing}
+use Rattle.text.specs.declared.Wrong.{Wrong}
 
 -- makes the form that a text spells
-unfoldable pub made : Out Parsed (List ℕ) → Out Made (List ℕ)
-made (Rows rows & out) = Form rows & out
-made (Wrong line why & out) = Nothing & out
+unfoldable pub made : Out (Result ℕ Wrong) (List ℕ) → Out (Option ℕ) (List ℕ)
+made (Ok rows & out) = Some rows & out
+made (Err (record { line = line; why = why }) & out) = None & out

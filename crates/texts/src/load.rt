@@ -4,14 +4,14 @@ ghost use Rattle.files.specs.Loaded.{Fits};
 
 use files::host::Host;
 use files::path_parts::front;
-use files::read::{Loaded, load_within};
+use files::read::load_within;
 
 // The most bytes of a text: 128 for each line of the longest form, and of what is printed no line has more. A form of
 // version 2 has at most half of them.
 const LARGEST: usize = 524288;
 
 // Reads the text of a path into a buffer.
-pub fn load_text(host: Host<'_>, path: &[u8], text: &mut [u8; 524289]) -> Loaded
+pub fn load_text(host: Host<'_>, path: &[u8], text: &mut [u8; 524289]) -> Option<usize>
     ensures { Fits 524288 result }
 {
     load_within(

@@ -6,15 +6,8 @@ ghost use Rattle.texts.specs.Made.{made};
 
 use crate::wrong::say_why;
 use text::lines::Why;
-use text::{Parsed, parse};
+use text::{Wrong, parse};
 use words::{Talk, say, say_long};
-
-// A form of this many rows; or none, and a sentence has said in which line of the text that lies.
-#[derive(Clone, Copy)]
-pub enum Made {
-    Form(u32),
-    Nothing,
-}
 
 fn say_line(fd: Talk<'_>, path: &[u8], line: usize, why: Why) {
     say(fd, path);
@@ -26,14 +19,14 @@ fn say_line(fd: Talk<'_>, path: &[u8], line: usize, why: Why) {
 }
 
 // Makes the form that a text spells. The text's path is for the sentence.
-pub fn make_form(fd: Talk<'_>, path: &[u8], text: &[u8], out: &mut [u8]) -> Made
+pub fn make_form(fd: Talk<'_>, path: &[u8], text: &[u8], out: &mut [u8]) -> Option<u32>
     ensures { (result & out.new) ≡ made (parsed text.now out.old) }
 {
     match parse(text, out) {
-        Parsed::Rows(rows) => Made::Form(rows),
-        Parsed::Wrong { line, why } => {
+        Ok(rows) => Some(rows),
+        Err(Wrong { line, why }) => {
             say_line(fd, path, line, why);
-            Made::Nothing
+            None
         }
     }
 }

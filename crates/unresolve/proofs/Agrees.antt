@@ -1,4 +1,5 @@
 -- What the code answers and leaves is what the rules say.
+use Rattle.std.specs.Prelude.{Option, Some, None, Result, Ok, Err, ℕ}
 use mathlib.Core.Path.{◌≡◌, refl, sym, ap, ◌∙◌, subst}
 use mathlib.Core.Bool.{Bool, true, false, ◌||◌}
 use mathlib.Core.Option.{Option, none, some}
@@ -33,26 +34,21 @@ use Rattle.refusal.specs.declared.Refusal.{Refusal}
 use Rattle.limits.specs.Held.{setting}
 use Rattle.back_notes.specs.Note.{Note, no_note}
 use Rattle.whole_form.specs.Whole.{form_of}
-use Rattle.whole_form.specs.declared.read.Form.{Form}
-use Rattle.whole_form.specs.declared.read.Form.TheVariants.{Whole, Refused as NotWhole}
 use Rattle.whole_form.proofs.Laws.{whole_read}
 use Rattle.resolver.specs.Meaning.{meaning}
-use Rattle.resolver.specs.declared.run.Answer.{Answer}
-use Rattle.resolver.specs.declared.run.Answer.TheVariants.{Accepted, Refused}
 use Rattle.unresolve.specs.With.{back_with, out_with, restored_after, again_after}
 use Rattle.unresolve.specs.Meaning.{returned_in, returned}
 use Rattle.unresolve.specs.Restored.{no_notes, restore_t}
 use Rattle.unresolve.specs.Run.{refused_t, alone, Came, give_t, Kept}
-use Rattle.unresolve.specs.declared.run.Back.{Back}
-use Rattle.unresolve.specs.declared.run.Back.TheVariants.{Nothing, From}
 use Rattle.unresolve.proofs.Resolves.{alone_one, count_of, claim_long, resolved_is}
 use Rattle.unresolve.proofs.Alone.{Fit, fit_in}
 use Rattle.unresolve.proofs.Candidate.{given_read, given_restored}
+use Rattle.refusal.specs.declared.Refused.{Refused}
 
-answer_of_lem : Out Answer (List ℕ) → Answer
+answer_of_lem : Out (Result ℕ Refused) (List ℕ) → Result ℕ Refused
 answer_of_lem (r & o) = r
 
-out_of : Out Answer (List ℕ) → List ℕ
+out_of : Out (Result ℕ Refused) (List ℕ) → List ℕ
 out_of (r & o) = o
 
 behind : (k : ℕ) (l : List ℕ) → take (length l - k) (drop k l) ≡ drop k l
@@ -78,12 +74,12 @@ module _ (i : ℕ) (F : Fit (setting i)) where
   U : Usual (setting i)
   U = F.settled.usual.0
 
-  unread : (form : List ℕ) (why : Refusal) (t : Scope) → NotWhole why ≡ form_of (read_form (as_claimed (setting i)) form) → read_form (as_claimed (setting i)) form ≡ accepted t → ⊥
+  unread : (form : List ℕ) (why : Refusal) (t : Scope) → Err why ≡ form_of (read_form (as_claimed (setting i)) form) → read_form (as_claimed (setting i)) form ≡ accepted t → ⊥
   unfolding form_of
-  unread form why t e r = let q : NotWhole why ≡ Whole (length (flatten t)) = rw r at e in let z : ◌≡◌ {A = ℕ} 0 1 = cc in absurd (omega arith)
+  unread form why t e r = let q : Err why ≡ Ok (length (flatten t)) = rw r at e in let z : ◌≡◌ {A = ℕ} 0 1 = cc in absurd (omega arith)
 
-  module _ (form : List ℕ) (f : Form) (said : f ≡ form_of (read_form (as_claimed (setting i)) form)) where
-    pub found_unread : (area : List ℕ) (why : Refusal) → f ≡ NotWhole why → Came i Nothing form area
+  module _ (form : List ℕ) (f : Result ℕ Refusal) (said : f ≡ form_of (read_form (as_claimed (setting i)) form)) where
+    pub found_unread : (area : List ℕ) (why : Refusal) → f ≡ Err why → Came i None form area
     unfolding Came
     found_unread area why e = go (back (alone i) form) refl
       where
@@ -91,7 +87,7 @@ module _ (i : ℕ) (F : Fit (setting i)) where
         go none q = refl
         go (some x) q = let G = given_read i F form x q in absurd (unread form why G.0 (sym e ∙ said) G.1)
 
-    module _ (rows : ℕ) (e : f ≡ Whole rows) where
+    module _ (rows : ℕ) (e : f ≡ Ok rows) where
       tree : (t : Scope) × (read_form (as_claimed (setting i)) form ≡ accepted t) × (rows ≡ length (flatten t))
       tree = whole_read (as_claimed (setting i)) form rows (sym e ∙ said)
 
@@ -111,14 +107,14 @@ module _ (i : ℕ) (F : Fit (setting i)) where
         restored_is : (x : List ℕ) → back (alone i) form ≡ some x → take (length a - at) (drop at a) ≡ x
         restored_is x q = behind at a ∙ given_restored i F slots noted slots-fit notes_fit form x tree.0 tree.1 q area a at long w'
 
-        pub found_from : same ≡ true → at ≤ 16 * most → length a ≡ header + 16 * most → Came i (From at) form a
+        pub found_from : same ≡ true → at ≤ 16 * most → length a ≡ header + 16 * most → Came i (Some at) form a
         unfolding Came
         found_from t low size =
             let o = outcome_is (outcome (alone i) (take (length a - at) (drop at a))) form (sym tells ∙ t) in
             let G = back_complete (alone i) F.settled form (take (length a - at) (drop at a)) bytes o in
             (G.is_given_lem ∙ ap {B = Option (List ℕ)} some (sym (sym (behind at a) ∙ restored_is G.found G.is_given_lem)), low, size)
 
-        pub found_not : same ≡ false → Came i Nothing form a
+        pub found_not : same ≡ false → Came i None form a
         unfolding Came
         found_not t = go (back (alone i) form) refl
           where
@@ -142,12 +138,12 @@ module _ (i : ℕ) (F : Fit (setting i)) where
       let counted : row_count (setting i).version x ≡ length u = ap (row_count (setting i).version) (x_is ∙ sym (append-nil (form_bytes (setting i) u))) ∙ count in
       omega arith
 
-  module _ (form out a : List ℕ) (b : Back) (k : Came i b form a) (e : b ≡ Nothing) where
+  module _ (form out a : List ℕ) (b : Option ℕ) (k : Came i b form a) (e : b ≡ None) where
     none_given : back (alone i) form ≡ none
     unfolding Came
     none_given = rw e at k
 
-    pub nothing_said : (r : Answer) → r ≡ refused_t 14 → meaning r ≡ returned_in (setting i).version (back_answer (alone i) form (length out))
+    pub nothing_said : (r : Result ℕ Refused) → r ≡ refused_t 14 → meaning r ≡ returned_in (setting i).version (back_answer (alone i) form (length out))
     unfolding back_answer in_room returned_in
     nothing_said r q = rw (none_given, q)
 
@@ -155,7 +151,7 @@ module _ (i : ℕ) (F : Fit (setting i)) where
     unfolding back_output back_answer in_room over
     nothing_left = rw none_given
 
-  module _ (form out : List ℕ) (x : List ℕ) (e : back (alone i) form ≡ some x) (few : length x ≤ header + 16 * most) (r : Answer) (o : List ℕ) (w : (r & o) ≡ give_t i x out) where
+  module _ (form out : List ℕ) (x : List ℕ) (e : back (alone i) form ≡ some x) (few : length x ≤ header + 16 * most) (r : Result ℕ Refused) (o : List ℕ) (w : (r & o) ≡ give_t i x out) where
     by_room : (b : Bool) → ltb (length out) (length x) ≡ b → (meaning r ≡ returned_in (setting i).version (back_answer (alone i) form (length out))) × (o ≡ back_output (alone i) form out)
     unfolding give_t back_output back_answer in_room over returned_in answer_of_lem out_of when◌then◌else◌ pick
     by_room true t =
@@ -164,8 +160,8 @@ module _ (i : ℕ) (F : Fit (setting i)) where
         let q : o ≡ out = ap out_of w' in
         (rw (e, t, p), rw (e, t) q)
     by_room false t =
-        let w' : (r & o) ≡ (Accepted ((length x - header) / 16) & sets out 0 x) = w ∙ rw t in
-        let p : r ≡ Accepted ((length x - header) / 16) = ap answer_of_lem w' in
+        let w' : (r & o) ≡ (Ok ((length x - header) / 16) & sets out 0 x) = w ∙ rw t in
+        let p : r ≡ Ok ((length x - header) / 16) = ap answer_of_lem w' in
         let q : o ≡ sets out 0 x = ap out_of w' in
         let z : 0 + length x ≡ length x = omega arith in
         let fits = ltb-false (length out) (length x) t in
@@ -173,7 +169,7 @@ module _ (i : ℕ) (F : Fit (setting i)) where
         (rw (e, t, p, rows_given form x e few), rw (e, t) (q ∙ s))
 
   -- the part of the area from its first byte on
-  module _ (form a : List ℕ) (at : ℕ) (b : Back) (k : Came i b form a) (e : b ≡ From at) where
+  module _ (form a : List ℕ) (at : ℕ) (b : Option ℕ) (k : Came i b form a) (e : b ≡ Some at) where
     came : (back (alone i) form ≡ some (drop at a)) × (at ≤ 16 * most) × (length a ≡ header + 16 * most)
     unfolding Came
     came = rw e at k
@@ -190,7 +186,7 @@ module _ (i : ℕ) (F : Fit (setting i)) where
     pub part_few : length (take (length a - at) (drop at a)) ≤ 262144
     part_few = omega (arith, part_long, F.few, F.short)
 
-    module _ (out o : List ℕ) (r : Answer) (w : (r & o) ≡ give_t i (take (length a - at) (drop at a)) out) where
+    module _ (out o : List ℕ) (r : Result ℕ Refused) (w : (r & o) ≡ give_t i (take (length a - at) (drop at a)) out) where
       given_out : (r & o) ≡ give_t i (drop at a) out
       given_out = w ∙ ap (λ (x : List ℕ). give_t i x out) (behind at a)
 
@@ -208,11 +204,11 @@ module _ (i : ℕ) (F : Fit (setting i)) where
 first_fits : Fit (setting 0)
 first_fits = fit_in 0
 
-module _ (form : List ℕ) (f : Form) (said : f ≡ form_of (read_form (as_claimed (setting 0)) form)) where
-  pub first_unread : (area : List ℕ) (why : Refusal) → f ≡ NotWhole why → Came 0 Nothing form area
+module _ (form : List ℕ) (f : Result ℕ Refusal) (said : f ≡ form_of (read_form (as_claimed (setting 0)) form)) where
+  pub first_unread : (area : List ℕ) (why : Refusal) → f ≡ Err why → Came 0 None form area
   first_unread area why e = found_unread 0 first_fits form f said area why e
 
-  module _ (rows : ℕ) (e : f ≡ Whole rows) where
+  module _ (rows : ℕ) (e : f ≡ Ok rows) where
     pub first_header : 8 ≤ length form
     first_header = found_header 0 first_fits form f said rows e
 
@@ -221,23 +217,23 @@ module _ (form : List ℕ) (f : Form) (said : f ≡ form_of (read_form (as_claim
       notes_fit : 4092 ≤ length no_notes
       notes_fit = omega (arith, length-replicate 4092 no_note)
 
-      pub first_from : same ≡ true → at ≤ 16368 → length a ≡ 16376 → Came 0 (From at) form a
+      pub first_from : same ≡ true → at ≤ 16368 → length a ≡ 16376 → Came 0 (Some at) form a
       first_from t low size = found_from 0 first_fits form f said rows e 1024 no_notes (omega arith) notes_fit area a again at long room w same compared bytes t low size
 
-      pub first_not : same ≡ false → Came 0 Nothing form a
+      pub first_not : same ≡ false → Came 0 None form a
       first_not t = found_not 0 first_fits form f said rows e 1024 no_notes (omega arith) notes_fit area a again at long room w same compared bytes t
 
 pub ruleset finding = (first_unread, first_header, rules)
 
-module _ (form out a : List ℕ) (b : Back) (k : Came 0 b form a) where
-  pub first_nothing : b ≡ Nothing → (r : Answer) → r ≡ refused_t 14 → meaning r ≡ returned (back_answer base form (length out))
+module _ (form out a : List ℕ) (b : Option ℕ) (k : Came 0 b form a) where
+  pub first_nothing : b ≡ None → (r : Result ℕ Refused) → r ≡ refused_t 14 → meaning r ≡ returned (back_answer base form (length out))
   unfolding returned
   first_nothing e r q = nothing_said 0 first_fits form out a b k e r q
 
-  pub first_kept : b ≡ Nothing → out ≡ back_output base form out
+  pub first_kept : b ≡ None → out ≡ back_output base form out
   first_kept e = nothing_left 0 first_fits form out a b k e
 
-  module _ (at : ℕ) (e : b ≡ From at) where
+  module _ (at : ℕ) (e : b ≡ Some at) where
     pub first_long : at ≤ length a
     first_long = area_long 0 first_fits form a at b k e
 
@@ -247,7 +243,7 @@ module _ (form out a : List ℕ) (b : Back) (k : Came 0 b form a) where
     pub first_few : length (take (length a - at) (drop at a)) ≤ 262144
     first_few = part_few 0 first_fits form a at b k e
 
-    module _ (o : List ℕ) (r : Answer) (w : (r & o) ≡ give_t 0 (take (length a - at) (drop at a)) out) where
+    module _ (o : List ℕ) (r : Result ℕ Refused) (w : (r & o) ≡ give_t 0 (take (length a - at) (drop at a)) out) where
       pub first_given : meaning r ≡ returned (back_answer base form (length out))
       unfolding returned
       first_given = area_said 0 first_fits form a at b k e out o r w
@@ -260,11 +256,11 @@ pub ruleset running = (first_nothing, first_kept, first_long, first_headed, firs
 -- ---- decide
 
 module _ (form out : List ℕ) (restored again : ℕ) where
-  small : (b : Bool) → (ltb restored 16376 || ltb again 65480) ≡ b → b ≡ true → (r : Answer) → r ≡ refused_t 3 → (meaning r ≡ returned (back_with form (length out) restored again)) × (out ≡ out_with form out restored again)
+  small : (b : Bool) → (ltb restored 16376 || ltb again 65480) ≡ b → b ≡ true → (r : Result ℕ Refused) → r ≡ refused_t 3 → (meaning r ≡ returned (back_with form (length out) restored again)) × (out ≡ out_with form out restored again)
   unfolding back_with out_with over returned returned_in when◌then◌else◌
   small b e t r q = let s : (ltb restored 16376 || ltb again 65480) ≡ true = e ∙ t in (rw (s, q), rw s)
 
-  module _ (r : Answer) (q : r ≡ refused_t 3) where
+  module _ (r : Result ℕ Refused) (q : r ≡ refused_t 3) where
     pub first_said : restored < 16376 → meaning r ≡ returned (back_with form (length out) restored again)
     first_said h = (small _ refl (rw (lt-ltb restored 16376 h)) r q).0
 
@@ -278,7 +274,7 @@ module _ (form out : List ℕ) (restored again : ℕ) where
   second_left g h = (small _ refl (rw (le-ltb restored 16376 g, lt-ltb again 65480 h)) (refused_t 3) refl).1
 
   module _ (g : 16376 ≤ restored) (h : 65480 ≤ again) where
-    pub enough_said : (r : Answer) → meaning r ≡ returned (back_answer base form (length out)) → meaning r ≡ returned (back_with form (length out) restored again)
+    pub enough_said : (r : Result ℕ Refused) → meaning r ≡ returned (back_answer base form (length out)) → meaning r ≡ returned (back_with form (length out) restored again)
     unfolding back_with when◌then◌else◌
     enough_said r p = rw (le-ltb restored 16376 g, le-ltb again 65480 h) p
 
@@ -303,7 +299,7 @@ pub ruleset deciding = (first_said, second_said, first_left, second_left, enough
 
 -- ---- unresolve
 
-module _ (form out : List ℕ) (restored again : ℕ) (r s : Answer) (e : r ≡ s) (said : meaning r ≡ returned (back_with form (length out) restored again)) where
+module _ (form out : List ℕ) (restored again : ℕ) (r s : Result ℕ Refused) (e : r ≡ s) (said : meaning r ≡ returned (back_with form (length out) restored again)) where
   pub said_again : meaning s ≡ returned (back_with form (length out) restored again)
   said_again = rw e at said
 

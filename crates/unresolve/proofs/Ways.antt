@@ -1,4 +1,5 @@
 -- Each way through the code but the last comparison.
+use Rattle.std.specs.Prelude.{Result, Ok, ℕ}
 use mathlib.Core.Path.{◌≡◌, refl, sym, ap, ◌∙◌, subst}
 use mathlib.Core.Bool.{Bool, true, false, ◌&&◌}
 use mathlib.Core.List.{List, [], ◌∷◌, ◌++◌, append-nil}
@@ -27,10 +28,9 @@ use Rattle.back_notes.specs.Number.{notes_t}
 use Rattle.back_notes.specs.Names.{names_t}
 use Rattle.back_rows.specs.Below.{below}
 use Rattle.back_rows.specs.Write.{start_t, write_back_t}
-use Rattle.resolver.specs.declared.run.Answer.{Answer}
-use Rattle.resolver.specs.declared.run.Answer.TheVariants.{Accepted}
 use Rattle.unresolve.specs.Restored.{noted_t, restore_rows_t, headed_t, restore_t}
 use Rattle.unresolve.specs.Run.{refused_t, give_t}
+use Rattle.refusal.specs.declared.Refused.{Refused}
 
 -- ---- restore_rows, restore_first
 
@@ -136,11 +136,11 @@ pub unmark_none : (l : List ℕ) → length l ≤ 0 → l ≡ set l 0 0
 unmark_none l h = sym (set_out l 0 0 h)
 
 module _ (i : ℕ) (input out : List ℕ) where
-  pub give_short : (r : Answer) → length out < length input → r ≡ refused_t 3 → (r & out) ≡ give_t i input out
+  pub give_short : (r : Result ℕ Refused) → length out < length input → r ≡ refused_t 3 → (r & out) ≡ give_t i input out
   unfolding give_t pick
   give_short r h e = rw (e, lt-ltb (length out) (length input) h)
 
-  pub give_all : (header : ℕ) (o : List ℕ) → header ≡ (setting i).version.header → length input ≤ length out → o ≡ sets out 0 input → (Accepted ((length input - header) / 16) & o) ≡ give_t i input out
+  pub give_all : (header : ℕ) (o : List ℕ) → header ≡ (setting i).version.header → length input ≤ length out → o ≡ sets out 0 input → (Ok ((length input - header) / 16) & o) ≡ give_t i input out
   unfolding give_t pick
   give_all header o q h e = rw (e, q, le-ltb (length out) (length input) h)
 

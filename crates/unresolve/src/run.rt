@@ -15,10 +15,10 @@ use crate::restore::restore_first;
 use areas::clear_bytes;
 use copy::copy;
 use fixed::HEADER;
-use refusal::{ROOM, Refusal, Told};
-use resolver::run::{Answer, resolve};
+use refusal::{ROOM, Refusal, Refused, Told};
+use resolver::run::resolve;
 use whole_form::header::header_at;
-use whole_form::read::{Form, read_claim};
+use whole_form::read::read_claim;
 
 // The setting in force.
 const FIRST: usize = 0;
@@ -68,27 +68,19 @@ fn resolves_to(input: &[u8], claim: &[u8], again: &mut [u8]) -> bool
     begins_with(again, claim)
 }
 
-#[derive(Clone, Copy)]
-pub enum Back {
-    // No input has these bytes as its output.
-    Nothing,
-    // One begins at this byte of the area.
-    From(usize),
-}
-
 // Restores an input in the area, and says whether it is one.
-fn find_input(form: &[u8], restored: &mut [u8], again: &mut [u8]) -> Back
+fn find_input(form: &[u8], restored: &mut [u8], again: &mut [u8]) -> Option<usize>
     requires { (length restored.old ≡ 16376) × (length again.old ≡ 65480) }
     ensures { Came 0 result form.now restored.new }
 {
     match read_claim(form, FIRST) {
-        Form::Refused(_) => Back::Nothing,
-        Form::Whole(_) => {
+        Err(_) => None,
+        Ok(_) => {
             let at = restore_first(&form[HEADER..], restored);
             if resolves_to(&restored[at..], form, again) {
-                return Back::From(at);
+                return Some(at);
             }
-            Back::Nothing
+            None
         }
     }
 }
@@ -96,14 +88,17 @@ fn find_input(form: &[u8], restored: &mut [u8], again: &mut [u8]) -> Back
 // ---- the answer
 
 // A refusal at place 0.
-pub fn refused(number: u32) -> Answer
+pub fn refused(number: u32) -> Result<u32, Refused>
     ensures { result ≡ refused_t number }
 {
-    Answer::Refused(Refusal { number, place: 0 }, Told { space: 0, first: 0 })
+    Err(Refused {
+        refusal: Refusal { number, place: 0 },
+        told: Told { space: 0, first: 0 },
+    })
 }
 
 // Writes an input of the setting at place i to the front of the output, if there is room for it.
-pub fn give(i: usize, input: &[u8], out: &mut [u8]) -> Answer
+pub fn give(i: usize, input: &[u8], out: &mut [u8]) -> Result<u32, Refused>
     requires { ((setting i).version.header ≤ length input.now) × (length input.now ≤ 262144) }
     ensures { (result & out.new) ≡ give_t i input.now out.old }
 {
@@ -112,22 +107,32 @@ pub fn give(i: usize, input: &[u8], out: &mut [u8]) -> Answer
     }
     let rows = (input.len() - header_at(i)) / 16;
     copy(input, out, 0);
-    Answer::Accepted(rows as u32)
+    Ok(rows as u32)
 }
 
 // The way back in areas of these sizes.
-fn run_in(form: &[u8], out: &mut [u8], restored: &mut [u8], again: &mut [u8]) -> Answer
+fn run_in(
+    form: &[u8],
+    out: &mut [u8],
+    restored: &mut [u8],
+    again: &mut [u8],
+) -> Result<u32, Refused>
     requires { (length restored.old ≡ 16376) × (length again.old ≡ 65480) }
     ensures { (meaning result ≡ returned (back_answer base form.now (length out.old))) × (out.new ≡ back_output base form.now out.old) }
 {
     match find_input(form, restored, again) {
-        Back::Nothing => refused(NO_INPUT),
-        Back::From(at) => give(FIRST, &restored[at..], out),
+        None => refused(NO_INPUT),
+        Some(at) => give(FIRST, &restored[at..], out),
     }
 }
 
 // In areas of any size: only their fronts are lent on, so what lies beyond them stays as it was.
-fn decide(form: &[u8], out: &mut [u8], restored: &mut [u8], again: &mut [u8]) -> Answer
+fn decide(
+    form: &[u8],
+    out: &mut [u8],
+    restored: &mut [u8],
+    again: &mut [u8],
+) -> Result<u32, Refused>
     ensures { (meaning result ≡ returned (back_with form.now (length out.old) (length restored.old) (length again.old))) × (out.new ≡ out_with form.now out.old (length restored.old) (length again.old)) × Kept 16376 restored.old restored.new × Kept 65480 again.old again.new }
 {
     if restored.len() < RESTORED {
@@ -140,19 +145,24 @@ fn decide(form: &[u8], out: &mut [u8], restored: &mut [u8], again: &mut [u8]) ->
 }
 
 // Writes an input that resolves to the form to the front of `out`. `restored` and `again` are working areas.
-pub fn unresolve(form: &[u8], out: &mut [u8], restored: &mut [u8], again: &mut [u8]) -> Answer
+pub fn unresolve(
+    form: &[u8],
+    out: &mut [u8],
+    restored: &mut [u8],
+    again: &mut [u8],
+) -> Result<u32, Refused>
     ensures { (meaning result ≡ returned (back_with form.now (length out.old) (length restored.old) (length again.old))) × (out.new ≡ out_with form.now out.old (length restored.old) (length again.old)) × (restored.new ≡ restored_after restored.old) × (again.new ≡ again_after again.old) }
 {
     match decide(form, out, restored, again) {
-        Answer::Accepted(rows) => {
+        Ok(rows) => {
             clear_bytes(restored, RESTORED);
             clear_bytes(again, AGAIN);
-            Answer::Accepted(rows)
+            Ok(rows)
         }
-        Answer::Refused(why, told) => {
+        Err(Refused { refusal: why, told }) => {
             clear_bytes(restored, RESTORED);
             clear_bytes(again, AGAIN);
-            Answer::Refused(why, told)
+            Err(Refused { refusal: why, told })
         }
     }
 }

@@ -1,4 +1,5 @@
 -- The ways through the code in areas of their sizes, and in the fronts of larger ones.
+use Rattle.std.specs.Prelude.{Option, Some, None, Result, Ok, Err, ℕ}
 use mathlib.Core.Path.{◌≡◌, refl, sym, ap, ◌∙◌, subst}
 use mathlib.Core.Bool.{Bool, true, false, ◌&&◌, ◌||◌, not}
 use mathlib.Core.List.{List, [], ◌∷◌}
@@ -26,10 +27,7 @@ use Rattle.index.specs.Indexed.{Holds}
 use Rattle.index.proofs.Storey.{holds_new}
 use Rattle.back_notes.specs.Note.{Note, no_note}
 use Rattle.whole_form.specs.Whole.{form_of}
-use Rattle.whole_form.specs.declared.read.Form.{Form}
-use Rattle.whole_form.specs.declared.read.Form.TheVariants.{Whole, Refused as NotWhole}
 use Rattle.resolver.specs.Meaning.{meaning}
-use Rattle.resolver.specs.declared.run.Answer.{Answer}
 use Rattle.resolver_with.specs.Areas.{slots_for, links_for, lent_of}
 use Rattle.resolver_with.specs.Exact.{exactly, Suits}
 use Rattle.resolver_with.specs.With.{Ran}
@@ -39,12 +37,11 @@ use Rattle.unresolve.specs.With.{input_size, output_size}
 use Rattle.unresolve.specs.Meaning.{returned_in}
 use Rattle.unresolve.specs.Restored.{restore_t}
 use Rattle.unresolve.specs.Run.{refused_t, alone, Came, give_t}
-use Rattle.unresolve.specs.declared.run.Back.{Back}
-use Rattle.unresolve.specs.declared.run.Back.TheVariants.{Nothing, From}
 use Rattle.unresolve.proofs.Alone.{Fit, fit_in}
 use Rattle.unresolve.proofs.Agrees.{found_unread, found_header, found_from, found_not, nothing_said, nothing_left, area_long, part_headed, part_few, area_said, area_left}
 use Rattle.unresolve_with.specs.With.{notes_for, ClearedBack}
 use Rattle.unresolve_with.specs.Exact.{Sized, Roomy}
+use Rattle.refusal.specs.declared.Refused.{Refused}
 
 -- ---- clear_notes
 
@@ -79,7 +76,7 @@ module _ (i : ℕ) (e n : List Slot) (k c m : List ℕ) (suits : Suits i e n k c
   suits_exactly =
       rw (eq-eqb (length e) _ suits.entered, eq-eqb (length n) _ suits.names, eq-eqb (length k) _ suits.known, eq-eqb (length c) _ suits.chains, eq-eqb (length m) _ suits.ends)
 
-  pub lent_resolves : (input claim again a₁ a₂ : List ℕ) (x : Answer) (r : Bool) → a₁ ≡ set again 0 0 → Ran (setting i) (exactly (setting i).version (lent_of e n k c m)) input a₁ a₂ x
+  pub lent_resolves : (input claim again a₁ a₂ : List ℕ) (x : Result ℕ Refused) (r : Bool) → a₁ ≡ set again 0 0 → Ran (setting i) (exactly (setting i).version (lent_of e n k c m)) input a₁ a₂ x
       → r ≡ same_numbers (take (length claim) a₂) claim → r ≡ same_numbers (take (length claim) (output (alone i) input (set again 0 0))) claim
   unfolding when◌then◌else◌
   lent_resolves input claim again a₁ a₂ x r p R q =
@@ -88,11 +85,11 @@ module _ (i : ℕ) (e n : List Slot) (k c m : List ℕ) (suits : Suits i e n k c
 
 -- ---- find_input
 
-module _ (i : ℕ) (form : List ℕ) (f : Form) (said : f ≡ form_of (read_form (as_claimed (setting i)) form)) where
-  pub lent_unread : (area : List ℕ) (why : Refusal) → f ≡ NotWhole why → Came i Nothing form area
+module _ (i : ℕ) (form : List ℕ) (f : Result ℕ Refusal) (said : f ≡ form_of (read_form (as_claimed (setting i)) form)) where
+  pub lent_unread : (area : List ℕ) (why : Refusal) → f ≡ Err why → Came i None form area
   lent_unread area why e = found_unread i (fit_in i) form f said area why e
 
-  module _ (rows : ℕ) (e : f ≡ Whole rows) where
+  module _ (rows : ℕ) (e : f ≡ Ok rows) where
     pub lent_header : (setting i).version.header ≤ length form
     lent_header = found_header i (fit_in i) form f said rows e
 
@@ -102,11 +99,11 @@ module _ (i : ℕ) (form : List ℕ) (f : Form) (said : f ≡ form_of (read_form
       w' : (at & a) ≡ restore_t i (slots_for (setting i).version) noted (take (length form - (setting i).version.header) (drop (setting i).version.header form)) area
       w' = w ∙ ap (λ (x : List ℕ). restore_t i (slots_for (setting i).version) noted x area) (sym (behind (setting i).version.header form))
 
-      pub lent_from : same ≡ true → at ≤ 16 * (setting i).version.rows → length a ≡ length area → Came i (From at) form a
+      pub lent_from : same ≡ true → at ≤ 16 * (setting i).version.rows → length a ≡ length area → Came i (Some at) form a
       lent_from t low long =
           found_from i (fit_in i) form f said rows e (slots_for (setting i).version) noted (omega arith) (omega (arith, sized.noted)) area a again at sized.restored sized.again w' same compared bytes t low (long ∙ sized.restored)
 
-      pub lent_not : same ≡ false → Came i Nothing form a
+      pub lent_not : same ≡ false → Came i None form a
       lent_not t =
           found_not i (fit_in i) form f said rows e (slots_for (setting i).version) noted (omega arith) (omega (arith, sized.noted)) area a again at sized.restored sized.again w' same compared bytes t
 
@@ -114,14 +111,14 @@ pub ruleset finding = (lent_unread, lent_header, rules)
 
 -- ---- give_found
 
-module _ (i : ℕ) (form a : List ℕ) (b : Back) (k : Came i b form a) where
-  pub nothing_answered : b ≡ Nothing → (out : List ℕ) (r : Answer) → r ≡ refused_t 14 → meaning r ≡ returned_in (setting i).version (back_answer (alone i) form (length out))
+module _ (i : ℕ) (form a : List ℕ) (b : Option ℕ) (k : Came i b form a) where
+  pub nothing_answered : b ≡ None → (out : List ℕ) (r : Result ℕ Refused) → r ≡ refused_t 14 → meaning r ≡ returned_in (setting i).version (back_answer (alone i) form (length out))
   nothing_answered e out r q = nothing_said i (fit_in i) form out a b k e r q
 
-  pub nothing_written : b ≡ Nothing → (out : List ℕ) → out ≡ back_output (alone i) form out
+  pub nothing_written : b ≡ None → (out : List ℕ) → out ≡ back_output (alone i) form out
   nothing_written e out = nothing_left i (fit_in i) form out a b k e
 
-  module _ (at : ℕ) (e : b ≡ From at) where
+  module _ (at : ℕ) (e : b ≡ Some at) where
     pub found_long : at ≤ length a
     found_long = area_long i (fit_in i) form a at b k e
 
@@ -131,7 +128,7 @@ module _ (i : ℕ) (form a : List ℕ) (b : Back) (k : Came i b form a) where
     pub found_few : length (take (length a - at) (drop at a)) ≤ 262144
     found_few = part_few i (fit_in i) form a at b k e
 
-    module _ (out o : List ℕ) (r : Answer) (w : (r & o) ≡ give_t i (take (length a - at) (drop at a)) out) where
+    module _ (out o : List ℕ) (r : Result ℕ Refused) (w : (r & o) ≡ give_t i (take (length a - at) (drop at a)) out) where
       pub found_answered : meaning r ≡ returned_in (setting i).version (back_answer (alone i) form (length out))
       found_answered = area_said i (fit_in i) form a at b k e out o r w
 
@@ -180,5 +177,5 @@ back_left i r r₁ r' a a₁ a' n n₁ n' K C =
       noted = table_left [] (notes_for (setting i).version) no_note n n₁ n' K.2 C.noted;
     }
 
-pub said_as : (r s : Answer) {x : Rattle.resolver.specs.Meaning.Said} → meaning r ≡ x → r ≡ s → meaning s ≡ x
+pub said_as : (r s : Result ℕ Refused) {x : Rattle.resolver.specs.Meaning.Said} → meaning r ≡ x → r ≡ s → meaning s ≡ x
 said_as r s e q = sym (ap meaning q) ∙ e

@@ -1,4 +1,5 @@
 -- The whole run against the rules.
+use Rattle.std.specs.Prelude.{Result, ℕ}
 use mathlib.Core.Path.{◌≡◌, refl, sym, ap, ◌∙◌, subst}
 use mathlib.Core.Bool.{Bool, true, false, ◌||◌, not}
 use mathlib.Core.List.{List, [], ◌∷◌}
@@ -15,7 +16,6 @@ use Rattle.limits.specs.Held.{setting}
 use Rattle.names.specs.Table.{Slot}
 use Rattle.back_notes.specs.Note.{Note}
 use Rattle.resolver.specs.Meaning.{meaning}
-use Rattle.resolver.specs.declared.run.Answer.{Answer}
 use Rattle.resolver_with.specs.Areas.{lent_of, roomy, Cleared}
 use Rattle.resolver_with.specs.Asked.{asked}
 use Rattle.check_with.specs.Large.{Large}
@@ -26,6 +26,7 @@ use Rattle.unresolve.specs.Run.{refused_t, alone}
 use Rattle.unresolve_with.specs.With.{notes_for, Lengths, lengths_of, too_small, back_lent, out_lent, ClearedBack}
 use Rattle.unresolve_with.specs.Exact.{Roomy}
 use Rattle.unresolve_with.proofs.Asked.{answer_asked}
+use Rattle.refusal.specs.declared.Refused.{Refused}
 
 -- ---- is_small
 
@@ -63,7 +64,7 @@ module _ (form out : List ℕ) (i : ℕ) (asks : setting i ≡ asked form) (r a 
     unfolding when◌then◌else◌
     small_answer = answered true q
 
-    pub small_said : (x : Answer) → x ≡ refused_t 3 → meaning x ≡ returned_in (asked form).version (back_lent form (length out) lengths)
+    pub small_said : (x : Result ℕ Refused) → x ≡ refused_t 3 → meaning x ≡ returned_in (asked form).version (back_lent form (length out) lengths)
     unfolding returned_in
     small_said x p = rw (small_answer, p)
 
@@ -85,7 +86,7 @@ module _ (form out : List ℕ) (i : ℕ) (asks : setting i ≡ asked form) (r a 
     unfolding when◌then◌else◌
     large_answer = answered false q ∙ answer_asked form (length out) ∙ ap (λ (x : Setting). back_answer (x ∷ []) form (length out)) (sym asks)
 
-    pub large_said : (x : Answer) → meaning x ≡ returned_in (setting i).version (back_answer (alone i) form (length out)) → meaning x ≡ returned_in (asked form).version (back_lent form (length out) lengths)
+    pub large_said : (x : Result ℕ Refused) → meaning x ≡ returned_in (setting i).version (back_answer (alone i) form (length out)) → meaning x ≡ returned_in (asked form).version (back_lent form (length out) lengths)
     large_said x p = p ∙ ap (λ (v : Setting). returned_in v.version (back_answer (alone i) form (length out))) asks ∙ ap (returned_in (asked form).version) (sym large_answer)
 
     pub large_left : (o : List ℕ) → o ≡ back_output (alone i) form out → o ≡ out_lent form out lengths

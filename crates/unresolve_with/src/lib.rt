@@ -26,13 +26,13 @@ use areas::{clear_bytes, zero_links};
 use back_notes::note::Note;
 use lent_areas::{are_roomy, clear_areas};
 use names::Slot;
-use refusal::ROOM;
-use resolver::run::{Answer, header_size};
+use refusal::{ROOM, Refused};
+use resolver::run::header_size;
 use resolver_with::run::{asked_for, run_in};
 use resolver_with::sizes::{links_for, slots_for};
 use unresolve::restore::{most_rows, restore};
-use unresolve::run::{Back, NO_INPUT, begins_with, give, refused, unmark};
-use whole_form::read::{Form, read_claim};
+use unresolve::run::{NO_INPUT, begins_with, give, refused, unmark};
+use whole_form::read::read_claim;
 
 // ---- notes that are lent
 
@@ -132,13 +132,13 @@ fn find_input(
     known: &mut [u16],
     chains: &mut [u16],
     ends: &mut [u32],
-) -> Back
+) -> Option<usize>
     requires { Sized i restored.old again.old noted.old × Suits i entered.old names.old known.old chains.old ends.old }
     ensures { Came i result form.now restored.new }
 {
     match read_claim(form, i) {
-        Form::Refused(_) => Back::Nothing,
-        Form::Whole(_) => {
+        Err(_) => None,
+        Ok(_) => {
             let at = restore_lent(form, i, restored, noted, names, chains);
             if resolves_to(
                 &restored[at..],
@@ -151,9 +151,9 @@ fn find_input(
                 chains,
                 ends,
             ) {
-                return Back::From(at);
+                return Some(at);
             }
-            Back::Nothing
+            None
         }
     }
 }
@@ -171,15 +171,15 @@ fn give_found(
     known: &mut [u16],
     chains: &mut [u16],
     ends: &mut [u32],
-) -> Answer
+) -> Result<u32, Refused>
     requires { Sized i restored.old again.old noted.old × Suits i entered.old names.old known.old chains.old ends.old }
     ensures { (meaning result ≡ returned_in (setting i).version (back_answer (alone i) form.now (length out.old))) × (out.new ≡ back_output (alone i) form.now out.old) }
 {
     match find_input(
         form, i, restored, again, noted, entered, names, known, chains, ends,
     ) {
-        Back::Nothing => refused(NO_INPUT),
-        Back::From(at) => give(i, &restored[at..], out),
+        None => refused(NO_INPUT),
+        Some(at) => give(i, &restored[at..], out),
     }
 }
 
@@ -198,7 +198,7 @@ fn give_in_tables(
     known: &mut [u16],
     chains: &mut [u16],
     ends: &mut [u32],
-) -> Answer
+) -> Result<u32, Refused>
     requires { Sized i restored.old again.old noted.old × Large i entered.old names.old known.old chains.old ends.old }
     ensures result_value { (meaning result ≡ returned_in (setting i).version (back_answer (alone i) form.now (length out.old))) × (out.new ≡ back_output (alone i) form.now out.old) }
     ensures kept { Kept (slots_for (setting i).version) entered.old entered.new × Kept (slots_for (setting i).version) names.old names.new × Kept (links_for (setting i).version) known.old known.new × Kept (links_for (setting i).version) chains.old chains.new × Kept (slots_for (setting i).version) ends.old ends.new }
@@ -233,7 +233,7 @@ fn give_in_fronts(
     known: &mut [u16],
     chains: &mut [u16],
     ends: &mut [u32],
-) -> Answer
+) -> Result<u32, Refused>
     requires { Roomy i restored.old again.old noted.old × Large i entered.old names.old known.old chains.old ends.old }
     ensures result_value { (meaning result ≡ returned_in (setting i).version (back_answer (alone i) form.now (length out.old))) × (out.new ≡ back_output (alone i) form.now out.old) }
     ensures kept { Kept (input_size (setting i).version) restored.old restored.new × Kept (output_size (setting i).version) again.old again.new × Kept (notes_for (setting i).version) noted.old noted.new }
@@ -288,7 +288,7 @@ fn give_lent(
     known: &mut [u16],
     chains: &mut [u16],
     ends: &mut [u32],
-) -> Answer
+) -> Result<u32, Refused>
     requires { Roomy i restored.old again.old noted.old × Large i entered.old names.old known.old chains.old ends.old }
     ensures result_value { (meaning result ≡ returned_in (setting i).version (back_answer (alone i) form.now (length out.old))) × (out.new ≡ back_output (alone i) form.now out.old) }
     ensures cleared_back { ClearedBack (setting i).version restored.old restored.new again.old again.new noted.old noted.new }
@@ -297,15 +297,15 @@ fn give_lent(
     match give_in_fronts(
         form, out, i, restored, again, noted, entered, names, known, chains, ends,
     ) {
-        Answer::Accepted(rows) => {
+        Ok(rows) => {
             clear_back(i, restored, again, noted);
             clear_areas(i, entered, names, known, chains, ends);
-            Answer::Accepted(rows)
+            Ok(rows)
         }
-        Answer::Refused(why, told) => {
+        Err(Refused { refusal: why, told }) => {
             clear_back(i, restored, again, noted);
             clear_areas(i, entered, names, known, chains, ends);
-            Answer::Refused(why, told)
+            Err(Refused { refusal: why, told })
         }
     }
 }
@@ -323,7 +323,7 @@ pub fn unresolve_with(
     known: &mut [u16],
     chains: &mut [u16],
     ends: &mut [u32],
-) -> Answer
+) -> Result<u32, Refused>
     ensures result_value { (meaning result ≡ returned_in (asked form.now).version (back_lent form.now (length out.old) (lengths_of restored.old again.old noted.old (lent_of entered.old names.old known.old chains.old ends.old)))) × (out.new ≡ out_lent form.now out.old (lengths_of restored.old again.old noted.old (lent_of entered.old names.old known.old chains.old ends.old))) }
     ensures cleared_back { ClearedBack (asked form.now).version restored.old restored.new again.old again.new noted.old noted.new }
     ensures cleared { Cleared (asked form.now).version entered.old entered.new names.old names.new known.old known.new chains.old chains.new ends.old ends.new }

@@ -28,18 +28,20 @@ fn say_alias(fd: Talk<'_>, names: &[u8], form: &[u8], decl: u16) {
 }
 
 // A meaning, or the words for there being none.
-fn say_meaning(fd: Talk<'_>, names: &[u8], form: &[u8], meaning: Meaning, missing: &[u8]) {
+fn say_meaning(fd: Talk<'_>, names: &[u8], form: &[u8], meaning: Option<Meaning>, missing: &[u8]) {
     match meaning {
-        Meaning::At {
-            row,
-            number,
-            out,
-            name,
-        } => {
+        Some(
+            Meaning {
+                row,
+                number,
+                out,
+                name,
+            },
+        ) => {
             say_found(fd, names, row as u32, b_at(form, row), number, name, out);
             say_alias(fd, names, form, row);
         }
-        Meaning::Nowhere => say(fd, missing),
+        None => say(fd, missing),
     }
 }
 
@@ -50,16 +52,11 @@ fn say_behind(
     form: &[u8],
     entries: &[Entry],
     reference: u16,
-    meaning: Meaning,
+    meaning: Option<Meaning>,
     before: &[u8],
 ) {
     match meaning {
-        Meaning::At {
-            row,
-            number: _,
-            out: _,
-            name: _,
-        } => {
+        Some(Meaning { row, .. }) => {
             if is_inserted_outer(form, row) {
                 say(fd, before);
                 say(fd, b"through it: ");
@@ -72,7 +69,7 @@ fn say_behind(
                 );
             }
         }
-        Meaning::Nowhere => {}
+        None => {}
     }
 }
 

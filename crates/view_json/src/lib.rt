@@ -73,14 +73,16 @@ fn say_declared(fd: Talk<'_>, form: &[u8], entries: &[Entry], row: u16) {
 }
 
 // The declaration that is meant.
-pub fn say_meaning(fd: Talk<'_>, key: &[u8], form: &[u8], meaning: Meaning) {
+pub fn say_meaning(fd: Talk<'_>, key: &[u8], form: &[u8], meaning: Option<Meaning>) {
     match meaning {
-        Meaning::At {
-            row,
-            number,
-            out,
-            name: _,
-        } => {
+        Some(
+            Meaning {
+                row,
+                number,
+                out,
+                ..
+            },
+        ) => {
             say(fd, key);
             say_count(fd, b"{\"row\":", row as u32);
             say_count(fd, b",\"space\":", b_at(form, row) as u32);
@@ -88,7 +90,7 @@ pub fn say_meaning(fd: Talk<'_>, key: &[u8], form: &[u8], meaning: Meaning) {
             say_count(fd, b",\"out\":", out);
             say(fd, b"}");
         }
-        Meaning::Nowhere => say_null(fd, key),
+        None => say_null(fd, key),
     }
 }
 

@@ -1,4 +1,5 @@
 -- Ways through the walk over scopes and fields, one law each.
+use Rattle.std.specs.Prelude.{Result, Ok, Err, ℕ}
 use mathlib.Core.Path.{◌≡◌, refl, sym, ap, ◌∙◌}
 use mathlib.Core.Bool.{Bool, true, false}
 use mathlib.Core.List.{List, [], ◌∷◌}
@@ -23,14 +24,8 @@ use Rattle.names.specs.Table.{Slot, name_of, scope_of, innermost_t}
 use Rattle.plan.specs.Enter.{row_number, enter_fields_t}
 use Rattle.plan.specs.Insertions.{field_code_t}
 use Rattle.plan.specs.Insertions as plan
-use Rattle.plan.specs.declared.enter.Entered.{Entered}
-use Rattle.plan.specs.declared.enter.Entered.TheVariants.{Upto, Twice}
 use Rattle.plan.specs.declared.insertions.PlanState.{PlanState}
-use Rattle.plan.specs.declared.insertions.Planned.{Planned}
-use Rattle.plan.specs.declared.insertions.Planned.TheVariants.{Done as PlanDone, Refused as PlanRefused}
 use Rattle.write.specs.declared.alias.WriteState.{WriteState}
-use Rattle.write.specs.declared.alias.Walked.{Walked}
-use Rattle.write.specs.declared.alias.Walked.TheVariants.{Done, Refused}
 use Rattle.write.specs.WriteState.{begun_t, at_depth_t, after_scope_t, unseen_t, Wrote}
 use Rattle.write.specs.Alias.{slot_at, write_aliases_t}
 use Rattle.write.specs.Own.{Wrote₂, own_t}
@@ -38,22 +33,23 @@ use Rattle.walk.specs.Scopes.{Wrote₃, write_inserted_t, write_fresh_t, write_h
 use Rattle.walk.proofs.Else.{not_open_lem, open_alone}
 use Rattle.write.proofs.LawsAlias.{put_then_lem, wrote_done, wrote_stop}
 use Rattle.write.proofs.LawsOwn.{wrote₂_done, wrote₂_stop}
+use Rattle.refusal.specs.declared.Refused.{Refused}
 
 -- ---- on from an answer
 
-module _ {A : Type 0} {a : Walked} {e n : List Slot} {o : List ℕ} {W : Wrote₃} (w : a & e & n & o ≡ W) (k : WriteState → List Slot → List Slot → List ℕ → A) (g : Refusal → Told → List Slot → List Slot → List ℕ → A) where
-  wrote₃_done : {s : WriteState} {X : A} → a ≡ Done s → X ≡ k s e n o → X ≡ wrote_then₃ W k g
+module _ {A : Type 0} {a : Result WriteState Refused} {e n : List Slot} {o : List ℕ} {W : Wrote₃} (w : a & e & n & o ≡ W) (k : WriteState → List Slot → List Slot → List ℕ → A) (g : Refusal → Told → List Slot → List Slot → List ℕ → A) where
+  wrote₃_done : {s : WriteState} {X : A} → a ≡ Ok s → X ≡ k s e n o → X ≡ wrote_then₃ W k g
   unfolding wrote_then₃
   wrote₃_done m q = rw (← w, m) q
 
-  wrote₃_stop : {x : Refusal} {z : Told} {X : A} → a ≡ Refused x z → X ≡ g x z e n o → X ≡ wrote_then₃ W k g
+  wrote₃_stop : {x : Refusal} {z : Told} {X : A} → a ≡ Err (record { refusal = x; told = z }) → X ≡ g x z e n o → X ≡ wrote_then₃ W k g
   unfolding wrote_then₃
   wrote₃_stop m q = rw (← w, m) q
 
 -- ---- a field up to the scope that it may open
 
 module _ (field : List ℕ) (names : List Slot) (here out : List ℕ) (s : WriteState) (c : ℕ) (q : c ≡ field_code_t field) (b : Bool) (t : b ≡ here_only c) where
-  pub inserted_none : b ≡ true → Done s & out ≡ write_inserted_t field names here out s
+  pub inserted_none : b ≡ true → Ok s & out ≡ write_inserted_t field names here out s
   unfolding write_inserted_t
   inserted_none e = yes! _ (sym (rw q at t) ∙ e) refl
 
@@ -62,7 +58,7 @@ module _ (field : List ℕ) (names : List Slot) (here out : List ℕ) (s : Write
   inserted_some e X w = no! _ (sym (rw q at t) ∙ e) w
 
 module _ (field : List ℕ) (names : List Slot) (here out : List ℕ) (s : WriteState) (slot : Slot) (q : slot ≡ slot_at names s.next) where
-  pub fresh_none : name_of slot < 2147483648 → Done s & out ≡ write_fresh_t field names here out s
+  pub fresh_none : name_of slot < 2147483648 → Ok s & out ≡ write_fresh_t field names here out s
   unfolding write_fresh_t
   fresh_none h = rw (← q) (yes! _ (omega tests) refl)
 
@@ -70,31 +66,31 @@ module _ (field : List ℕ) (names : List Slot) (here out : List ℕ) (s : Write
   unfolding write_fresh_t
   fresh_some h X w = rw (← q) (no! _ (omega tests) w)
 
-module _ (field : List ℕ) (entered names : List Slot) (scopes : List (List ℕ)) (out : List ℕ) (s : WriteState) (here : List ℕ) (h : here ≡ innermost_t scopes s.depth) (a : Walked) (o : List ℕ) (w : a & o ≡ write_fresh_t field names here out s) where
-  pub head_stop : (x : Refusal) (y : Told) → a ≡ Refused x y → Refused x y & entered & o ≡ write_head_t field entered names scopes out s
+module _ (field : List ℕ) (entered names : List Slot) (scopes : List (List ℕ)) (out : List ℕ) (s : WriteState) (here : List ℕ) (h : here ≡ innermost_t scopes s.depth) (a : Result WriteState Refused) (o : List ℕ) (w : a & o ≡ write_fresh_t field names here out s) where
+  pub head_stop : (x : Refusal) (y : Told) → a ≡ Err (record { refusal = x; told = y }) → Err (record { refusal = x; told = y }) & entered & o ≡ write_head_t field entered names scopes out s
   unfolding write_head_t
   head_stop x y m = wrote_stop (rw h at w) _ _ m refl
 
-  pub head_on : (t : WriteState) → a ≡ Done t → (X : Wrote₂) → X ≡ own_t field entered names scopes o (unseen_t t) t.at 0 (length field / 16) → X ≡ write_head_t field entered names scopes out s
+  pub head_on : (t : WriteState) → a ≡ Ok t → (X : Wrote₂) → X ≡ own_t field entered names scopes o (unseen_t t) t.at 0 (length field / 16) → X ≡ write_head_t field entered names scopes out s
   unfolding write_head_t
   head_on t m X e = wrote_done (rw h at w) _ _ m e
 
 -- ---- steps A and B
 
-module _ (rows ends : List ℕ) (entered names : List Slot) (scopes : List (List ℕ)) (s : WriteState) (first : ℕ) (q : first ≡ row_number s.at 1) (a : Entered) (e : List Slot) (w : a & e ≡ enter_fields_t rows ends entered first 0 (length rows / 16)) where
-  pub begin_twice : (x : Refusal) (y : Told) → a ≡ Twice x y → PlanRefused x y & e & names ≡ begin_scope_t rows ends entered names scopes s
+module _ (rows ends : List ℕ) (entered names : List Slot) (scopes : List (List ℕ)) (s : WriteState) (first : ℕ) (q : first ≡ row_number s.at 1) (a : Result ℕ Refused) (e : List Slot) (w : a & e ≡ enter_fields_t rows ends entered first 0 (length rows / 16)) where
+  pub begin_twice : (x : Refusal) (y : Told) → a ≡ Err (record { refusal = x; told = y }) → Err (record { refusal = x; told = y }) & e & names ≡ begin_scope_t rows ends entered names scopes s
   unfolding begin_scope_t planned_t
   begin_twice x y m = rw (← q, ← w, m)
 
-  pub begin_on : (k : ℕ) → a ≡ Upto k → (p : Planned) (n : List Slot) → p & n ≡ plan.plan_scope_t rows ends e names scopes (plan_in s first k) → p & e & n ≡ begin_scope_t rows ends entered names scopes s
+  pub begin_on : (k : ℕ) → a ≡ Ok k → (p : Result PlanState Refused) (n : List Slot) → p & n ≡ plan.plan_scope_t rows ends e names scopes (plan_in s first k) → p & e & n ≡ begin_scope_t rows ends entered names scopes s
   unfolding begin_scope_t planned_t with_tables_t
   begin_on k m p n v = rw (← q, ← w, m, ← q, ← v)
 
-  module _ (k : ℕ) (m : a ≡ Upto k) (p : Planned) (n : List Slot) (v : p & n ≡ plan.plan_scope_t rows ends e names scopes (plan_in s first k)) where
-    pub begin_stop : (x : Refusal) (y : Told) → p ≡ PlanRefused x y → PlanRefused x y & e & n ≡ begin_scope_t rows ends entered names scopes s
+  module _ (k : ℕ) (m : a ≡ Ok k) (p : Result PlanState Refused) (n : List Slot) (v : p & n ≡ plan.plan_scope_t rows ends e names scopes (plan_in s first k)) where
+    pub begin_stop : (x : Refusal) (y : Told) → p ≡ Err (record { refusal = x; told = y }) → Err (record { refusal = x; told = y }) & e & n ≡ begin_scope_t rows ends entered names scopes s
     begin_stop x y l = rw (← l) (begin_on k m p n v)
 
-    pub begin_done : (d : PlanState) → p ≡ PlanDone d → PlanDone d & e & n ≡ begin_scope_t rows ends entered names scopes s
+    pub begin_done : (d : PlanState) → p ≡ Ok d → Ok d & e & n ≡ begin_scope_t rows ends entered names scopes s
     begin_done d l = rw (← l) (begin_on k m p n v)
 
 module _ (rows : List ℕ) (i : ℕ) (r : Row) (got : r ≡ alone (3 ∷ 7 ∷ []) (row_at rows i)) where
@@ -120,45 +116,45 @@ closing rows out s k q to o w = put_then_lem _ w (rw q)
 
 module _ (rows ends : List ℕ) where
   module _ (entered names : List Slot) (scopes : List (List ℕ)) (out : List ℕ) (s : WriteState) (depth turns most : ℕ) (T : Wrote₃) (inv : fields_walk_t rows ends (scope_walk_t rows ends (most - depth)) entered names scopes out s depth turns ≡ T) where
-    pub fields_end : turns ≤ 0 → Done s & entered & names & out ≡ T
+    pub fields_end : turns ≤ 0 → Ok s & entered & names & out ≡ T
     unfolding fields_walk_t
     fields_end h = let e : turns ≡ 0 = omega arith in rw e at inv
 
     module _ (h : 0 < turns) (c : ℕ) (g : c ≡ code_at rows s.at) where
-      pub fields_close : (c ≡ 1 → ⊥) → (t : WriteState) (o : List ℕ) → t & o ≡ close_scope_t rows out s → Done t & entered & names & o ≡ T
+      pub fields_close : (c ≡ 1 → ⊥) → (t : WriteState) (o : List ℕ) → t & o ≡ close_scope_t rows out s → Ok t & entered & names & o ≡ T
       unfolding fields_walk_t closed_t ended_t
       fields_close f t o w = no! _ (omega tests) (rw (← w)) ∙ (rw (down turns h) at inv)
 
-      module _ (f : c ≡ 1) (u : WriteState) (q : u ≡ begun_t s depth) (a : Walked) (e n : List Slot) (o : List ℕ) (most' : ℕ) (same : most' ≡ most) (w : a & e & n & o ≡ field_walk_t rows ends (scope_walk_t rows ends (most' - u.depth)) entered names scopes out u) where
-        pub fields_turn : (t : WriteState) → a ≡ Done t → (scopes' : List (List ℕ)) → scopes' ≡ scopes → fields_walk_t rows ends (scope_walk_t rows ends (most - depth)) e n scopes' o t depth (turns - 1) ≡ T
+      module _ (f : c ≡ 1) (u : WriteState) (q : u ≡ begun_t s depth) (a : Result WriteState Refused) (e n : List Slot) (o : List ℕ) (most' : ℕ) (same : most' ≡ most) (w : a & e & n & o ≡ field_walk_t rows ends (scope_walk_t rows ends (most' - u.depth)) entered names scopes out u) where
+        pub fields_turn : (t : WriteState) → a ≡ Ok t → (scopes' : List (List ℕ)) → scopes' ≡ scopes → fields_walk_t rows ends (scope_walk_t rows ends (most - depth)) e n scopes' o t depth (turns - 1) ≡ T
         unfolding fields_walk_t
         fields_turn t m scopes' k = rw k (yes! _ (omega tests) (wrote₃_done (rw (q, same) at w) _ _ m refl) ∙ (rw (down turns h) at inv))
 
-        pub fields_fail : (x : Refusal) (y : Told) → a ≡ Refused x y → a & e & n & o ≡ T
+        pub fields_fail : (x : Refusal) (y : Told) → a ≡ Err (record { refusal = x; told = y }) → a & e & n & o ≡ T
         unfolding fields_walk_t
         fields_fail x y m = ap (λ b. b & e & n & o) m ∙ yes! _ (omega tests) (wrote₃_stop (rw (q, same) at w) _ _ m refl) ∙ (rw (down turns h) at inv)
 
-  module _ (most : ℕ) (entered names : List Slot) (scopes : List (List ℕ)) (out : List ℕ) (s : WriteState) (field : List ℕ) (p : field ≡ field_rows rows ends s.at) (a : Walked) (e : List Slot) (o : List ℕ) (w : a & e & o ≡ write_head_t field entered names scopes out s) where
-    pub field_stop : (x : Refusal) (y : Told) → a ≡ Refused x y → a & e & names & o ≡ field_walk_t rows ends (scope_walk_t rows ends (most - s.depth)) entered names scopes out s
+  module _ (most : ℕ) (entered names : List Slot) (scopes : List (List ℕ)) (out : List ℕ) (s : WriteState) (field : List ℕ) (p : field ≡ field_rows rows ends s.at) (a : Result WriteState Refused) (e : List Slot) (o : List ℕ) (w : a & e & o ≡ write_head_t field entered names scopes out s) where
+    pub field_stop : (x : Refusal) (y : Told) → a ≡ Err (record { refusal = x; told = y }) → a & e & names & o ≡ field_walk_t rows ends (scope_walk_t rows ends (most - s.depth)) entered names scopes out s
     unfolding field_walk_t
     field_stop x y m = ap (λ b. b & e & names & o) m ∙ wrote₂_stop (rw p at w) _ _ m refl
 
-    module _ (t : WriteState) (m : a ≡ Done t) (c : ℕ) (g : c ≡ code_at rows t.at) where
-      pub field_flat : (c ≡ 7 → ⊥) → Done t & e & names & o ≡ field_walk_t rows ends (scope_walk_t rows ends (most - s.depth)) entered names scopes out s
+    module _ (t : WriteState) (m : a ≡ Ok t) (c : ℕ) (g : c ≡ code_at rows t.at) where
+      pub field_flat : (c ≡ 7 → ⊥) → Ok t & e & names & o ≡ field_walk_t rows ends (scope_walk_t rows ends (most - s.depth)) entered names scopes out s
       unfolding field_walk_t
       field_flat f = wrote₂_done (rw p at w) _ _ m (no! _ (omega tests) refl)
 
-      module _ (f : c ≡ 7) (u : WriteState) (q : u ≡ at_depth_t t s.depth) (b : Walked) (e' n : List Slot) (o' : List ℕ) (v : b & e' & n & o' ≡ scope_walk_t rows ends (most - u.depth) e names scopes o u) where
-        pub field_fail : (x : Refusal) (y : Told) → b ≡ Refused x y → b & e' & n & o' ≡ field_walk_t rows ends (scope_walk_t rows ends (most - s.depth)) entered names scopes out s
+      module _ (f : c ≡ 7) (u : WriteState) (q : u ≡ at_depth_t t s.depth) (b : Result WriteState Refused) (e' n : List Slot) (o' : List ℕ) (v : b & e' & n & o' ≡ scope_walk_t rows ends (most - u.depth) e names scopes o u) where
+        pub field_fail : (x : Refusal) (y : Told) → b ≡ Err (record { refusal = x; told = y }) → b & e' & n & o' ≡ field_walk_t rows ends (scope_walk_t rows ends (most - s.depth)) entered names scopes out s
         unfolding field_walk_t
         field_fail x y l = ap (λ z. z & e' & n & o') l ∙ wrote₂_done (rw p at w) _ _ m (yes! _ (omega tests) (wrote₃_stop (rw q at v) _ _ l refl))
 
-        pub field_deep : (x : WriteState) → b ≡ Done x → (z : WriteState) → z ≡ after_scope_t t x → Done z & e' & n & o' ≡ field_walk_t rows ends (scope_walk_t rows ends (most - s.depth)) entered names scopes out s
+        pub field_deep : (x : WriteState) → b ≡ Ok x → (z : WriteState) → z ≡ after_scope_t t x → Ok z & e' & n & o' ≡ field_walk_t rows ends (scope_walk_t rows ends (most - s.depth)) entered names scopes out s
         unfolding field_walk_t
         field_deep x l z k = wrote₂_done (rw p at w) _ _ m (yes! _ (omega tests) (wrote₃_done (rw q at v) _ _ l (rw k)))
 
   module _ (most : ℕ) (entered names : List Slot) (scopes : List (List ℕ)) (out : List ℕ) (s : WriteState) where
-    scope_zero : (allowed : ℕ) → allowed ≡ 0 → Done s & entered & names & out ≡ scope_walk_t rows ends allowed entered names scopes out s
+    scope_zero : (allowed : ℕ) → allowed ≡ 0 → Ok s & entered & names & out ≡ scope_walk_t rows ends allowed entered names scopes out s
     unfolding scope_walk_t
     scope_zero allowed e = rw e
 
@@ -166,18 +162,18 @@ module _ (rows ends : List ℕ) where
     unfolding scope_walk_t
     scope_suc allowed k e = rw e
 
-    pub scope_none : most ≤ s.depth → Done s & entered & names & out ≡ scope_walk_t rows ends (most - s.depth) entered names scopes out s
+    pub scope_none : most ≤ s.depth → Ok s & entered & names & out ≡ scope_walk_t rows ends (most - s.depth) entered names scopes out s
     scope_none h = scope_zero (most - s.depth) (omega arith)
 
-    module _ (h : s.depth < most) (p : Planned) (e n : List Slot) (w : p & e & n ≡ begin_scope_t rows ends entered names scopes s) where
+    module _ (h : s.depth < most) (p : Result PlanState Refused) (e n : List Slot) (w : p & e & n ≡ begin_scope_t rows ends entered names scopes s) where
       step : scoped_t rows ends (scope_walk_t rows ends (most - (s.depth + 1))) (p & e & n) scopes out s ≡ scope_walk_t rows ends (most - s.depth) entered names scopes out s
       step = rw w (scope_suc (most - s.depth) (most - (s.depth + 1)) (omega arith))
 
-      pub scope_refused : (x : Refusal) (y : Told) → p ≡ PlanRefused x y → Refused x y & e & n & out ≡ scope_walk_t rows ends (most - s.depth) entered names scopes out s
+      pub scope_refused : (x : Refusal) (y : Told) → p ≡ Err (record { refusal = x; told = y }) → Err (record { refusal = x; told = y }) & e & n & out ≡ scope_walk_t rows ends (most - s.depth) entered names scopes out s
       unfolding scoped_t
       scope_refused x y m = rw m at step
 
-      pub scope_on : (d : PlanState) → p ≡ PlanDone d → (name : ℕ) → name ≡ open_name (row_at rows s.at) → (x : List ℕ) → x ≡ scope_of name s.used d.used s.before → (to : ℕ) (o : List ℕ) → to & o ≡ copy_row rows s.at out s.to → (k : ℕ) → k ≡ row_number s.at 1 → (most' : ℕ) → most' ≡ most → (X : Wrote₃) → X ≡ fields_walk_t rows ends (scope_walk_t rows ends (most' - (s.depth + 1))) e n (set scopes s.depth x) o (record { at = k; to = to; used = d.used; fresh = d.fresh; depth = s.depth + 1; next = s.used; alias = s.used; seen = 0; before = s.used; early = s.early }) (s.depth + 1) (length rows / 16) → X ≡ scope_walk_t rows ends (most - s.depth) entered names scopes out s
+      pub scope_on : (d : PlanState) → p ≡ Ok d → (name : ℕ) → name ≡ open_name (row_at rows s.at) → (x : List ℕ) → x ≡ scope_of name s.used d.used s.before → (to : ℕ) (o : List ℕ) → to & o ≡ copy_row rows s.at out s.to → (k : ℕ) → k ≡ row_number s.at 1 → (most' : ℕ) → most' ≡ most → (X : Wrote₃) → X ≡ fields_walk_t rows ends (scope_walk_t rows ends (most' - (s.depth + 1))) e n (set scopes s.depth x) o (record { at = k; to = to; used = d.used; fresh = d.fresh; depth = s.depth + 1; next = s.used; alias = s.used; seen = 0; before = s.used; early = s.early }) (s.depth + 1) (length rows / 16) → X ≡ scope_walk_t rows ends (most - s.depth) entered names scopes out s
       unfolding scoped_t
       scope_on d m name f x r to o v k g most' same X i = put_then_lem _ v (rw (r, f, g, same) at i) ∙ (rw m at step)
 

@@ -20,12 +20,12 @@ use fixed::FIRST_FRESH;
 use form::part::field_rows;
 use index::leave;
 use names::{NAME, Scope, Slot, innermost, scope_of, slot_at};
-use plan::enter::{Entered, enter_fields, row_number};
-use plan::insertions::{PlanState, Planned, field_code, plan_scope};
+use plan::enter::{enter_fields, row_number};
+use plan::insertions::{PlanState, field_code, plan_scope};
 use put::copy_row;
-use refusal::{Refusal, Told};
+use refusal::{Refusal, Refused, Told};
 use rows::row::{FIELD, OPEN, Row, code_at, ref_or_open_at};
-use write::alias::{Walked, WriteState, write_aliases};
+use write::alias::{WriteState, write_aliases};
 use write::own::write_own;
 
 // A field's aliases, unless its operands are here_only_lem, and then its own rows.
@@ -38,13 +38,13 @@ fn write_head(
     scopes: &[Scope],
     out: &mut [u8],
     s: WriteState,
-) -> Walked
+) -> Result<WriteState, Refused>
     requires { Within names.now chains.now scopes.now × Holds entered.old known.old 0 }
     ensures { ((result & entered.new & out.new) ≡ write_head_t field.now entered.old names.now scopes.now out.old s) × FreeBy result entered.new known.new }
 {
     match write_fresh(field, names, chains, innermost(scopes, s.depth), out, s) {
-        Walked::Refused(refusal, told) => Walked::Refused(refusal, told),
-        Walked::Done(t) => write_own(field, entered, known, names, chains, scopes, out, t),
+        Err(Refused { refusal, told }) => Err(Refused { refusal, told }),
+        Ok(t) => write_own(field, entered, known, names, chains, scopes, out, t),
     }
 }
 
@@ -57,12 +57,12 @@ fn write_fresh(
     here: Scope,
     out: &mut [u8],
     s: WriteState,
-) -> Walked
+) -> Result<WriteState, Refused>
     requires { Covers names.now chains.now (past_of here) }
     ensures { (result & out.new) ≡ write_fresh_t field.now names.now here out.old s }
 {
     if slot_at(names, s.next)[NAME] < FIRST_FRESH {
-        return Walked::Done(s);
+        return Ok(s);
     }
     write_inserted(field, names, chains, here, out, s)
 }
@@ -75,12 +75,12 @@ fn write_inserted(
     here: Scope,
     out: &mut [u8],
     s: WriteState,
-) -> Walked
+) -> Result<WriteState, Refused>
     requires { Covers names.now chains.now (past_of here) }
     ensures { (result & out.new) ≡ write_inserted_t field.now names.now here out.old s }
 {
     if here_only(field_code(field)) {
-        return Walked::Done(s);
+        return Ok(s);
     }
     write_aliases(field, names, chains, here, out, s)
 }
@@ -96,23 +96,23 @@ fn begin(
     chains: &mut [u16],
     scopes: &[Scope],
     s: WriteState,
-) -> Planned
+) -> Result<PlanState, Refused>
     requires { Served entered.old known.old names.old chains.old s.used × Stacked scopes.now s }
     ensures { ((result & entered.new & names.new) ≡ begin_scope_t rows.now ends.now entered.old names.old scopes.now s) × BegunBy result s entered.new known.new names.new chains.new }
 {
     let first = row_number(s.at, 1) as usize;
     match enter_fields(rows, ends, entered, known, first) {
-        Entered::Twice(refusal, told) => Planned::Refused(
-            Refusal {
+        Err(Refused { refusal, told }) => Err(Refused {
+            refusal: Refusal {
                 number: refusal.number,
                 place: refusal.place,
             },
-            Told {
+            told: Told {
                 space: told.space,
                 first: told.first,
             },
-        ),
-        Entered::Upto(count) => {
+        }),
+        Ok(count) => {
             let plan = PlanState {
                 at: first,
                 entered: count,
@@ -124,10 +124,10 @@ fn begin(
                 early: s.early,
             };
             match plan_scope(rows, ends, entered, known, names, chains, scopes, plan) {
-                Planned::Refused(refusal, told) => Planned::Refused(refusal, told),
-                Planned::Done(p) => {
+                Err(Refused { refusal, told }) => Err(Refused { refusal, told }),
+                Ok(p) => {
                     leave(entered, known, 0, count);
-                    Planned::Done(p)
+                    Ok(p)
                 }
             }
         }
@@ -176,27 +176,27 @@ pub fn scope_walk(
     scopes: &mut [Scope],
     out: &mut [u8],
     s: WriteState,
-) -> Walked
+) -> Result<WriteState, Refused>
     requires { Served entered.old known.old names.old chains.old s.used × Stacked scopes.old s }
     ensures { ((result & entered.new & names.new & out.new) ≡ scope_walk_t rows.now ends.now (length scopes.old - s.depth) entered.old names.old scopes.old out.old s) × ScopeBy result s entered.new known.new names.new chains.new scopes.old scopes.new }
 {
     let depth = s.depth;
     // Never true on a form: it has no more scopes one in another than its limits allow, and the stack has room for as many.
     if scopes.len() <= depth {
-        return Walked::Done(s);
+        return Ok(s);
     }
     match begin(rows, ends, entered, known, names, chains, scopes, s) {
-        Planned::Refused(refusal, told) => Walked::Refused(
-            Refusal {
+        Err(Refused { refusal, told }) => Err(Refused {
+            refusal: Refusal {
                 number: refusal.number,
                 place: refusal.place,
             },
-            Told {
+            told: Told {
                 space: told.space,
                 first: told.first,
             },
-        ),
-        Planned::Done(p) => {
+        }),
+        Ok(p) => {
             let kept = scopes[depth];
             scopes[depth] = scope_of(scope_name(rows, s.at), s.used, p.used, s.before);
             let to = copy_row(rows, s.at, out, s.to);
@@ -215,11 +215,11 @@ pub fn scope_walk(
             match fields_walk(
                 rows, ends, entered, known, names, chains, scopes, out, inside,
             ) {
-                Walked::Refused(refusal, told) => Walked::Refused(refusal, told),
-                Walked::Done(t) => {
+                Err(Refused { refusal, told }) => Err(Refused { refusal, told }),
+                Ok(t) => {
                     scopes[depth] = kept;
                     leave(names, chains, s.used, p.used);
-                    Walked::Done(t)
+                    Ok(t)
                 }
             }
         }
@@ -238,7 +238,7 @@ fn fields_walk(
     scopes: &mut [Scope],
     out: &mut [u8],
     s: WriteState,
-) -> Walked
+) -> Result<WriteState, Refused>
     requires { Served entered.old known.old names.old chains.old s.used × Stacked scopes.old s }
     ensures { ((result & entered.new & names.new & out.new) ≡ fields_walk_t rows.now ends.now (scope_walk_t rows.now ends.now (length scopes.old - s.depth)) entered.old names.old scopes.old out.old s s.depth (length rows.now / 16)) × ScopeBy result s entered.new known.new names.new chains.new scopes.old scopes.new }
 {
@@ -248,7 +248,7 @@ fn fields_walk(
     while 0 < turns {
         turns -= 1;
         if code_at(rows, cur.at) != FIELD {
-            return Walked::Done(closed(rows, out, cur));
+            return Ok(closed(rows, out, cur));
         }
         let walked = field_walk(
             rows,
@@ -262,14 +262,14 @@ fn fields_walk(
             begun(cur, depth),
         );
         match walked {
-            Walked::Done(t) => {
+            Ok(t) => {
                 cur = t;
             }
-            Walked::Refused(_, _) => return walked,
+            Err(_) => return walked,
         }
     }
     // Never reached on a form: the CLOSE of the scope ends the loop.
-    Walked::Done(cur)
+    Ok(cur)
 }
 
 // Step C of a field, and the scope that it may open.
@@ -284,7 +284,7 @@ fn field_walk(
     scopes: &mut [Scope],
     out: &mut [u8],
     s: WriteState,
-) -> Walked
+) -> Result<WriteState, Refused>
     requires { Served entered.old known.old names.old chains.old s.used × Stacked scopes.old s }
     ensures { ((result & entered.new & names.new & out.new) ≡ field_walk_t rows.now ends.now (scope_walk_t rows.now ends.now (length scopes.old - s.depth)) entered.old names.old scopes.old out.old s) × FieldBy result s entered.new known.new names.new chains.new scopes.old scopes.new }
 {
@@ -299,10 +299,10 @@ fn field_walk(
         s,
     );
     match walked {
-        Walked::Refused(_, _) => walked,
-        Walked::Done(t) => {
+        Err(_) => walked,
+        Ok(t) => {
             if code_at(rows, t.at) != OPEN {
-                return Walked::Done(t);
+                return Ok(t);
             }
             let inside = scope_walk(
                 rows,
@@ -316,8 +316,8 @@ fn field_walk(
                 at_depth(t, s.depth),
             );
             match inside {
-                Walked::Refused(_, _) => inside,
-                Walked::Done(u) => Walked::Done(after_scope(t, u)),
+                Err(_) => inside,
+                Ok(u) => Ok(after_scope(t, u)),
             }
         }
     }

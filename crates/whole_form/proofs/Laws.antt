@@ -1,4 +1,5 @@
 -- What an answer says of the bytes, in the rules' words.
+use Rattle.std.specs.Prelude.{Result, Ok, Err}
 use mathlib.Core.Path.{◌≡◌, refl, sym, ◌∙◌, subst}
 use mathlib.Core.Bool.{Bool, true, false, ◌||◌, not}
 use mathlib.Core.Option.{none, some}
@@ -20,12 +21,12 @@ use Rattle.read_form.specs.ReadForm.{as_answer, read_form}
 use Rattle.refusal.specs.declared.Refusal.{Refusal}
 use Rattle.limits.specs.Held.{setting}
 use Rattle.form.specs.Header.{header_in, header_for}
+use Rattle.form.specs.declared.header.BadHeader.TheVariants.{Wrong, Count}
 use Rattle.whole_form.specs.Asked.{or_next, held_as, asked_from, asked_of, claimed_of}
 use Rattle.whole_form.specs.Whole.{form_of}
-use Rattle.whole_form.specs.declared.asked.Asked.{Asked}
-use Rattle.whole_form.specs.declared.asked.Asked.TheVariants.{For, Wrong, Count}
-use Rattle.whole_form.specs.declared.read.Form.TheVariants.{Whole, Refused}
 use Rattle.whole_form.proofs.Ways.{Headed, header_rows}
+use Rattle.form.specs.declared.header.BadHeader.{BadHeader}
+use Rattle.whole_form.specs.declared.asked.Asked.{Asked}
 
 -- ---- the settings by their place
 
@@ -51,10 +52,10 @@ first = record { version = version1; rules = today }
 
 -- where what is read is a claimed output, or an input
 module _ (claim : Bool) where
-  abbrev Asks : List Setting → (k : ℕ) → List ℕ → Asked → Type 0
-  Asks ss k input (For i rows) = (j : ℕ) × (i ≡ k + j) × (j < length ss) × (setting_of ss input ≡ some (get_or ss j first)) × Headed (held_as claim (get_or ss j first)) input rows
-  Asks ss k input Wrong = setting_of ss input ≡ none
-  Asks ss k input Count = (s : Setting) × (setting_of ss input ≡ some s) × (unsized (held_as claim s) input ≡ true)
+  abbrev Asks : List Setting → (k : ℕ) → List ℕ → Result Asked BadHeader → Type 0
+  Asks ss k input (Ok (record { setting = i; rows = rows })) = (j : ℕ) × (i ≡ k + j) × (j < length ss) × (setting_of ss input ≡ some (get_or ss j first)) × Headed (held_as claim (get_or ss j first)) input rows
+  Asks ss k input (Err Wrong) = setting_of ss input ≡ none
+  Asks ss k input (Err Count) = (s : Setting) × (setting_of ss input ≡ some s) × (unsized (held_as claim s) input ≡ true)
 
   -- both have the same header
   header_held : (s : Setting) (input : List ℕ) → has_header (held_as claim s) input ≡ has_header s input
@@ -65,10 +66,10 @@ module _ (claim : Bool) where
       go true = unfold pick has_header mark in refl
       go false = unfold pick in refl
 
-  asks_next : (s : Setting) (ss : List Setting) (k : ℕ) (input : List ℕ) (a : Asked) → setting_of (s ∷ ss) input ≡ setting_of ss input → Asks ss (k + 1) input a → Asks (s ∷ ss) k input a
-  asks_next s ss k input (For i rows) e (j, p, h, q, r) = (suc j, omega arith, omega arith, e ∙ q, r)
-  asks_next s ss k input Wrong e w = e ∙ w
-  asks_next s ss k input Count e (t, p, q) = (t, e ∙ p, q)
+  asks_next : (s : Setting) (ss : List Setting) (k : ℕ) (input : List ℕ) (a : Result Asked BadHeader) → setting_of (s ∷ ss) input ≡ setting_of ss input → Asks ss (k + 1) input a → Asks (s ∷ ss) k input a
+  asks_next s ss k input (Ok (record { setting = i; rows = rows })) e (j, p, h, q, r) = (suc j, omega arith, omega arith, e ∙ q, r)
+  asks_next s ss k input (Err Wrong) e w = e ∙ w
+  asks_next s ss k input (Err Count) e (t, p, q) = (t, e ∙ p, q)
 
   asks : (ss : List Setting) (k : ℕ) (input : List ℕ) → Asks ss k input (asked_from claim k ss input)
   unfolding asked_from setting_of header_in header_for when◌then◌else◌ or_next only ◌or_else◌
@@ -95,18 +96,18 @@ pub record AskedFor (input : List ℕ) (i rows : ℕ) : Type 0 where
   pub said : Headed (setting i) input rows
 
 module _ (input : List ℕ) where
-  pub asked_for : (i rows : ℕ) → For i rows ≡ asked_of input → AskedFor input i rows
+  pub asked_for : (i rows : ℕ) → Ok (record { setting = i; rows = rows }) ≡ asked_of input → AskedFor input i rows
   unfolding asked_of held_as pick
   asked_for i rows e = go (subst (Asks false all 0 input) (sym e) (asks false all 0 input))
     where
-      go : Asks false all 0 input (For i rows) → AskedFor input i rows
+      go : Asks false all 0 input (Ok (record { setting = i; rows = rows })) → AskedFor input i rows
       go (j, p, h, q, r) = let same : j ≡ i = omega arith in record { known = omega arith; asks = rw same at q; said = rw same at r }
 
-  pub asked_wrong : Wrong ≡ asked_of input → setting_of all input ≡ none
+  pub asked_wrong : Err Wrong ≡ asked_of input → setting_of all input ≡ none
   unfolding asked_of
   asked_wrong e = subst (Asks false all 0 input) (sym e) (asks false all 0 input)
 
-  pub asked_count : Count ≡ asked_of input → (s : Setting) × (setting_of all input ≡ some s) × (unsized s input ≡ true)
+  pub asked_count : Err Count ≡ asked_of input → (s : Setting) × (setting_of all input ≡ some s) × (unsized s input ≡ true)
   unfolding asked_of held_as pick
   asked_count e = subst (Asks false all 0 input) (sym e) (asks false all 0 input)
 
@@ -117,18 +118,18 @@ pub record ClaimedFor (input : List ℕ) (i rows : ℕ) : Type 0 where
   pub said : Headed (as_claimed (setting i)) input rows
 
 module _ (input : List ℕ) where
-  pub claimed_for : (i rows : ℕ) → For i rows ≡ claimed_of input → ClaimedFor input i rows
+  pub claimed_for : (i rows : ℕ) → Ok (record { setting = i; rows = rows }) ≡ claimed_of input → ClaimedFor input i rows
   unfolding claimed_of held_as pick
   claimed_for i rows e = go (subst (Asks true all 0 input) (sym e) (asks true all 0 input))
     where
-      go : Asks true all 0 input (For i rows) → ClaimedFor input i rows
+      go : Asks true all 0 input (Ok (record { setting = i; rows = rows })) → ClaimedFor input i rows
       go (j, p, h, q, r) = let same : j ≡ i = omega arith in record { known = omega arith; asks = rw same at q; said = rw same at r }
 
-  pub claimed_wrong : Wrong ≡ claimed_of input → setting_of all input ≡ none
+  pub claimed_wrong : Err Wrong ≡ claimed_of input → setting_of all input ≡ none
   unfolding claimed_of
   claimed_wrong e = subst (Asks true all 0 input) (sym e) (asks true all 0 input)
 
-  pub claimed_count : Count ≡ claimed_of input → (s : Setting) × (setting_of all input ≡ some s) × (unsized (as_claimed s) input ≡ true)
+  pub claimed_count : Err Count ≡ claimed_of input → (s : Setting) × (setting_of all input ≡ some s) × (unsized (as_claimed s) input ≡ true)
   unfolding claimed_of held_as pick
   claimed_count e = subst (Asks true all 0 input) (sym e) (asks true all 0 input)
 
@@ -152,16 +153,16 @@ form_plain s input =
     (if_both Plain (unsized s input) (refused 2 0 []) _ refl (reading_plain (read s.rules s.version.scopes (rows_in s input))))
 
 module _ (s : Setting) (input : List ℕ) where
-  pub whole_read : (rows : ℕ) → Whole rows ≡ form_of (read_form s input) → (t : Scope) × (read_form s input ≡ accepted t) × (rows ≡ length (flatten t))
+  pub whole_read : (rows : ℕ) → Ok rows ≡ form_of (read_form s input) → (t : Scope) × (read_form s input ≡ accepted t) × (rows ≡ length (flatten t))
   whole_read rows e = go (read_form s input) refl e
     where
-      go : (x : AnswerOf Scope) → read_form s input ≡ x → Whole rows ≡ form_of x → (t : Scope) × (read_form s input ≡ accepted t) × (rows ≡ length (flatten t))
+      go : (x : AnswerOf Scope) → read_form s input ≡ x → Ok rows ≡ form_of x → (t : Scope) × (read_form s input ≡ accepted t) × (rows ≡ length (flatten t))
       go (refused n p c) q e = unfold form_of in (let z : ◌≡◌ {A = ℕ} 0 1 = cc in absurd (omega arith))
       go (accepted t) q e = unfold form_of in (t, q, cc)
 
-  pub refused_read : (why : Refusal) → Refused why ≡ form_of (read_form s input) → read_form s input ≡ refused why.number why.place []
+  pub refused_read : (why : Refusal) → Err why ≡ form_of (read_form s input) → read_form s input ≡ refused why.number why.place []
   refused_read why e = go (read_form s input) refl (form_plain s input) e
     where
-      go : (x : AnswerOf Scope) → read_form s input ≡ x → Plain x → Refused why ≡ form_of x → read_form s input ≡ refused why.number why.place []
+      go : (x : AnswerOf Scope) → read_form s input ≡ x → Plain x → Err why ≡ form_of x → read_form s input ≡ refused why.number why.place []
       go (refused n p c) q l e = unfold form_of in (let n-is : why.number ≡ n = cc in let p-is : why.place ≡ p = cc in q ∙ rw (n-is, p-is, l))
       go (accepted t) q l e = unfold form_of in (let z : ◌≡◌ {A = ℕ} 0 1 = cc in absurd (omega arith))

@@ -1,4 +1,5 @@
 -- Ways through the settings, and through the code that reads a form by itself.
+use Rattle.std.specs.Prelude.{Result, Ok, Err, ⊤, ℕ}
 use mathlib.Core.Path.{◌≡◌, refl, sym, ap, ◌∙◌}
 use mathlib.Core.Bool.{Bool, true, false, ◌||◌, not}
 use mathlib.Core.Option.{Option, some}
@@ -28,17 +29,16 @@ use Rattle.limits.specs.declared.Limits.{Limits}
 use Rattle.limits.specs.Held.{setting_in, limits_of, setting}
 use Rattle.limits.proofs.Laws.{stand_for, stand_claimed, few_rows}
 use Rattle.form.specs.Header.{header_in, header_for, header_to}
-use Rattle.form.specs.declared.header.Header.{Header}
-use Rattle.form.specs.declared.header.Header.TheVariants.{Rows, Wrong, Count}
+use Rattle.form.specs.declared.header.BadHeader.TheVariants.{Wrong, Count}
 use Rattle.reader.specs.ReadTo.{answer_of, read_to}
-use Rattle.reader.specs.declared.RowsRead.{RowsRead}
-use Rattle.reader.specs.declared.RowsRead.TheVariants as rows_read
 use Rattle.whole_form.specs.Asked.{or_next, held_as, asked_from, asked_of, claimed_of}
 use Rattle.whole_form.specs.Whole.{refused_t, form_of, read_t, body_t, head_t, held_t}
+use Rattle.form.specs.declared.header.BadHeader.TheVariants as asked
+use Rattle.reader.specs.declared.BadRows.TheVariants as rows_read
+use Rattle.form.specs.declared.header.BadHeader.{BadHeader}
+use Rattle.reader.specs.declared.BadRows.{BadRows}
+use Rattle.refusal.specs.declared.Refusal.{Refusal}
 use Rattle.whole_form.specs.declared.asked.Asked.{Asked}
-use Rattle.whole_form.specs.declared.asked.Asked.TheVariants as asked
-use Rattle.whole_form.specs.declared.read.Form.{Form}
-use Rattle.whole_form.specs.declared.read.Form.TheVariants.{Whole}
 
 -- ---- what a header says
 
@@ -50,7 +50,7 @@ pub record Headed (s : Setting) (input : List ℕ) (rows : ℕ) : Type 0 where
   pub few : rows ≤ s.version.rows
   pub long : length input ≡ s.version.header + 16 * rows
 
-pub header_rows : (s : Setting) (input : List ℕ) (rows : ℕ) → Rows rows ≡ header_for (only (has_header s input) s) input → Headed s input rows
+pub header_rows : (s : Setting) (input : List ℕ) (rows : ℕ) → Ok rows ≡ header_for (only (has_header s input) s) input → Headed s input rows
 unfolding header_in
 header_rows s input rows e =
     let a = only_rows (has_header s input) s input rows e in
@@ -62,11 +62,11 @@ header_rows s input rows e =
     let sized = eqb-true (length input) (s.version.header + 16 * m) d.1 in
     record { headed = a.0; counted = sym b.1; some_rows = omega (arith, b.1); few = omega (arith, b.1); long = omega (arith, b.1) }
   where
-    only_rows : (b : Bool) (s : Setting) (input : List ℕ) (n : ℕ) → Rows n ≡ header_for (only b s) input → (b ≡ true) × (Rows n ≡ header_in s.version input)
+    only_rows : (b : Bool) (s : Setting) (input : List ℕ) (n : ℕ) → Ok n ≡ header_for (only b s) input → (b ≡ true) × (Ok n ≡ header_in s.version input)
     only_rows true s input n e = unfold only header_for in (refl, e)
     only_rows false s input n e = unfold only header_for in (let z : ◌≡◌ {A = ℕ} 0 1 = cc in absurd (omega arith))
 
-    counted_rows : (b : Bool) (n m : ℕ) → Rows n ≡ (when b then Count else Rows m) → (b ≡ false) × (n ≡ m)
+    counted_rows : (b : Bool) (n m : ℕ) → Ok n ≡ (when b then Err Count else Ok m) → (b ≡ false) × (n ≡ m)
     counted_rows true n m e = unfold when◌then◌else◌ in (let z : ◌≡◌ {A = ℕ} 0 1 = cc in absurd (omega arith))
     counted_rows false n m e = unfold when◌then◌else◌ in (refl, cc)
 
@@ -92,33 +92,33 @@ module _ (claim : Bool) (i : ℕ) (l : Limits) where
   unfolding held_as pick
   limits_input h e = rw h e
 
-module _ (claim : Bool) (input : List ℕ) (i : ℕ) (T : Asked) (inv : asked_from claim i (drop i all) input ≡ T) where
-  pub asked_end : 3 ≤ i → asked.Wrong ≡ T
+module _ (claim : Bool) (input : List ℕ) (i : ℕ) (T : Result Asked BadHeader) (inv : asked_from claim i (drop i all) input ≡ T) where
+  pub asked_end : 3 ≤ i → Err asked.Wrong ≡ T
   unfolding asked_from
   asked_end h = rw (drop_of_length-le all h) at inv
 
-  module _ (h : i < 3) (l : Limits) (e : l ≡ limits_of (held_as claim (setting i))) (said : Header) (q : said ≡ header_to l input) where
+  module _ (h : i < 3) (l : Limits) (e : l ≡ limits_of (held_as claim (setting i))) (said : Result ℕ BadHeader) (q : said ≡ header_to l input) where
     turn : or_next i said (asked_from claim (i + 1) (drop (i + 1) all) input) ≡ T
     unfolding asked_from
     turn =
         let is : said ≡ header_for (only (has_header (held_as claim (setting i)) input) (held_as claim (setting i))) input = q ∙ rw e (unfold header_to in rw (held_at claim i)) in
         rw is (rw (drop_next all i (record { version = version1; rules = today }) h) at inv)
 
-    pub asked_rows : (rows : ℕ) → said ≡ Rows rows → asked.For i rows ≡ T
+    pub asked_rows : (rows : ℕ) → said ≡ Ok rows → Ok (record { setting = i; rows = rows }) ≡ T
     unfolding or_next
     asked_rows rows w = rw w at turn
 
-    pub asked_count : said ≡ Count → asked.Count ≡ T
+    pub asked_count : said ≡ Err Count → Err asked.Count ≡ T
     unfolding or_next
     asked_count w = rw w at turn
 
-    pub asked_on : said ≡ Wrong → asked_from claim (i + 1) (drop (i + 1) all) input ≡ T
+    pub asked_on : said ≡ Err Wrong → asked_from claim (i + 1) (drop (i + 1) all) input ≡ T
     unfolding or_next
     asked_on w = rw w at turn
 
 pub ruleset asked_ways = (limits_claim, limits_input, asked_end, asked_rows, asked_count, asked_on, rules)
 
-module _ (a : Asked) (input : List ℕ) where
+module _ (a : Result Asked BadHeader) (input : List ℕ) where
   pub asked_input : a ≡ asked_from false 0 all input → a ≡ asked_of input
   unfolding asked_of
   asked_input e = e
@@ -139,21 +139,21 @@ unfolding setting_in
 held_rows l = refl
 
 -- this many rows
-module _ (rows : List ℕ) (l : Limits) (count : ℕ) (r : RowsRead) (e : r ≡ read_to l rows) where
-  pub rows_broken : (row : ℕ) (v : Form) → r ≡ rows_read.Broken row → v ≡ refused_t 4 (row % 4294967296) → v ≡ read_t (read_to l rows) count
+module _ (rows : List ℕ) (l : Limits) (count : ℕ) (r : Result ⊤ BadRows) (e : r ≡ read_to l rows) where
+  pub rows_broken : (row : ℕ) (v : Result ℕ Refusal) → r ≡ Err (rows_read.Broken row) → v ≡ refused_t 4 (row % 4294967296) → v ≡ read_t (read_to l rows) count
   unfolding read_t
   rows_broken row v q w = rw (← e, q) w
 
-  pub rows_deep : (row : ℕ) (v : Form) → r ≡ rows_read.Deep row → v ≡ refused_t 5 (row % 4294967296) → v ≡ read_t (read_to l rows) count
+  pub rows_deep : (row : ℕ) (v : Result ℕ Refusal) → r ≡ Err (rows_read.Deep row) → v ≡ refused_t 5 (row % 4294967296) → v ≡ read_t (read_to l rows) count
   unfolding read_t
   rows_deep row v q w = rw (← e, q) w
 
-  pub rows_whole : r ≡ rows_read.Whole → Whole count ≡ read_t (read_to l rows) count
+  pub rows_whole : r ≡ Ok tt → Ok count ≡ read_t (read_to l rows) count
   unfolding read_t
   rows_whole q = rw (← e, q)
 
 module _ (l : Limits) (input : List ℕ) where
-  pub body_read : (rows h : ℕ) → h ≡ l.header → (v : Form) → v ≡ read_t (read_to l (take (length input - h) (drop h input))) rows → v ≡ body_t l rows input
+  pub body_read : (rows h : ℕ) → h ≡ l.header → (v : Result ℕ Refusal) → v ≡ read_t (read_to l (take (length input - h) (drop h input))) rows → v ≡ body_t l rows input
   unfolding body_t
   body_read rows h is v e = let whole = take_all (length input - h) (drop h input) (omega (arith, length-drop h input)) in rw (whole, is) at e
 
@@ -162,7 +162,7 @@ module _ (l : Limits) (input : List ℕ) where
   unfolding read_t answer_of as_answer form_of
   reading_is rows rs n h (tree.bad p) w = let k : p % 4294967296 ≡ p = omega (arith, w.in_range) in rw k
   reading_is rows rs n h (tree.deep p) w = let k : p % 4294967296 ≡ p = omega (arith, w.in_range) in rw k
-  reading_is rows rs n h (tree.form t) w = ap Whole (sym n ∙ ap length (sym w.0.of_tree) ∙ length-map (flatten t) some)
+  reading_is rows rs n h (tree.form t) w = ap Ok (sym n ∙ ap length (sym w.0.of_tree) ∙ length-map (flatten t) some)
 
   body_is : (rows : ℕ) → Headed (setting_in l) input rows → l.rows ≤ 4294967295 → body_t l rows input ≡ form_of (as_answer (read (setting_in l).rules (setting_in l).version.scopes (rows_in (setting_in l) input)))
   unfolding body_t read_to setting_in
@@ -186,7 +186,7 @@ module _ (l : Limits) (input : List ℕ) where
       m = not (between 1 (setting_in l).version.rows (row_count (setting_in l).version input)) || not (eqb (length input) ((setting_in l).version.header + 16 * row_count (setting_in l).version input))
 
       inner : (b : Bool) → m ≡ b → has_header (setting_in l) input ≡ true
-          → head_t l (when b then Count else Rows (row_count (setting_in l).version input)) input ≡ form_of (when b then refused 2 0 [] else as_answer (read (setting_in l).rules (setting_in l).version.scopes (rows_in (setting_in l) input)))
+          → head_t l (when b then Err Count else Ok (row_count (setting_in l).version input)) input ≡ form_of (when b then refused 2 0 [] else as_answer (read (setting_in l).rules (setting_in l).version.scopes (rows_in (setting_in l) input)))
       inner true e h = refl
       inner false e h = body_is (row_count (setting_in l).version input) (header_rows (setting_in l) input (row_count (setting_in l).version input) (sym (rw (h, e)))) low
 
@@ -195,21 +195,21 @@ module _ (l : Limits) (input : List ℕ) where
       go false e = refl
       go true e = inner m refl e
 
-  module _ (h : Header) (e : h ≡ header_to l input) where
-    pub head_long_lem : (rows : ℕ) → h ≡ Rows rows → l.header ≤ length input
+  module _ (h : Result ℕ BadHeader) (e : h ≡ header_to l input) where
+    pub head_long_lem : (rows : ℕ) → h ≡ Ok rows → l.header ≤ length input
     unfolding header_to
     head_long_lem rows q = let n = (header_rows (setting_in l) input rows (sym q ∙ e)).long in omega (arith, held_header l)
 
-    module _ (low : l.rows ≤ 4294967295) (v : Form) where
-      pub head_wrong : h ≡ Wrong → v ≡ refused_t 1 0 → v ≡ form_of (read_form (setting_in l) input)
+    module _ (low : l.rows ≤ 4294967295) (v : Result ℕ Refusal) where
+      pub head_wrong : h ≡ Err Wrong → v ≡ refused_t 1 0 → v ≡ form_of (read_form (setting_in l) input)
       unfolding held_t head_t
       head_wrong q w = w ∙ rw (← e, q) at (held_is low)
 
-      pub head_count : h ≡ Count → v ≡ refused_t 2 0 → v ≡ form_of (read_form (setting_in l) input)
+      pub head_count : h ≡ Err Count → v ≡ refused_t 2 0 → v ≡ form_of (read_form (setting_in l) input)
       unfolding held_t head_t
       head_count q w = w ∙ rw (← e, q) at (held_is low)
 
-      pub head_rows_lem : (rows : ℕ) → h ≡ Rows rows → v ≡ body_t l rows input → v ≡ form_of (read_form (setting_in l) input)
+      pub head_rows_lem : (rows : ℕ) → h ≡ Ok rows → v ≡ body_t l rows input → v ≡ form_of (read_form (setting_in l) input)
       unfolding held_t head_t
       head_rows_lem rows q w = w ∙ rw (← e, q) at (held_is low)
 
@@ -219,14 +219,14 @@ module _ (i : ℕ) (l : Limits) where
     pub input_rows : l.rows ≤ 4294967295
     input_rows = let h = few_rows i in rw e (omega arith)
 
-    pub input_read : (input : List ℕ) (v : Form) → v ≡ form_of (read_form (setting_in l) input) → v ≡ form_of (read_form (setting i) input)
+    pub input_read : (input : List ℕ) (v : Result ℕ Refusal) → v ≡ form_of (read_form (setting_in l) input) → v ≡ form_of (read_form (setting i) input)
     input_read input v w = rw (e, stand_for i) at w
 
   module _ (e : l ≡ limits_of (as_claimed (setting i))) where
     pub claim_rows : l.rows ≤ 4294967295
     claim_rows = let h = few_rows i in rw e (omega arith)
 
-    pub claim_read : (input : List ℕ) (v : Form) → v ≡ form_of (read_form (setting_in l) input) → v ≡ form_of (read_form (as_claimed (setting i)) input)
+    pub claim_read : (input : List ℕ) (v : Result ℕ Refusal) → v ≡ form_of (read_form (setting_in l) input) → v ≡ form_of (read_form (as_claimed (setting i)) input)
     claim_read input v w = rw (e, stand_claimed i) at w
 
 pub ruleset read_ways = (rows_broken, rows_deep, rows_whole, body_read, head_long_lem, head_wrong, head_count, head_rows_lem, input_rows, input_read, claim_rows, claim_read, rules)

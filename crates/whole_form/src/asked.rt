@@ -4,7 +4,7 @@ ghost use Rattle.rules.specs.Versions.{all};
 ghost use Rattle.limits.specs.Held.{limits_of, setting};
 ghost use Rattle.whole_form.specs.Asked.{held_as, asked_from, asked_of, claimed_of};
 
-use form::header::{Header, header_to};
+use form::header::{BadHeader, header_to};
 use limits::{Limits, of_claim, of_input};
 
 // How many settings there are.
@@ -12,13 +12,9 @@ const SETTINGS: usize = 3;
 
 // What the header asks for.
 #[derive(Clone, Copy)]
-pub enum Asked {
-    // The setting at this place in the list of all, and how many rows the header counts; the bytes have just as many.
-    For { setting: usize, rows: usize },
-    // Refusal 1: no setting has such a header.
-    Wrong,
-    // Refusal 2.
-    Count,
+pub struct Asked {
+    pub setting: usize,
+    pub rows: usize,
 }
 
 // The limits of a claimed output or of an input, by the setting's place in the list of all.
@@ -29,7 +25,7 @@ fn limits_at(claim: bool, i: usize) -> Limits
 }
 
 // The setting that the header asks for, of a claimed output or of an input.
-fn asked_as(form: &[u8], claim: bool) -> Asked
+fn asked_as(form: &[u8], claim: bool) -> Result<Result<Asked, BadHeader>, BadHeader>
     ensures { result ≡ asked_from claim 0 all form.now }
 {
     let mut next = 0;
@@ -37,23 +33,23 @@ fn asked_as(form: &[u8], claim: bool) -> Asked
         let setting = next;
         next += 1;
         match header_to(form, limits_at(claim, setting)) {
-            Header::Rows(rows) => return Asked::For { setting, rows },
-            Header::Count => return Asked::Count,
-            Header::Wrong => {}
+            Ok(rows) => return Ok(Asked { setting, rows }),
+            Err(BadHeader::Count) => return Err(BadHeader::Count),
+            Err(BadHeader::Wrong) => {}
         }
     }
-    Asked::Wrong
+    Err(BadHeader::Wrong)
 }
 
 // The setting that the header of these bytes asks for.
-pub fn setting_of(form: &[u8]) -> Asked
+pub fn setting_of(form: &[u8]) -> Result<Result<Asked, BadHeader>, BadHeader>
     ensures { result ≡ asked_of form.now }
 {
     asked_as(form, false)
 }
 
 // The same of what is claimed to be an output, which may have four times the rows.
-pub fn claim_of(form: &[u8]) -> Asked
+pub fn claim_of(form: &[u8]) -> Result<Result<Asked, BadHeader>, BadHeader>
     ensures { result ≡ claimed_of form.now }
 {
     asked_as(form, true)

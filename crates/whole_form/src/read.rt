@@ -6,23 +6,16 @@ ghost use Rattle.limits.specs.Held.{setting_in, setting};
 ghost use Rattle.reader.specs.ReadTo.{read_to};
 ghost use Rattle.whole_form.specs.Whole.{form_of, refused_t, read_t, body_t};
 
-use form::header::{Header, header_to};
+use form::header::{BadHeader, header_to};
 use limits::{Limits, of_claim, of_input};
-use reader::{RowsRead, read_to};
+use reader::{BadRows, read_to};
 use refusal::{BROKEN, DEEP, NOT_A_FORM, ROW_COUNT, Refusal};
 
-#[derive(Clone, Copy)]
-pub enum Form {
-    // A form, with this number of rows.
-    Whole(usize),
-    Refused(Refusal),
-}
-
 // A refusal whose number document 01 gives, and its place.
-fn refused(number: u32, place: u32) -> Form
+fn refused(number: u32, place: u32) -> Result<usize, Refusal>
     ensures { result ≡ refused_t number place }
 {
-    Form::Refused(Refusal { number, place })
+    Err(Refusal { number, place })
 }
 
 // A byte as a number.
@@ -33,18 +26,18 @@ fn wide(byte: u8) -> usize
 }
 
 // Whether this many rows are those of a form within the limits.
-pub fn read_rows(rows: &[u8], limits: Limits, count: usize) -> Form
+pub fn read_rows(rows: &[u8], limits: Limits, count: usize) -> Result<usize, Refusal>
     ensures { result ≡ read_t (read_to limits rows.now) count }
 {
     match read_to(rows, limits) {
-        RowsRead::Broken(row) => refused(BROKEN, (row % 4294967296) as u32),
-        RowsRead::Deep(row) => refused(DEEP, (row % 4294967296) as u32),
-        RowsRead::Whole => Form::Whole(count),
+        Err(BadRows::Broken(row)) => refused(BROKEN, (row % 4294967296) as u32),
+        Err(BadRows::Deep(row)) => refused(DEEP, (row % 4294967296) as u32),
+        Ok(()) => Ok(count),
     }
 }
 
 // The same of the rows behind the header.
-fn read_body(form: &[u8], limits: Limits, rows: usize) -> Form
+fn read_body(form: &[u8], limits: Limits, rows: usize) -> Result<usize, Refusal>
     requires { limits.header ≤ length form.now }
     ensures { result ≡ body_t limits rows form.now }
 {
@@ -53,26 +46,26 @@ fn read_body(form: &[u8], limits: Limits, rows: usize) -> Form
 }
 
 // Whether the bytes are a form of these limits, by which a row's number has four bytes.
-fn read_held(form: &[u8], limits: Limits) -> Form
+fn read_held(form: &[u8], limits: Limits) -> Result<usize, Refusal>
     requires { limits.rows ≤ 4294967295 }
     ensures { result ≡ form_of (read_form (setting_in limits) form.now) }
 {
     match header_to(form, limits) {
-        Header::Wrong => refused(NOT_A_FORM, 0),
-        Header::Count => refused(ROW_COUNT, 0),
-        Header::Rows(rows) => read_body(form, limits, rows),
+        Err(BadHeader::Wrong) => refused(NOT_A_FORM, 0),
+        Err(BadHeader::Count) => refused(ROW_COUNT, 0),
+        Ok(rows) => read_body(form, limits, rows),
     }
 }
 
 // Whether the bytes are an input of the setting at this place in the list of all.
-pub fn read_input(form: &[u8], i: usize) -> Form
+pub fn read_input(form: &[u8], i: usize) -> Result<usize, Refusal>
     ensures { result ≡ form_of (read_form (setting i) form.now) }
 {
     read_held(form, of_input(i))
 }
 
 // Whether the bytes are as an output of that setting may be: any name that fits a row, and four times the rows.
-pub fn read_claim(form: &[u8], i: usize) -> Form
+pub fn read_claim(form: &[u8], i: usize) -> Result<usize, Refusal>
     ensures { result ≡ form_of (read_form (as_claimed (setting i)) form.now) }
 {
     read_held(form, of_claim(i))

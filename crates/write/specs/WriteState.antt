@@ -1,13 +1,12 @@
 -- The state of the walk, with one thing changed; and a step that may be refused.
-use Rattle.std.specs.Prelude.{List, ℕ, ◌+◌, ltb, length}
+use Rattle.std.specs.Prelude.{List, ℕ, ◌+◌, ltb, length, Result, Ok, Err}
 use Rattle.kit.specs.Pick.{pick}
 use Rattle.kit.specs.Out.{Out, ◌&◌}
 use Rattle.refusal.specs.declared.Refusal.{Refusal}
 use Rattle.refusal.specs.declared.Told.{Told}
 use Rattle.names.specs.Table.{Slot}
 use Rattle.write.specs.declared.alias.WriteState.{WriteState}
-use Rattle.write.specs.declared.alias.Walked.{Walked}
-use Rattle.write.specs.declared.alias.Walked.TheVariants.{Done, Refused}
+use Rattle.refusal.specs.declared.Refused.{Refused}
 
 -- the slot after this one; the table's end stays
 unfoldable pub following_t : List Slot → ℕ → ℕ
@@ -60,16 +59,16 @@ after_scope_t b i =
 
 -- an answer, and the output
 abbrev pub Wrote : Type 0
-Wrote = Out Walked (List ℕ)
+Wrote = Out (Result WriteState Refused) (List ℕ)
 
 -- goes on after something is written, by `f` if it is and by `g` if it is refused
 unfoldable pub wrote_then : {A : Type 0} → Wrote → (WriteState → List ℕ → A) → (Refusal → Told → List ℕ → A) → A
-wrote_then (Done s & out) f g = f s out
-wrote_then (Refused why told & out) f g = g why told out
+wrote_then (Ok s & out) f g = f s out
+wrote_then (Err (record { refusal = why; told = told }) & out) f g = g why told out
 
 -- a refusal ends the step
 abbrev pub stops : Refusal → Told → List ℕ → Wrote
-stops why told out = Refused why told & out
+stops why told out = Err (record { refusal = why; told = told }) & out
 
 -- on with what a row's writing leaves: the next output row, and the output
 unfoldable pub put_then : {A : Type 0} → Out ℕ (List ℕ) → (ℕ → List ℕ → A) → A

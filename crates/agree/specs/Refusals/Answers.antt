@@ -1,5 +1,5 @@
 -- A step of the code says what a step of the rules says: it refuses with the same number and place and carries the same, or it is done as is asked.
-use Rattle.std.specs.Prelude.{◌≡◌, Bool, ◌&&◌, not, List, ℕ, ◌≤◌}
+use Rattle.std.specs.Prelude.{◌≡◌, Bool, ◌&&◌, not, List, ℕ, ◌≤◌, Result as CodeResult, Ok, Err}
 use Rattle.std.proofs.Math.Path.{refl, ap}
 use Rattle.std.proofs.Math.Bool.{true, false}
 use Rattle.std.proofs.Math.Option.{Option, none, some}
@@ -19,19 +19,18 @@ use Rattle.names.specs.Stands.{lookup_of, Opens}
 use Rattle.names.proofs.Storey.{look_opens}
 use Rattle.write.specs.declared.alias.WriteState.{WriteState}
 use Rattle.late.specs.Late.{late_in}
-use Rattle.write.specs.declared.alias.Sought.{Sought}
-use Rattle.write.specs.declared.alias.Sought.TheVariants.{At as SoughtAt, Late, Nothing as NotSought}
-use Rattle.write.specs.declared.alias.Walked.{Walked}
-use Rattle.write.specs.declared.alias.Walked.TheVariants.{Refused}
 use Rattle.write.specs.WriteState.{Wrote, wrote_then, stops}
 use Rattle.write.specs.Alias.{sought_t, name_in_t, number_in_t}
 use Rattle.write.specs.Own.{Wrote₂, wrote_then₂, stops₂}
 use Rattle.agree.specs.Refusals.Carried.{said_of, told_of}
 use Rattle.agree.specs.Tables.Earlier.{Come, late_is}
+use Rattle.write.specs.declared.alias.Missing.TheVariants.{Late, Nothing as NotSought}
+use Rattle.refusal.specs.declared.Refused.{Refused}
+use Rattle.write.specs.declared.alias.Missing.{Missing}
 
 -- the same refusal, or what is asked of a result
-abbrev pub Says : {A X : Type 0} → Result A → (A → Out Walked X → Type 0) → Out Walked X → Type 0
-Says {X = X} (refused n z) P w = (x : X) × (w ≡ (Refused (said_of n z) (told_of n) & x))
+abbrev pub Says : {A X : Type 0} → Result A → (A → Out (CodeResult WriteState Refused) X → Type 0) → Out (CodeResult WriteState Refused) X → Type 0
+Says {X = X} (refused n z) P w = (x : X) × (w ≡ (Err (record { refusal = said_of n z; told = told_of n }) & x))
 Says (ok a) P w = P a w
 
 -- ---- a step, and then another
@@ -47,12 +46,12 @@ pub says_then₂ : {A B : Type 0} (r : Result A) (f : A → Result B) (P : A →
 unfolding ◌>>=◌ wrote_then₂
 says_then₂ (refused n z) f P Q w g h k = go h.0 h.1
   where
-    go : (x : Out (List Slot) (List ℕ)) → w ≡ (Refused (said_of n z) (told_of n) & x) → Says (refused n z) Q (wrote_then₂ w g stops₂)
+    go : (x : Out (List Slot) (List ℕ)) → w ≡ (Err (record { refusal = said_of n z; told = told_of n }) & x) → Says (refused n z) Q (wrote_then₂ w g stops₂)
     go (e & o) q = (e & o, rw q)
 says_then₂ (ok a) f P Q w g h k = k a refl h
 
 -- what was done is done so
-pub says_map : {A B X : Type 0} (r : Result A) (f : A → B) (P : A → Out Walked X → Type 0) (Q : B → Out Walked X → Type 0) (w : Out Walked X) → Says r P w → ((a : A) → P a w → Q (f a) w) → Says (r >>= λ a. ok (f a)) Q w
+pub says_map : {A B X : Type 0} (r : Result A) (f : A → B) (P : A → Out (CodeResult WriteState Refused) X → Type 0) (Q : B → Out (CodeResult WriteState Refused) X → Type 0) (w : Out (CodeResult WriteState Refused) X) → Says r P w → ((a : A) → P a w → Q (f a) w) → Says (r >>= λ a. ok (f a)) Q w
 unfolding ◌>>=◌
 says_map (refused n z) f P Q w h k = h
 says_map (ok a) f P Q w h k = k a h
@@ -69,10 +68,10 @@ number_is es space (Num n) z = refl
 number_is es space (Id name) z = Entries.number_is es space name z
 
 -- what a search in a space says where an index may have to stand before a field: late, or found, or nothing
-abbrev pub sought_as : (space : ℕ) (late : Bool) → Option ℕ → Sought
-sought_as space true o = Late
-sought_as space false none = NotSought space
-sought_as space false (some n) = SoughtAt n
+abbrev pub sought_as : (space : ℕ) (late : Bool) → Option ℕ → CodeResult ℕ Missing
+sought_as space true o = Err Late
+sought_as space false none = Err (NotSought space)
+sought_as space false (some n) = Ok n
 
 -- whether an index names what is declared, but not before the field
 abbrev pub late_at : (early : Bool) (decls before : List Declaration) (space : ℕ) → Index → Bool
@@ -85,17 +84,17 @@ module _ (names : List Slot) (scope : List ℕ) (far : ℕ) (early : Bool) (env 
   unfolding sought_t numbered
   sought name (absent asked) same low = go early
     where
-      go : (b : Bool) → NotSought asked ≡ sought_as space (b && false) none
-      go true = ap NotSought same
-      go false = ap NotSought same
+      go : (b : Bool) → Err (NotSought asked) ≡ sought_as space (b && false) none
+      go true = ap Err (NotSought same)
+      go false = ap Err (NotSought same)
   sought name (found n row) same low = go early come low
     where
-      last : (b : Bool) → pick b Late (SoughtAt n) ≡ sought_as space b (some n)
+      last : (b : Bool) → pick b (Err Late) (Ok n) ≡ sought_as space b (some n)
       last true = unfold pick in refl
       last false = unfold pick in refl
 
       go : (b : Bool) → (b ≡ true → Come names scope far before) → (b ≡ true → name ≤ top_name)
-          → pick b (pick (late_in names (first_of scope) far (past_of scope) space name) Late (SoughtAt n)) (SoughtAt n) ≡ sought_as space (b && (true && not (is_just (find before space name)))) (some n)
+          → pick b (pick (late_in names (first_of scope) far (past_of scope) space name) (Err Late) (Ok n)) (Ok n) ≡ sought_as space (b && (true && not (is_just (find before space name)))) (some n)
       go false c l = unfold pick in refl
       go true c l = unfold pick in (rw (late_is names (first_of scope) far (past_of scope) before space name (c refl).within (c refl).knows (l refl)) (last (not (is_just (find before space name)))))
 
@@ -107,6 +106,6 @@ module _ (names : List Slot) (scope : List ℕ) (far : ℕ) (early : Bool) (env 
       (sought name (look_up env.entries space name) (look_space env.entries space name) (λ t. (low t).1))
 
 -- what is asked of a result, in other words
-pub says_also : {A X : Type 0} (r : Result A) (P Q : A → Out Walked X → Type 0) (w : Out Walked X) → Says r P w → ((a : A) → P a w → Q a w) → Says r Q w
+pub says_also : {A X : Type 0} (r : Result A) (P Q : A → Out (CodeResult WriteState Refused) X → Type 0) (w : Out (CodeResult WriteState Refused) X) → Says r P w → ((a : A) → P a w → Q a w) → Says r Q w
 says_also (refused n z) P Q w h k = h
 says_also (ok a) P Q w h k = k a h

@@ -1,5 +1,5 @@
 -- What is inserted before a field for all its operands: the code writes what the rules make of them.
-use Rattle.std.specs.Prelude.{◌≡◌, true, get_or}
+use Rattle.std.specs.Prelude.{◌≡◌, true, get_or, Ok, Err}
 use Rattle.std.proofs.Math.Path.{refl, sym}
 use Rattle.std.proofs.Common.{ap, ◌∙◌}
 use Rattle.std.proofs.Math.Option.{Option, none, some}
@@ -21,7 +21,6 @@ use Rattle.names.specs.Stands.{Opens}
 use Rattle.plan.specs.Views.{if_ref}
 use Rattle.plan.specs.Enter.{row_number}
 use Rattle.write.specs.declared.alias.WriteState.{WriteState}
-use Rattle.write.specs.declared.alias.Walked.TheVariants.{Done, Refused}
 use Rattle.write.specs.WriteState.{Wrote, wrote_then, stops}
 use Rattle.write.specs.Alias.{write_alias_t, write_aliases_t}
 use Rattle.agree.specs.Rows.At.{At, put_all}
@@ -92,8 +91,8 @@ export_skips (some n) = (tt, tt)
 -- on with the same
 wrote_same : (w : Wrote) (f g : WriteState → List ℕ → Wrote) → ((t : WriteState) (out : List ℕ) → f t out ≡ g t out) → wrote_then w f stops ≡ wrote_then w g stops
 unfolding wrote_then
-wrote_same (Done t & out) f g h = h t out
-wrote_same (Refused n z & out) f g h = refl
+wrote_same (Ok t & out) f g h = h t out
+wrote_same (Err (record { refusal = n; told = z }) & out) f g h = refl
 
 -- what is inserted for two lists of fields
 pub inserted_append : (env : Env) (outside : Outside) (xs ys : List Head) → resolve_inserted env outside (xs ++ ys) ≡ (resolve_inserted env outside xs >>= λ xs'. resolve_inserted env outside ys >>= λ ys'. ok (xs' ++ ys'))
@@ -162,7 +161,7 @@ module _ (env : Env) (outside : Outside) (here₀ : List Declaration) (field : L
       let e : i + 1 + length xs ≡ i + suc (length xs) = omega arith in
       rw (at.0.reads, ← e) (skip_one x _ _ _ a.0 ∙ aliases_skip xs ys (i + 1) row out s a.1 at.1)
 
-  aliases_end : (tail : List Row) (i row : ℕ) (out : List ℕ) (s : WriteState) → Stops tail → At field i tail → write_aliases_t field names here out s row i (length tail) ≡ (Done s & out)
+  aliases_end : (tail : List Row) (i row : ℕ) (out : List ℕ) (s : WriteState) → Stops tail → At field i tail → write_aliases_t field names here out s row i (length tail) ≡ (Ok s & out)
   unfolding write_aliases_t At if_ref taken
   aliases_end [] i row out s st at = refl
   aliases_end (r ∷ tail) i row out s st at = rw (at.0.reads, st.2)
@@ -170,8 +169,8 @@ module _ (env : Env) (outside : Outside) (here₀ : List Declaration) (field : L
   -- what the code does at an operand
   abbrev alias_of : (i row : ℕ) (out : List ℕ) → WriteState → Operand → Wrote
   alias_of i row out s (ref space at paths z) = write_alias_t field (i + 1) names here out s (refer_to space at paths z row)
-  alias_of i row out s (outer space up at z) = Done s & out
-  alias_of i row out s (case name z) = Done s & out
+  alias_of i row out s (outer space up at z) = Ok s & out
+  alias_of i row out s (case name z) = Ok s & out
 
   aliases_turn : (o : Operand) (more : List Row) (i row row' : ℕ) (out : List ℕ) (s : WriteState) → row_number row i ≡ row' → At field i (operand_row o ++ more)
       → write_aliases_t field names here out s row i (length (operand_row o ++ more))

@@ -1,5 +1,5 @@
 -- A CASE: the code enters the names of a field's CASEs in the table of entered names, the rules keep them in a list.
-use Rattle.std.specs.Prelude.{◌≡◌, Bool, true, ◌&&◌, ◌||◌, not, List, [], ◌∷◌, ◌++◌, ℕ, ◌+◌, ◌<◌, eqb, length, set}
+use Rattle.std.specs.Prelude.{◌≡◌, Bool, true, ◌&&◌, ◌||◌, not, List, [], ◌∷◌, ◌++◌, ℕ, ◌+◌, ◌<◌, eqb, length, set, Option, Some, None, Ok, Err}
 use Rattle.std.proofs.Math.Path.{refl}
 use Rattle.std.proofs.Common.{sym, ◌∙◌, arith, eq-eqb, ne_eqb, eqb-true}
 use Rattle.std.proofs.Math.Bool.{false}
@@ -12,12 +12,9 @@ use Rattle.rules.specs.Tree.{Operand, case, operand_row}
 use Rattle.rules.specs.Rules.{number_of, carried_by, case_twice, refused, ok}
 use Rattle.refusal.specs.Refusals.{refusal_at, untold}
 use Rattle.names.specs.Table.{Slot, decl_slot, space_of, name_of, between, find_in}
-use Rattle.names.specs.declared.Found.{Found}
-use Rattle.names.specs.declared.Found.TheVariants.{At, Nothing}
 use Rattle.names.proofs.Storey.{pushed_room, between_push}
 use Rattle.plan.specs.Enter.{is_found, first_t, twice_t, push_then}
 use Rattle.write.specs.declared.alias.WriteState.{WriteState}
-use Rattle.write.specs.declared.alias.Walked.TheVariants.{Done, Refused}
 use Rattle.write.specs.WriteState.{case_seen_t, put_then}
 use Rattle.write.specs.Own.{Wrote₂, write_case_t}
 use Rattle.agree.specs.Rows.At.{Is, put_all}
@@ -32,8 +29,8 @@ pub no_cases : (entered : List Slot) → Cases entered 0 []
 unfolding between find_in
 no_cases entered name = refl
 
-found_step : (t u : Bool) (n : ℕ) (a b : Found) (c : Bool) → is_found b ≡ c || is_found a
-    → is_found (pick t (pick u (At n) b) b) ≡ c || is_found (pick t (pick u (At n) a) a)
+found_step : (t u : Bool) (n : ℕ) (a b : Option ℕ) (c : Bool) → is_found b ≡ c || is_found a
+    → is_found (pick t (pick u (Some n) b) b) ≡ c || is_found (pick t (pick u (Some n) a) a)
 unfolding pick
 found_step true true n a b true e = refl
 found_step true true n a b false e = refl
@@ -44,7 +41,7 @@ found_last : (ss : List Slot) (new name : ℕ) → is_found (find_in (ss ++ (dec
 unfolding find_in pick
 found_last [] new name = go (eqb new name)
   where
-    go : (t : Bool) → is_found (pick t (At 0) Nothing) ≡ t || false
+    go : (t : Bool) → is_found (pick t (Some 0) None) ≡ t || false
     go true = unfold pick in refl
     go false = unfold pick in refl
 found_last (s ∷ ss) new name = found_step (eqb (space_of s) 13) (eqb (name_of s) name) _ (find_in ss 13 name) (find_in (ss ++ (decl_slot 13 new 0 ∷ [])) 13 name) (eqb new name) (found_last ss new name)
@@ -61,19 +58,19 @@ more_cases : (entered : List Slot) (n : ℕ) (seen : List ℕ) (new : ℕ) → n
 more_cases entered n seen new h c name =
     rw (between_push entered n (decl_slot 13 new 0) 0 (omega arith) h) (found_last (between 0 n entered) new name ∙ (rw (c name, eqb_swap new name)))
 
-choose : (t : Bool) (F : Found) → is_found (pick t Nothing F) ≡ not t && is_found F
+choose : (t : Bool) (F : Option ℕ) → is_found (pick t None F) ≡ not t && is_found F
 unfolding pick
 choose true F = refl
 choose false F = refl
 
-case_turn : (t : Bool) (name z : ℕ) (P : Operand → Wrote₂ → Type 0) (entered : List Slot) (out : List ℕ) (w : Wrote₂) → P (case name z) w → Says (when t then refused case_twice z else ok (case name z)) P (pick t (Refused (refusal_at 12 z) untold & entered & out) w)
+case_turn : (t : Bool) (name z : ℕ) (P : Operand → Wrote₂ → Type 0) (entered : List Slot) (out : List ℕ) (w : Wrote₂) → P (case name z) w → Says (when t then refused case_twice z else ok (case name z)) P (pick t (Err (record { refusal = refusal_at 12 z; told = untold }) & entered & out) w)
 unfolding when◌then◌else◌ pick number_of carried_by
 case_turn true name z P entered out w h = (entered & out, refl)
 case_turn false name z P entered out w h = h
 
 -- the code passes a CASE as the rules do, or refuses with the same
 pub case_agrees : (field : List ℕ) (i : ℕ) (entered : List Slot) (out : List ℕ) (s : WriteState) (seen : List ℕ) (name z : ℕ) → Is field i (Case name z) → s.seen < length entered → Cases entered s.seen seen
-    → Says (when not (eqb name 0) && is_in name seen then refused case_twice z else ok (case name z)) (λ x w. w ≡ put_then (put_all out s.to (operand_row x)) λ to out'. Done (case_seen_t s to (s.seen + 1)) & set entered s.seen (decl_slot 13 name 0) & out') (write_case_t field i entered out s name z)
+    → Says (when not (eqb name 0) && is_in name seen then refused case_twice z else ok (case name z)) (λ x w. w ≡ put_then (put_all out s.to (operand_row x)) λ to out'. Ok (case_seen_t s to (s.seen + 1)) & set entered s.seen (decl_slot 13 name 0) & out') (write_case_t field i entered out s name z)
     × Cases (set entered s.seen (decl_slot 13 name 0)) (s.seen + 1) (name ∷ seen)
 unfolding write_case_t twice_t first_t operand_row push_then
 case_agrees field i entered out s seen name z is h c = (

@@ -1,5 +1,5 @@
 -- A field up to the scope that it may open: what is inserted before it, and its own rows.
-use Rattle.std.specs.Prelude.{◌≡◌, Bool, ℕ, zero, suc, ◌+◌, ◌-◌, ◌/◌, ◌≤◌, ◌<◌, get_or}
+use Rattle.std.specs.Prelude.{◌≡◌, Bool, ℕ, zero, suc, ◌+◌, ◌-◌, ◌/◌, ◌≤◌, ◌<◌, get_or, Ok, Err}
 use Rattle.std.proofs.Math.Path.{refl}
 use Rattle.std.proofs.Common.{sym, ap, ◌∙◌, add-zero, length-append, ne_eqb, ltb-true}
 use Rattle.std.proofs.Math.Bool.{true, false}
@@ -22,7 +22,6 @@ use Rattle.names.specs.Stands.{Opens, Envs}
 use Rattle.plan.specs.Views.{field_code}
 use Rattle.plan.specs.Insertions.{field_code_t}
 use Rattle.write.specs.declared.alias.WriteState.{WriteState}
-use Rattle.write.specs.declared.alias.Walked.TheVariants.{Done, Refused}
 use Rattle.write.specs.WriteState.{unseen_t, Wrote, wrote_then}
 use Rattle.write.specs.Alias.{slot_at}
 use Rattle.write.specs.Own.{Wrote₂}
@@ -48,7 +47,7 @@ pub record FitHead (h : Head) : Type 0 where
 
 -- a step, and then one that has the table of entered names too
 says_into : {A B : Type 0} (r : Result A) (f : A → Result B) (P : A → Wrote → Type 0) (Q : B → Wrote₂ → Type 0) (w : Wrote) (g : WriteState → List ℕ → Wrote₂) (entered : List Slot)
-    → Says r P w → ((a : A) → r ≡ ok a → P a w → Says (f a) Q (wrote_then w g λ n z out. Refused n z & entered & out)) → Says (r >>= f) Q (wrote_then w g λ n z out. Refused n z & entered & out)
+    → Says r P w → ((a : A) → r ≡ ok a → P a w → Says (f a) Q (wrote_then w g λ n z out. Err (record { refusal = n; told = z }) & entered & out)) → Says (r >>= f) Q (wrote_then w g λ n z out. Err (record { refusal = n; told = z }) & entered & out)
 unfolding ◌>>=◌ wrote_then
 says_into (refused n z) f P Q w g entered h k = (entered & h.0, rw h.1)
 says_into (ok a) f P Q w g entered h k = k a refl h
@@ -74,7 +73,7 @@ none_inserted [] e = refl
 none_inserted (h ∷ hs) e = absurd (omega arith)
 
 -- nothing written, and no slot passed
-nothing_done : (s : WriteState) (out : List ℕ) (w : Wrote) → Inserted s out 0 [] w → w ≡ (Done s & out)
+nothing_done : (s : WriteState) (out : List ℕ) (w : Wrote) → Inserted s out 0 [] w → w ≡ (Ok s & out)
 unfolding heads_rows put_all
 nothing_done s out w I =
     let e = I.wrote in
@@ -141,9 +140,9 @@ module _ (env : Env) (outside : Outside) (here₀ : List Declaration) (h : Head)
       rw r.reads
 
   -- nothing is inserted before a field whose operands are here_only_lem
-  here_none : (s : WriteState) (out : List ℕ) → here_only h.code ≡ true → write_fresh_t field names (innermost_t scopes s.depth) out s ≡ (Done s & out)
+  here_none : (s : WriteState) (out : List ℕ) → here_only h.code ≡ true → write_fresh_t field names (innermost_t scopes s.depth) out s ≡ (Ok s & out)
   unfolding write_fresh_t write_inserted_t pick
-  here_none s out q = rw (code_of_lem, q) (pick_same (ltb (name_of (slot_at names s.next)) 2147483648) (Done s & out) (Done s & out) (λ e. refl))
+  here_none s out q = rw (code_of_lem, q) (pick_same (ltb (name_of (slot_at names s.next)) 2147483648) (Ok s & out) (Ok s & out) (λ e. refl))
 
   here_agrees : (s : WriteState) (entered : List Slot) (out : List ℕ) (k : ℕ) (before : List Declaration) (dr : ℕ) (rest : List Slot)
       → here_only h.code ≡ true → Left names (past_of (innermost_t scopes s.depth)) s.next (decl_slots before (s.at + 1) h.decls ++ rest)
@@ -202,9 +201,9 @@ module _ (env : Env) (outside : Outside) (here₀ : List Declaration) (h : Head)
       let row = s.at + 1 + length h.decls in
       let none : name_of (slot_at names s.next) < 2147483648 → E.inserted ≡ [] =
       λ g. none_inserted E.inserted (sym (slots_inserted here₀ outside h.operands before k row E x) ∙ first_fresh names (past_of here) s.next (operands_slots here₀ outside before k row h.operands) rest l (operands_fresh here₀ outside before k row h.operands) g) in
-      let short : ltb (name_of (slot_at names s.next)) 2147483648 ≡ true → write_inserted_t field names here out s ≡ (Done s & out) =
+      let short : ltb (name_of (slot_at names s.next)) 2147483648 ≡ true → write_inserted_t field names here out s ≡ (Ok s & out) =
       λ t. nothing_done s out (write_inserted_t field names here out s) (rw (none (ltb-true _ _ t)) at I) in
-      rw (pick_same (ltb (name_of (slot_at names s.next)) 2147483648) (Done s & out) (write_inserted_t field names here out s) short) I
+      rw (pick_same (ltb (name_of (slot_at names s.next)) 2147483648) (Ok s & out) (write_inserted_t field names here out s) short) I
 
   expand_agrees : (s : WriteState) (entered : List Slot) (out : List ℕ) (k : ℕ) (before after : List Declaration) (rest : List Slot) (E : Expanded (List Operand))
       → here_only h.code ≡ false → expand_operands here₀ outside k h.operands ≡ ok E

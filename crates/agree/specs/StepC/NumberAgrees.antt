@@ -1,5 +1,5 @@
 -- The number of a reference: the code takes it from the reference's own slots, or finds its name in the scope; the rules find it by the name that step B gave it.
-use Rattle.std.specs.Prelude.{◌≡◌, ◌⊎◌, get_or}
+use Rattle.std.specs.Prelude.{◌≡◌, ◌⊎◌, get_or, Result, Ok, Err}
 use Rattle.std.proofs.Math.Path.{refl, sym, ap}
 use Rattle.std.proofs.Common.{◌∙◌, inl, inr, length-append, lt-ltb}
 use Rattle.std.proofs.Math.Option.{Option, none, some}
@@ -21,8 +21,6 @@ use Rattle.rows.specs.RowAt.{as_index}
 use Rattle.names.specs.Table.{Slot, number_of, past_of, slots_in}
 use Rattle.names.specs.Stands.{lookup_of, Opens}
 use Rattle.names.proofs.Storey.{look_opens}
-use Rattle.write.specs.declared.own.Numbered.{Numbered}
-use Rattle.write.specs.declared.own.Numbered.TheVariants.{Is, Unknown}
 use Rattle.write.specs.WriteState.{following_t}
 use Rattle.write.specs.Alias.{slot_at}
 use Rattle.write.specs.Own.{ahead_t, looked_t, name_number_t, at_number_t, ref_number_t}
@@ -33,11 +31,13 @@ use Rattle.agree.specs.Refusals.Answers.{index_in}
 use Rattle.agree.specs.StepC.ChainAgrees.{new_decl, under_new, path_last, path_more}
 use Rattle.agree.specs.StepC.RefAgrees.{refer_to, number_made, name_made, path_made}
 use Rattle.agree.specs.StepC.AliasAgrees.{FitOperand, FitOperands, heads_append, operands_made, grown_under}
+use Rattle.names.specs.declared.Absent.{Absent}
+use Rattle.write.specs.declared.own.Numbered.{Numbered}
 
 -- a number that was found in a space, and the next slot
-abbrev pub answered : (space : ℕ) → Option ℕ → (alias : ℕ) → Numbered
-answered space none alias = Unknown space
-answered space (some n) alias = Is n alias
+abbrev pub answered : (space : ℕ) → Option ℕ → (alias : ℕ) → Result Numbered Absent
+answered space none alias = Err (record { space = space })
+answered space (some n) alias = Ok (record { number = n; alias = alias })
 
 module _ (ds : List Declaration) (names : List Slot) (here : List ℕ) where
   -- step B made `now` of a reference, whose own slots are those between the two lists
@@ -86,7 +86,7 @@ module _ (env : Env) (names : List Slot) (here : List ℕ) (opens : Opens names 
 
   looked_is : (l : Lookup) (alias : ℕ) → OfSpace space l → looked_t (lookup_of l) alias ≡ answered space (numbered l) alias
   unfolding looked_t numbered
-  looked_is (absent asked) alias same = ap Unknown same
+  looked_is (absent asked) alias same = ap Err (record { space = same })
   looked_is (found n row) alias same = refl
 
   -- a name that is looked up in the scope

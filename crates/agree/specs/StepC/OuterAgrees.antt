@@ -1,5 +1,5 @@
 -- An OUTER: the code finds the scope and the number that the rules find, and refuses with the same.
-use Rattle.std.specs.Prelude.{◌≡◌, Bool, ◌⊎◌, List, [], ◌∷◌, ℕ, suc, ◌+◌, ◌-◌, ◌%◌, ◌≤◌, ◌<◌, eqb, length}
+use Rattle.std.specs.Prelude.{◌≡◌, Bool, ◌⊎◌, List, [], ◌∷◌, ℕ, suc, ◌+◌, ◌-◌, ◌%◌, ◌≤◌, ◌<◌, eqb, length, Result as CodeResult, Ok, Err}
 use Rattle.std.proofs.Math.Path.{refl}
 use Rattle.std.proofs.Math.Bool.{true, false}
 use Rattle.std.proofs.Common.{inl, inr}
@@ -22,10 +22,7 @@ use Rattle.names.specs.Stands.{named_of, Envs}
 use Rattle.names.proofs.Storey.{envs_length, scope_named_lem, scope_nth, scope_past}
 use Rattle.late.specs.Late.{before_around}
 use Rattle.write.specs.declared.alias.WriteState.{WriteState}
-use Rattle.write.specs.declared.alias.Walked.TheVariants.{Done}
 use Rattle.write.specs.declared.own.Outer.{Outer as OuterRow}
-use Rattle.write.specs.declared.own.Outward.{Outward}
-use Rattle.write.specs.declared.own.Outward.TheVariants.{Is as OuterIs, Refused as OuterRefused}
 use Rattle.write.specs.WriteState.{written_t, put_then}
 use Rattle.write.specs.Own.{write_index_t, index_out_t, scope_out_t, outer_numbers_t, outward_t, write_outer_t}
 use Rattle.agree.specs.Refusals.Carried.{said_of, told_of}
@@ -33,11 +30,13 @@ use Rattle.agree.specs.Rows.At.{put_all}
 use Rattle.agree.specs.StepC.WriteAgrees.{put_one_lem}
 use Rattle.agree.specs.Tables.Earlier.{earlier_nth, Timed}
 use Rattle.agree.specs.Refusals.Answers.{Says, index_in, number_is, sought_as, late_at, number_in_lem}
+use Rattle.refusal.specs.declared.Refused.{Refused}
+use Rattle.write.specs.declared.own.Outward.{Outward}
 
 -- the same refusal, or the same numbers
-abbrev OutSays : (space z : ℕ) → Result Operand → Outward → Type 0
-OutSays space z (refused n p) w = w ≡ OuterRefused (said_of n p) (told_of n)
-OutSays space z (ok o) w = (d : ℕ) × (n : ℕ) × (w ≡ OuterIs d n) × (o ≡ outer space (Num d) (Num n) z)
+abbrev OutSays : (space z : ℕ) → Result Operand → CodeResult Outward Refused → Type 0
+OutSays space z (refused n p) w = w ≡ Err (record { refusal = said_of n p; told = told_of n })
+OutSays space z (ok o) w = (d : ℕ) × (n : ℕ) × (w ≡ Ok (record { up = d; at = n })) × (o ≡ outer space (Num d) (Num n) z)
 
 below_turn : (t : Bool) (o : Option ℕ) (n d : ℕ) → ((m : ℕ) → o ≡ some m → m < n) → (when t then some 0 else map suc o) ≡ some d → d < suc n
 unfolding when◌then◌else◌
@@ -101,15 +100,15 @@ module _ (names : List Slot) (scopes : List (List ℕ)) (s : WriteState) (early 
   out_numbers (Num d) (Id name) low = index_out (Num d) (Id name) d low
   out_numbers (Id name) at low = rw (scope_named_lem names scopes name s.depth es open-scopes) (scope_turn (Id name) at (named es name) low (named_below es name))
 
-  out_turn : (o : OuterRow) → o.space ≡ space → o.z ≡ z → (out : List ℕ) (r : Result Operand) (w : Outward) → OutSays space z r w
-      → Says r (λ x w. w ≡ put_then (put_all out s.to (operand_row x)) λ to out'. Done (written_t s to) & out') (outward_t w out s o)
+  out_turn : (o : OuterRow) → o.space ≡ space → o.z ≡ z → (out : List ℕ) (r : Result Operand) (w : CodeResult Outward Refused) → OutSays space z r w
+      → Says r (λ x w. w ≡ put_then (put_all out s.to (operand_row x)) λ to out'. Ok (written_t s to) & out') (outward_t w out s o)
   unfolding outward_t operand_row taken as_index
   out_turn o es ez out (refused n p) w h = rw h (out, refl)
   out_turn o es ez out (ok x) w h = rw (h.2, h.3, put_one_lem out s.to (Outer space (Num h.0) (Num h.1) z), es, ez)
 
 -- the code writes the OUTER that the rules make, or refuses with the same
 pub outer_agrees : (names : List Slot) (scopes : List (List ℕ)) (early : Bool) (es : List Env) (fz space : ℕ) (up at : Index) (z : ℕ) (out : List ℕ) (s : WriteState) → Timed early s.early names scopes s.before s.depth es → (s.early ≡ true → LegalIndex top_name at) → Envs names scopes s.depth es → s.depth < 4294967296
-    → Says (resolve_outer early es fz space up at z) (λ x w. w ≡ put_then (put_all out s.to (operand_row x)) λ to out'. Done (written_t s to) & out') (write_outer_t names scopes out s (outer_row space up at z fz))
+    → Says (resolve_outer early es fz space up at z) (λ x w. w ≡ put_then (put_all out s.to (operand_row x)) λ to out'. Ok (written_t s to) & out') (write_outer_t names scopes out s (outer_row space up at z fz))
 unfolding write_outer_t
 outer_agrees names scopes early es fz space up at z out s timed low en few =
     out_turn names scopes s early es timed en few fz space z (outer_row space up at z fz) refl refl out (resolve_outer early es fz space up at z) _ (out_numbers names scopes s early es timed en few fz space z up at low)

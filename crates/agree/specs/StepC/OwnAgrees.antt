@@ -1,5 +1,5 @@
 -- A field's own rows: the code writes what the rules make of the field.
-use Rattle.std.specs.Prelude.{◌≡◌, Bool, ◌&&◌, not, eqb, get_or}
+use Rattle.std.specs.Prelude.{◌≡◌, Bool, ◌&&◌, not, eqb, get_or, Ok, Err}
 use Rattle.std.proofs.Math.Path.{refl, sym}
 use Rattle.std.proofs.Common.{◌∙◌, length-set}
 use Rattle.std.proofs.Math.Bool.{true, false}
@@ -22,7 +22,6 @@ use Rattle.names.specs.Table.{Slot, decl_slot, past_of, innermost_t}
 use Rattle.names.specs.Stands.{Envs}
 use Rattle.plan.specs.Enter.{row_number}
 use Rattle.write.specs.declared.alias.WriteState.{WriteState}
-use Rattle.write.specs.declared.alias.Walked.TheVariants.{Done, Refused}
 use Rattle.write.specs.WriteState.{written_t, arrived_t, put_then}
 use Rattle.write.specs.Own.{Wrote₂, wrote_then₂, stops₂, write_numbered_t, write_ref_t, write_outer_t, write_case_t, write_decl_t, copy_t, place_of, with_t, done_with_t, write_row_t, own_t}
 use Rattle.agree.specs.Rows.At.{Is, At, put_all}
@@ -80,7 +79,7 @@ pub record Owned (s : WriteState) (entered : List Slot) (out : List ℕ) (at nex
   pub seen : ℕ
   pub table : List Slot
   pub after : List ℕ
-  pub is : w ≡ (Done (arrived_t (own_on s to next alias seen) at) & table & after)
+  pub is : w ≡ (Ok (arrived_t (own_on s to next alias seen) at) & table & after)
   pub wrote : (to & after) ≡ put_all out s.to rows
   pub size : length table ≡ length entered
 
@@ -98,7 +97,7 @@ module _ (field : List ℕ) (names : List Slot) (scopes : List (List ℕ)) (row 
   own_turn r i left entered out s is h = rw (code_is field i r is, h, is.reads)
 
   -- the rows of the field have ended
-  own_end : (tail : List Row) (i : ℕ) (entered : List Slot) (out : List ℕ) (s : WriteState) → Stops tail → At field i tail → own_t field entered names scopes out s row i (length tail) ≡ (Done (arrived_t s (row_number row i)) & entered & out)
+  own_end : (tail : List Row) (i : ℕ) (entered : List Slot) (out : List ℕ) (s : WriteState) → Stops tail → At field i tail → own_t field entered names scopes out s row i (length tail) ≡ (Ok (arrived_t s (row_number row i)) & entered & out)
   unfolding own_t At pick
   own_end [] i entered out s st at = refl
   own_end (r ∷ tail) i entered out s st at = rw (code_is field i r at.0, st.2)
@@ -120,7 +119,7 @@ module _ (field : List ℕ) (names : List Slot) (scopes : List (List ℕ)) (row 
   own_copy r i left entered out s is h e =
       own_turn r i left entered out s is h ∙ rw (e, row_copied field i r out s.to is, put_one_lem out s.to r) (go (put_row out s.to (taken (some r))))
     where
-      go : (w : Out ℕ (List ℕ)) → wrote_then₂ (with_t entered (put_then w λ to out'. Done (written_t s to) & out')) (λ t entered' out'. own_t field entered' names scopes out' t row (i + 1) left) stops₂
+      go : (w : Out ℕ (List ℕ)) → wrote_then₂ (with_t entered (put_then w λ to out'. Ok (written_t s to) & out')) (λ t entered' out'. own_t field entered' names scopes out' t row (i + 1) left) stops₂
           ≡ put_then w λ to out'. own_t field entered names scopes out' (written_t s to) row (i + 1) left
       go (to & out') = unfold put_then with_t wrote_then₂ in refl
 
@@ -160,8 +159,8 @@ module _ (env : Env) (outside : Outside) (fz : ℕ) (field : List ℕ) (names : 
 
   own_same : (w : Wrote₂) (f g : WriteState → List Slot → List ℕ → Wrote₂) → ((t : WriteState) (e : List Slot) (o : List ℕ) → f t e o ≡ g t e o) → wrote_then₂ w f stops₂ ≡ wrote_then₂ w g stops₂
   unfolding wrote_then₂
-  own_same (Done t & e & o) f g h = h t e o
-  own_same (Refused n z & e & o) f g h = refl
+  own_same (Ok t & e & o) f g h = h t e o
+  own_same (Err (record { refusal = n; told = z }) & e & o) f g h = refl
 
   operand_turn : (o : Operand) (more : List Row) (row i row' : ℕ) (entered : List Slot) (out : List ℕ) (s : WriteState) → place_of (row_at field 0) ≡ fz → row_number s.at i ≡ row' → At field i (operand_row o ++ more)
       → own_t field entered names scopes out s row i (length (operand_row o ++ more))
@@ -176,18 +175,18 @@ module _ (env : Env) (outside : Outside) (fz : ℕ) (field : List ℕ) (names : 
 
   -- the same refusal, or the operand's row written
   abbrev OneSays : (s : WriteState) (entered : List Slot) (out : List ℕ) (alias seen : ℕ) → Result Operand → Wrote₂ → Type 0
-  OneSays s entered out alias seen r w = Says r (λ x w. w ≡ put_then (put_all out s.to (operand_row x)) λ to out'. Done (own_on s to s.next alias seen) & entered & out') w
+  OneSays s entered out alias seen r w = Says r (λ x w. w ≡ put_then (put_all out s.to (operand_row x)) λ to out'. Ok (own_on s to s.next alias seen) & entered & out') w
 
-  with_says : (s : WriteState) (entered : List Slot) (out : List ℕ) (alias seen : ℕ) (r : Result Operand) (w : Rattle.write.specs.WriteState.Wrote) → Says r (λ x w. w ≡ put_then (put_all out s.to (operand_row x)) λ to out'. Done (own_on s to s.next alias seen) & out') w → OneSays s entered out alias seen r (with_t entered w)
+  with_says : (s : WriteState) (entered : List Slot) (out : List ℕ) (alias seen : ℕ) (r : Result Operand) (w : Rattle.write.specs.WriteState.Wrote) → Says r (λ x w. w ≡ put_then (put_all out s.to (operand_row x)) λ to out'. Ok (own_on s to s.next alias seen) & out') w → OneSays s entered out alias seen r (with_t entered w)
   unfolding with_t
   with_says s entered out alias seen (refused n z) w h = (entered & h.0, rw h.1)
   with_says s entered out alias seen (ok x) w h = rw h (go (put_all out s.to (operand_row x)))
     where
-      go : (v : Out ℕ (List ℕ)) → with_t entered (put_then v λ to out'. Done (own_on s to s.next alias seen) & out') ≡ put_then v λ to out'. Done (own_on s to s.next alias seen) & entered & out'
+      go : (v : Out ℕ (List ℕ)) → with_t entered (put_then v λ to out'. Ok (own_on s to s.next alias seen) & out') ≡ put_then v λ to out'. Ok (own_on s to s.next alias seen) & entered & out'
       go (to & out') = unfold put_then with_t in refl
 
   ref_turn : (space z row : ℕ) (at : Index) (paths : List ℕ) (out : List ℕ) (s : WriteState) (alias : ℕ) (o : Option ℕ) → space < 256
-      → Says (or_refused o (unknown space) z >>= λ n. ok (ref space (Num n) [] z)) (λ x w. w ≡ put_then (put_all out s.to (operand_row x)) λ to out'. Done (own_on s to s.next alias s.seen) & out') (write_numbered_t (answered space o alias) out s (refer_to space at paths z row))
+      → Says (or_refused o (unknown space) z >>= λ n. ok (ref space (Num n) [] z)) (λ x w. w ≡ put_then (put_all out s.to (operand_row x)) λ to out'. Ok (own_on s to s.next alias s.seen) & out') (write_numbered_t (answered space o alias) out s (refer_to space at paths z row))
   unfolding or_refused ◌>>=◌ number_of carried_by write_numbered_t operand_row path_rows taken as_index
   ref_turn space z row at paths out s alias none l = (out, refl)
   ref_turn space z row at paths out s alias (some n) l =
@@ -283,7 +282,7 @@ module _ (env : Env) (outside : Outside) (fz : ℕ) (field : List ℕ) (names : 
     where
       go : (y : Operand) (w : Out ℕ (List ℕ)) → put_all out s.to (operand_row y) ≡ w
           → Says (resolve_operands env outside fz (seen_after env outside fz seen now) nows >>= λ xs. ok (y ∷ xs)) (λ xs w. Owned s entered out at s.next (operand_rows xs ++ export_rows x) w)
-          (wrote_then₂ (put_then w λ to out'. Done (own_on s to s.next one.alias one.count) & one.table & out') (λ t entered' out'. own_t field entered' names scopes out' t s.at (i + length (operand_row o)) (length more)) stops₂)
+          (wrote_then₂ (put_then w λ to out'. Ok (own_on s to s.next one.alias one.count) & one.table & out') (λ t entered' out'. own_t field entered' names scopes out' t s.at (i + length (operand_row o)) (length more)) stops₂)
       go y (to & out') q =
           unfold put_then wrote_then₂ operand_rows in says_map (resolve_operands env outside fz (seen_after env outside fz seen now) nows) (λ xs. y ∷ xs) _ _ _ (ih to out') (λ xs O. rw (append_assoc (operand_row y) (operand_rows xs) (export_rows x))
           (owned_more s entered one.table out out' at s.next to s.next one.alias one.count (operand_row y) (operand_rows xs ++ export_rows x) _ (sym q) one.size O))

@@ -1,5 +1,5 @@
 -- What is inserted before a field for one reference: the code writes what the rules make of it.
-use Rattle.std.specs.Prelude.{◌≡◌, Bool, ◌&&◌, ◌⊎◌, leb, get_or}
+use Rattle.std.specs.Prelude.{◌≡◌, Bool, ◌&&◌, ◌⊎◌, leb, get_or, Ok}
 use Rattle.std.proofs.Math.Path.{refl, sym, ap}
 use Rattle.std.proofs.Common.{◌∙◌, arith, add-zero, le-leb, lt-ltb}
 use Rattle.std.proofs.Math.Bool.{true, false}
@@ -24,7 +24,6 @@ use Rattle.names.specs.Table.{Slot, slot_of, past_of}
 use Rattle.names.specs.Stands.{count, Opens}
 use Rattle.plan.specs.declared.insertions.Reference.{Reference}
 use Rattle.write.specs.declared.alias.WriteState.{WriteState}
-use Rattle.write.specs.declared.alias.Walked.TheVariants.{Done}
 use Rattle.write.specs.WriteState.{Wrote, put_then}
 use Rattle.write.specs.Alias.{instances_of, write_done_t, chain_or_t, name_alias_t, write_alias_t}
 use Rattle.agree.specs.Rows.At.{At, put_all}
@@ -78,10 +77,10 @@ module _ (here : List Declaration) (outside : Outside) (space z k : ℕ) (e : Ex
 pub record Inserted (s : WriteState) (out : List ℕ) (n : ℕ) (hs : List Head) (w : Wrote) : Type 0 where
   pub to : ℕ
   pub after : List ℕ
-  pub is : w ≡ (Done (moved_on s to (s.next + n)) & after)
+  pub is : w ≡ (Ok (moved_on s to (s.next + n)) & after)
   pub wrote : (to & after) ≡ put_all out s.to (heads_rows hs)
 
-pub inserted_none : (s : WriteState) (out : List ℕ) → Inserted s out 0 [] (Done s & out)
+pub inserted_none : (s : WriteState) (out : List ℕ) → Inserted s out 0 [] (Ok s & out)
 unfolding heads_rows put_all
 inserted_none s out = record { to = s.to; after = out; is = rw add-zero; wrote = refl }
 
@@ -115,12 +114,12 @@ abbrev pub refer_to : (space : ℕ) (at : Index) (paths : List ℕ) (z row : ℕ
 refer_to space at paths z row = record { space = space; at = as_index at; paths = length paths; z = z; row = row }
 
 module _ (env : Env) (outside : Outside) (field : List ℕ) (names : List Slot) (here : List ℕ) (opens : Opens names here env) where
-  number_alias : (space n z i row : ℕ) (out : List ℕ) (s : WriteState) → write_alias_t field i names here out s (refer_to space (Num n) [] z row) ≡ (Done s & out)
+  number_alias : (space n z i row : ℕ) (out : List ℕ) (s : WriteState) → write_alias_t field i names here out s (refer_to space (Num n) [] z row) ≡ (Ok s & out)
   unfolding write_alias_t pick name_alias_t as_index
   number_alias space n z i row out s = refl
 
   kept_alias : (space name z i row : ℕ) (out : List ℕ) (s : WriteState) (rest : List Slot) → Left names (past_of here) s.next rest → Apart row rest
-      → write_alias_t field i names here out s (refer_to space (Id name) [] z row) ≡ (Done s & out)
+      → write_alias_t field i names here out s (refer_to space (Id name) [] z row) ≡ (Ok s & out)
   unfolding write_alias_t pick name_alias_t as_index
   kept_alias space name z i row out s rest l a = rw (not_inserted names here s.next row rest l a)
 
@@ -134,7 +133,7 @@ module _ (env : Env) (outside : Outside) (field : List ℕ) (names : List Slot) 
       (go (put_all out s.to (head_rows (outer_alias space (fresh k) d n z))) refl)
     where
       go : (w : Out ℕ (List ℕ)) → put_all out s.to (head_rows (outer_alias space (fresh k) d n z)) ≡ w
-          → Inserted s out 1 (outer_alias space (fresh k) d n z ∷ []) (put_then w λ to out'. Done (moved_on s to (s.next + 1)) & out')
+          → Inserted s out 1 (outer_alias space (fresh k) d n z ∷ []) (put_then w λ to out'. Ok (moved_on s to (s.next + 1)) & out')
       go (to & out') e = unfold put_then heads_rows in record { to = to; after = out'; is = refl; wrote = sym e ∙ rw append-nil }
 
   outer_resolves : (space k d n z : ℕ) → resolve_inserted env outside (outer_alias space (fresh k) d n z ∷ []) ≡ ok (outer_alias space (fresh k) d n z ∷ [])

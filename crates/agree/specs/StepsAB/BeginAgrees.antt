@@ -1,5 +1,5 @@
 -- Steps A and B together: on the rows of a scope, the walk's `begin_scope_t` does what the rules' `prepare` says.
-use Rattle.std.specs.Prelude.{◌≡◌, refl, true, List, [], ◌∷◌, ◌++◌, ℕ, ◌+◌, ◌/◌, ◌≤◌, ◌<◌, length, take}
+use Rattle.std.specs.Prelude.{◌≡◌, refl, true, List, [], ◌∷◌, ◌++◌, ℕ, ◌+◌, ◌/◌, ◌≤◌, ◌<◌, length, take, Result as CodeResult, Ok, Err}
 use Rattle.std.proofs.Common.{arith}
 use Rattle.kit.specs.Out.{Out, ◌&◌}
 use Rattle.rules.specs.Versions.{RuleSet}
@@ -15,10 +15,7 @@ use Rattle.names.specs.Table.{Slot, between}
 use Rattle.names.specs.Stands.{Stands, Envs, Below}
 use Rattle.plan.specs.Enter.{row_number, enter_fields_t}
 use Rattle.plan.specs.Insertions as plan
-use Rattle.plan.specs.declared.enter.Entered.{Entered}
 use Rattle.plan.specs.declared.insertions.PlanState.{PlanState}
-use Rattle.plan.specs.declared.insertions.Planned.{Planned}
-use Rattle.plan.specs.declared.insertions.Planned.TheVariants.{Done, Refused}
 use Rattle.write.specs.declared.alias.WriteState.{WriteState}
 use Rattle.walk.specs.Scopes.{with_tables_t, planned_t, begin_scope_t}
 use Rattle.agree.specs.Refusals.Carried.{said_of, told_of}
@@ -31,20 +28,21 @@ use Rattle.agree.specs.StepsAB.EnterAgrees.{EnteredAs, EnterIs, distinct_ok, ent
 use Rattle.agree.specs.Fit.GoodSpaces.{good_spaces}
 use Rattle.agree.specs.Tables.Earlier.{Timed}
 use Rattle.agree.specs.StepsAB.PlanAgrees.{PlanIs, plan_agrees}
+use Rattle.refusal.specs.declared.Refused.{Refused}
 
-pub record BeginStopped (sizes : Sizes) (first : ℕ) (names₀ : List Slot) (n : Said) (z : Told) (o : Out Planned (Out (List Slot) (List Slot))) : Type 0 where
+pub record BeginStopped (sizes : Sizes) (first : ℕ) (names₀ : List Slot) (n : Said) (z : Told) (o : Out (CodeResult PlanState Refused) (Out (List Slot) (List Slot))) : Type 0 where
   pub entered : List Slot
   pub names : List Slot
-  pub answer : o ≡ (Refused n z & entered & names)
+  pub answer : o ≡ (Err (record { refusal = n; told = z }) & entered & names)
   pub room : length entered ≡ sizes.entered
   pub size : length names ≡ sizes.names
   pub kept : take first names ≡ take first names₀
 
-pub record BeginDone (sizes : Sizes) (first : ℕ) (names₀ slots : List Slot) (ds : List Declaration) (k : ℕ) (o : Out Planned (Out (List Slot) (List Slot))) : Type 0 where
+pub record BeginDone (sizes : Sizes) (first : ℕ) (names₀ slots : List Slot) (ds : List Declaration) (k : ℕ) (o : Out (CodeResult PlanState Refused) (Out (List Slot) (List Slot))) : Type 0 where
   pub plan : PlanState
   pub entered : List Slot
   pub names : List Slot
-  pub answer : o ≡ (Done plan & entered & names)
+  pub answer : o ≡ (Ok plan & entered & names)
   pub used : (plan).used ≡ first + length slots
   pub fresh : (plan).fresh ≡ 2147483648 + k
   pub room : length entered ≡ sizes.entered
@@ -54,12 +52,12 @@ pub record BeginDone (sizes : Sizes) (first : ℕ) (names₀ slots : List Slot) 
   pub stands : Stands [] slots ds
 
 -- what steps A and B come to, where the rules say this: from `first` on the table holds `slots`
-abbrev pub BeginIs : (sizes : Sizes) (first : ℕ) (names₀ slots : List Slot) → Result (Env × ℕ) → Out Planned (Out (List Slot) (List Slot)) → Type 0
+abbrev pub BeginIs : (sizes : Sizes) (first : ℕ) (names₀ slots : List Slot) → Result (Env × ℕ) → Out (CodeResult PlanState Refused) (Out (List Slot) (List Slot)) → Type 0
 BeginIs sizes first names₀ slots (refused n z) o = BeginStopped sizes first names₀ (said_of n z) (told_of n) o
 BeginIs sizes first names₀ slots (ok r) o = BeginDone sizes first names₀ slots (table_of r.0) r.1 o
 
 -- step B, seen beside the table of entered names
-beside_is : (sizes : Sizes) (first : ℕ) (names₀ slots : List Slot) (name : ℕ) (m : Result (List Entry × ℕ)) (entered : List Slot) (o : Out Planned (List Slot)) → length entered ≡ sizes.entered → PlanIs sizes.names first names₀ slots m o → BeginIs sizes first names₀ slots (m >>= λ r. ok (record { name = name; entries = r.0; before = [] }, r.1)) (with_tables_t entered o)
+beside_is : (sizes : Sizes) (first : ℕ) (names₀ slots : List Slot) (name : ℕ) (m : Result (List Entry × ℕ)) (entered : List Slot) (o : Out (CodeResult PlanState Refused) (List Slot)) → length entered ≡ sizes.entered → PlanIs sizes.names first names₀ slots m o → BeginIs sizes first names₀ slots (m >>= λ r. ok (record { name = name; entries = r.0; before = [] }, r.1)) (with_tables_t entered o)
 unfolding ◌>>=◌ with_tables_t
 beside_is sizes first names₀ slots name (refused n z) entered o s p = record { entered = entered; names = p.names; answer = rw p.answer; room = s; size = p.size; kept = p.kept }
 beside_is sizes first names₀ slots name (ok r) entered o s p =
@@ -78,7 +76,7 @@ beside_is sizes first names₀ slots name (ok r) entered o s p =
     }
 
 -- step A, and then step B of what it accepts
-planned_is : (sizes : Sizes) (m : Result (List Declaration)) (o : Out Entered (List Slot)) (f : List Declaration → Result (Env × ℕ)) (rows ends : List ℕ) (names : List Slot) (scopes : List (List ℕ)) (s : WriteState) (slots : List Slot) → length names ≡ sizes.names → EnterIs sizes.entered m o → ((ds : List Declaration) (t : List Slot) → m ≡ ok ds → length t ≡ sizes.entered → EnteredAs (between 0 (length ds) t) ds → BeginIs sizes s.used names slots (f ds) (with_tables_t t (plan.plan_scope_t rows ends t names scopes (record { at = row_number s.at 1; entered = length ds; depth = s.depth; used = s.used; fresh = s.fresh; first = s.used; before = s.before; early = s.early })))) → BeginIs sizes s.used names slots (m >>= f) (planned_t o rows ends names scopes s)
+planned_is : (sizes : Sizes) (m : Result (List Declaration)) (o : Out (CodeResult ℕ Refused) (List Slot)) (f : List Declaration → Result (Env × ℕ)) (rows ends : List ℕ) (names : List Slot) (scopes : List (List ℕ)) (s : WriteState) (slots : List Slot) → length names ≡ sizes.names → EnterIs sizes.entered m o → ((ds : List Declaration) (t : List Slot) → m ≡ ok ds → length t ≡ sizes.entered → EnteredAs (between 0 (length ds) t) ds → BeginIs sizes s.used names slots (f ds) (with_tables_t t (plan.plan_scope_t rows ends t names scopes (record { at = row_number s.at 1; entered = length ds; depth = s.depth; used = s.used; fresh = s.fresh; first = s.used; before = s.before; early = s.early })))) → BeginIs sizes s.used names slots (m >>= f) (planned_t o rows ends names scopes s)
 unfolding ◌>>=◌ planned_t
 planned_is sizes (refused n z) o f rows ends names scopes s slots l e g = record { entered = e.table; names = names; answer = rw e.answer; room = e.size; size = l; kept = refl }
 planned_is sizes (ok ds) o f rows ends names scopes s slots l e g = rw e.answer (g ds e.table refl e.size e.holds)

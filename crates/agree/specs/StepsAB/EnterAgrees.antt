@@ -1,5 +1,5 @@
 -- Step A: on the rows of fields, `enter_fields_t` does what the rules' `distinct` says.
-use Rattle.std.specs.Prelude.{◌≡◌, Bool, ◌&&◌, not, get_or, set}
+use Rattle.std.specs.Prelude.{◌≡◌, Bool, ◌&&◌, not, get_or, set, Option as CodeOption, Some, None, Result as CodeResult, Ok, Err, ℕ}
 use Rattle.std.proofs.Math.Path.{refl, sym, ap}
 use Rattle.std.proofs.Common.{◌∙◌, arith, length-set}
 use Rattle.std.proofs.Math.Bool.{true, false}
@@ -23,13 +23,9 @@ use Rattle.rows.specs.RowAt.{taken, code_at}
 use Rattle.form.specs.Part.{field_rows}
 use Rattle.refusal.specs.Refusals.{refusal_at, tells}
 use Rattle.names.specs.Table.{Slot, space_of, name_of, number_of as word_of, between, find_in}
-use Rattle.names.specs.declared.Found.{Found}
-use Rattle.names.specs.declared.Found.TheVariants.{At as FoundAt, Nothing}
 use Rattle.names.proofs.Storey.{pushed_room, between_push}
 use Rattle.plan.specs.Views.{if_decl}
 use Rattle.plan.specs.Enter.{is_found, row_number, first_t, found_then, placed_slot, push_then, enter_field_t, enter_then, enter_fields_t}
-use Rattle.plan.specs.declared.enter.Entered.{Entered}
-use Rattle.plan.specs.declared.enter.Entered.TheVariants.{Upto, Twice}
 use Rattle.agree.specs.Tables.Sizes.{most}
 use Rattle.agree.specs.Refusals.Carried.{said_of, told_of}
 use Rattle.agree.specs.Rows.At.{Is, At}
@@ -37,6 +33,7 @@ use Rattle.form.specs.Ends.{Ends}
 use Rattle.agree.specs.Rows.AtLaws.{at_left, at_right, at_head, at_tail, at_fits, part_at, part_size, code_is, row_number_lem}
 use Rattle.agree.specs.Tables.SlotLaws.{decl_rows_length}
 use Rattle.agree.specs.Rows.ItemRows.{rest_rows, field_row, item_rows_lem, some_rows, NoDecl, no_decl_rest, not_decl_lem}
+use Rattle.refusal.specs.declared.Refused.{Refused}
 
 -- ---- slots that were entered
 
@@ -56,12 +53,12 @@ entered_append [] ss' (d ∷ ds) ds' e f = elim e [ ]
 entered_append (s ∷ ss) ss' [] ds' e f = elim e [ ]
 
 -- the place of the first declaration of a name, where the rules find one
-abbrev first_in : Option ℕ → (place : ℕ) → Found
-first_in none place = Nothing
-first_in (some n) place = FoundAt place
+abbrev first_in : Option ℕ → (place : ℕ) → CodeOption ℕ
+first_in none place = None
+first_in (some n) place = Some place
 
 -- one slot, t and u the tests on its space and its name
-first_turn : (t u : Bool) (z place : ℕ) (o : Option ℕ) → pick t (pick u (FoundAt z) (first_in o place)) (first_in o place) ≡ first_in (when t then when u then some 0 else map suc o else o) (when t && u then z else place)
+first_turn : (t u : Bool) (z place : ℕ) (o : Option ℕ) → pick t (pick u (Some z) (first_in o place)) (first_in o place) ≡ first_in (when t then when u then some 0 else map suc o else o) (when t && u then z else place)
 unfolding pick when◌then◌else◌
 first_turn true true z place o = refl
 first_turn true false z place none = refl
@@ -111,32 +108,32 @@ distinct_ok before (d ∷ ds) r e = distinct_ok (before ++ (d ∷ [])) ds r (if_
 
 -- ---- the outcome
 
-pub record Repeated (room : ℕ) (n : Refusal) (z : ℕ) (o : Out Entered (List Slot)) : Type 0 where
+pub record Repeated (room : ℕ) (n : Refusal) (z : ℕ) (o : Out (CodeResult ℕ Refused) (List Slot)) : Type 0 where
   pub table : List Slot
-  pub answer : o ≡ (Twice (said_of n z) (told_of n) & table)
+  pub answer : o ≡ (Err (record { refusal = said_of n z; told = told_of n }) & table)
   pub size : length table ≡ room
 
-pub record AllEntered (room : ℕ) (ds : List Declaration) (o : Out Entered (List Slot)) : Type 0 where
+pub record AllEntered (room : ℕ) (ds : List Declaration) (o : Out (CodeResult ℕ Refused) (List Slot)) : Type 0 where
   pub table : List Slot
-  pub answer : o ≡ (Upto (length ds) & table)
+  pub answer : o ≡ (Ok (length ds) & table)
   pub size : length table ≡ room
   pub holds : EnteredAs (between 0 (length ds) table) ds
 
 -- what step A comes to, where the rules say this
-abbrev pub EnterIs : (room : ℕ) → Result (List Declaration) → Out Entered (List Slot) → Type 0
+abbrev pub EnterIs : (room : ℕ) → Result (List Declaration) → Out (CodeResult ℕ Refused) (List Slot) → Type 0
 EnterIs room (refused n z) o = Repeated room n z o
 EnterIs room (ok ds) o = AllEntered room ds o
 
 module _ (room : ℕ) where
   -- one DECL, t whether it has no name, f what the rules find by its name
-  enter_turn : (t : Bool) (f : Option ℕ) (space first z : ℕ) (m : Result (List Declaration)) (o : Out Entered (List Slot)) (entered : List Slot) → length entered ≡ room → EnterIs room m o → EnterIs room (when not t && is_just f then refused (twice space first) z else m) (found_then (pick t Nothing (first_in f first)) (λ place. Twice (refusal_at 6 z) (tells space place) & entered) o)
+  enter_turn : (t : Bool) (f : Option ℕ) (space first z : ℕ) (m : Result (List Declaration)) (o : Out (CodeResult ℕ Refused) (List Slot)) (entered : List Slot) → length entered ≡ room → EnterIs room m o → EnterIs room (when not t && is_just f then refused (twice space first) z else m) (found_then (pick t None (first_in f first)) (λ place. Err (record { refusal = refusal_at 6 z; told = tells space place }) & entered) o)
   unfolding when◌then◌else◌ pick number_of carried_by
   enter_turn true f space first z m o entered s e = e
   enter_turn false none space first z m o entered s e = e
   enter_turn false (some n) space first z m o entered s e = record { table = entered; answer = refl; size = s }
 
   -- a field, and then the others
-  enter_then_lem : (m : Result (List Declaration)) (f : List Declaration → Result (List Declaration)) (o : Out Entered (List Slot)) (g : ℕ → List Slot → Out Entered (List Slot)) → EnterIs room m o → ((ds : List Declaration) (t : List Slot) → m ≡ ok ds → length t ≡ room → EnteredAs (between 0 (length ds) t) ds → EnterIs room (f ds) (g (length ds) t)) → EnterIs room (m >>= f) (enter_then o g)
+  enter_then_lem : (m : Result (List Declaration)) (f : List Declaration → Result (List Declaration)) (o : Out (CodeResult ℕ Refused) (List Slot)) (g : ℕ → List Slot → Out (CodeResult ℕ Refused) (List Slot)) → EnterIs room m o → ((ds : List Declaration) (t : List Slot) → m ≡ ok ds → length t ≡ room → EnteredAs (between 0 (length ds) t) ds → EnterIs room (f ds) (g (length ds) t)) → EnterIs room (m >>= f) (enter_then o g)
   unfolding ◌>>=◌ enter_then
   enter_then_lem (refused n z) f o g e h = record { table = e.table; answer = rw e.answer; size = e.size }
   enter_then_lem (ok ds) f o g e h = rw e.answer (h ds e.table refl e.size e.holds)
@@ -144,7 +141,7 @@ module _ (room : ℕ) where
   -- ---- one field
 
   -- where no DECL stands a field is done
-  field_end_lem : (field : List ℕ) (row i left : ℕ) (rest : List Row) (entered : List Slot) (used : ℕ) → left ≡ length rest → NoDecl rest → At field i rest → enter_field_t field row i left entered used ≡ (Upto used & entered)
+  field_end_lem : (field : List ℕ) (row i left : ℕ) (rest : List Row) (entered : List Slot) (used : ℕ) → left ≡ length rest → NoDecl rest → At field i rest → enter_field_t field row i left entered used ≡ (Ok used & entered)
   unfolding enter_field_t At
   field_end_lem field row i zero rest entered used l n a = refl
   field_end_lem field row i (suc left) [] entered used l n a = absurd (omega arith)
@@ -169,7 +166,7 @@ module _ (room : ℕ) where
 
   module _ (rows ends : List ℕ) (short : length rows / 16 ≤ most) where
     -- at the CLOSE step A is done
-    enter_end : (p used : ℕ) (entered : List Slot) (turns : ℕ) → Is rows p Close → enter_fields_t rows ends entered p used turns ≡ (Upto used & entered)
+    enter_end : (p used : ℕ) (entered : List Slot) (turns : ℕ) → Is rows p Close → enter_fields_t rows ends entered p used turns ≡ (Ok used & entered)
     unfolding enter_fields_t
     enter_end p used entered zero i = refl
     enter_end p used entered (suc turns) i = sym (no! _ (rw (code_is rows p Close i) refl) refl)

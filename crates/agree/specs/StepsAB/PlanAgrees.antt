@@ -1,5 +1,5 @@
 -- Step B: on the rows of fields, `plan_scope_t` does what the rules' `expand_fields` says.
-use Rattle.std.specs.Prelude.{◌≡◌, Bool, get_or, take, replicate}
+use Rattle.std.specs.Prelude.{◌≡◌, Bool, get_or, take, replicate, Result as CodeResult, Ok, Err}
 use Rattle.std.proofs.Math.Path.{refl, sym, ap}
 use Rattle.std.proofs.Common.{◌∙◌, add-zero, arith}
 use Rattle.std.proofs.Math.Bool.{true}
@@ -27,8 +27,6 @@ use Rattle.names.specs.Stands.{count, Stands, Envs, Below}
 use Rattle.plan.specs.Enter.{is_found}
 use Rattle.plan.specs.Insertions.{Step, step_then, stops, plan_field_t, moved_t, plan_fields_t, plan_seen_t, plan_scope_t}
 use Rattle.plan.specs.declared.insertions.PlanState.{PlanState}
-use Rattle.plan.specs.declared.insertions.Planned.{Planned}
-use Rattle.plan.specs.declared.insertions.Planned.TheVariants.{Done, Refused}
 use Rattle.agree.specs.Refusals.Carried.{said_of, told_of}
 use Rattle.agree.specs.Tables.Sizes.{most}
 use Rattle.agree.specs.Rows.At.{Is, At}
@@ -41,19 +39,20 @@ use Rattle.agree.specs.StepsAB.PlanTables.{Tab, plan_of, StepIs, step_then_lem, 
 use Rattle.agree.specs.Tables.SlotLaws.{head_fresh}
 use Rattle.agree.specs.Tables.Earlier.{Knows, knows_append, knows_none, knows_fresh, knows_decls, Timed}
 use Rattle.agree.specs.StepsAB.PlanField.{field_is}
+use Rattle.refusal.specs.declared.Refused.{Refused}
 
 -- ---- the outcome
 
-pub record PlanStopped (room first : ℕ) (names₀ : List Slot) (n : Said) (z : Told) (o : Out Planned (List Slot)) : Type 0 where
+pub record PlanStopped (room first : ℕ) (names₀ : List Slot) (n : Said) (z : Told) (o : Out (CodeResult PlanState Refused) (List Slot)) : Type 0 where
   pub names : List Slot
-  pub answer : o ≡ (Refused n z & names)
+  pub answer : o ≡ (Err (record { refusal = n; told = z }) & names)
   pub size : length names ≡ room
   pub kept : take first names ≡ take first names₀
 
-pub record PlanDone (room first : ℕ) (names₀ slots : List Slot) (ds : List Declaration) (k : ℕ) (o : Out Planned (List Slot)) : Type 0 where
+pub record PlanDone (room first : ℕ) (names₀ slots : List Slot) (ds : List Declaration) (k : ℕ) (o : Out (CodeResult PlanState Refused) (List Slot)) : Type 0 where
   pub plan : PlanState
   pub names : List Slot
-  pub answer : o ≡ (Done plan & names)
+  pub answer : o ≡ (Ok plan & names)
   pub used : plan.used ≡ first + length slots
   pub fresh : plan.fresh ≡ 2147483648 + k
   pub size : length names ≡ room
@@ -62,7 +61,7 @@ pub record PlanDone (room first : ℕ) (names₀ slots : List Slot) (ds : List D
   pub stands : Stands [] slots ds
 
 -- what step B comes to, where the rules say this: from `first` on the table holds `slots`
-abbrev pub PlanIs : (room first : ℕ) (names₀ slots : List Slot) → Result (List Entry × ℕ) → Out Planned (List Slot) → Type 0
+abbrev pub PlanIs : (room first : ℕ) (names₀ slots : List Slot) → Result (List Entry × ℕ) → Out (CodeResult PlanState Refused) (List Slot) → Type 0
 PlanIs room first names₀ slots (refused n z) o = PlanStopped room first names₀ (said_of n z) (told_of n) o
 PlanIs room first names₀ slots (ok r) o = PlanDone room first names₀ slots (decls_in r.0) r.1 o
 
@@ -78,7 +77,7 @@ module _ (room first : ℕ) (names₀ : List Slot) (n depth far : ℕ) (early : 
   FieldsIs outside fs p k before slots m o = StepIs room first names₀ n depth far early (λ r. before ++ decls_in r.0) (λ r. slots ++ fields_slots here outside before k p fs) (λ r. r.1) (p + length (fields_rows fs)) m o
 
   -- at the CLOSE step B is done
-  fields_end : (p used k : ℕ) (names : List Slot) (counts : List ℕ) (turns : ℕ) → Is rows p Close → plan_fields_t rows ends entered names scopes counts (P p used k) turns ≡ (Done (P p used k) & names & counts)
+  fields_end : (p used k : ℕ) (names : List Slot) (counts : List ℕ) (turns : ℕ) → Is rows p Close → plan_fields_t rows ends entered names scopes counts (P p used k) turns ≡ (Ok (P p used k) & names & counts)
   unfolding plan_fields_t
   fields_end p used k names counts zero i = refl
   fields_end p used k names counts (suc turns) i = sym (no! _ (rw (code_is rows p Close i) refl) refl)

@@ -1,5 +1,5 @@
 -- Step B at one field: what `plan_field_t` comes to is what the rules' `expand_head` says, and then its DECLs.
-use Rattle.std.specs.Prelude.{◌≡◌, Bool}
+use Rattle.std.specs.Prelude.{◌≡◌, Bool, Ok, Err}
 use Rattle.std.proofs.Math.Path.{refl, ap}
 use Rattle.std.proofs.Common.{sym, ◌∙◌}
 use Rattle.std.proofs.Math.Bool.{true, false}
@@ -30,7 +30,6 @@ use Rattle.plan.specs.Views.{if_decl, if_ref, field_code}
 use Rattle.plan.specs.Enter.{is_found}
 use Rattle.plan.specs.Insertions.{Tables, Step, plan_ref_t, step_then, stops, plan_operands_t, declare_then, plan_decls_t, field_code_t, plan_insertions_t, with_used, plan_field_t}
 use Rattle.plan.specs.declared.insertions.PlanState.{PlanState}
-use Rattle.plan.specs.declared.insertions.Planned.TheVariants.{Done, Refused}
 use Rattle.agree.specs.Tables.Sizes.{most}
 use Rattle.agree.specs.Rows.At.{Is, At}
 use Rattle.agree.specs.Rows.AtLaws.{at_left, at_right, at_head, at_tail, row_number_lem}
@@ -95,8 +94,8 @@ others_export (some n) = (refl, tt)
 -- two ways on that agree
 then_same : (s : Step) (f g : List Slot → List ℕ → PlanState → Step) → ((ns : List Slot) (cs : List ℕ) (q : PlanState) → f ns cs q ≡ g ns cs q) → step_then s f stops ≡ step_then s g stops
 unfolding step_then
-then_same (Done q & names & counts) f g h = h names counts q
-then_same (Refused n z & names & counts) f g h = refl
+then_same (Ok q & names & counts) f g h = h names counts q
+then_same (Err (record { refusal = n; told = z }) & names & counts) f g h = refl
 
 module _ (field : List ℕ) (entered : List Slot) (scopes : List (List ℕ)) (at : ℕ) where
   -- such rows are passed over one by one
@@ -111,8 +110,8 @@ module _ (field : List ℕ) (entered : List Slot) (scopes : List (List ℕ)) (at
   -- what an operand does to the tables
   step_of : Operand → (row : ℕ) → List Slot → List ℕ → PlanState → Step
   step_of (ref space ix ps z) row names counts q = plan_ref_t entered names scopes counts q (record { space = space; at = as_index ix; paths = length ps; z = z; row = row })
-  step_of (outer space up ix z) row names counts q = Done q & names & counts
-  step_of (case name z) row names counts q = Done q & names & counts
+  step_of (outer space up ix z) row names counts q = Ok q & names & counts
+  step_of (case name z) row names counts q = Ok q & names & counts
 
   -- one operand, and then on behind its rows
   turn : (o : Operand) (i left left' : ℕ) (names : List Slot) (counts : List ℕ) (q : PlanState) → At field i (operand_row o) → left' ≡ length (operand_row o) + left → at + i < 4294967296 → plan_operands_t field entered names scopes counts q at i left' ≡ step_then (step_of o (at + i) names counts q) (λ ns cs q'. plan_operands_t field entered ns scopes cs q' at (i + length (operand_row o)) left) stops
@@ -132,14 +131,14 @@ module _ (field : List ℕ) (entered : List Slot) (scopes : List (List ℕ)) (at
       rw k (rw a.0.reads refl)
 
   -- at an OPEN, or at the end, the operands are done
-  at_open : (it : Item) (i left : ℕ) (names : List Slot) (counts : List ℕ) (q : PlanState) → At field i (inside_rows it) → left ≡ length (inside_rows it) → plan_operands_t field entered names scopes counts q at i left ≡ (Done q & names & counts)
+  at_open : (it : Item) (i left : ℕ) (names : List Slot) (counts : List ℕ) (q : PlanState) → At field i (inside_rows it) → left ≡ length (inside_rows it) → plan_operands_t field entered names scopes counts q at i left ≡ (Ok q & names & counts)
   unfolding At inside_rows flatten
   at_open (plain h) i left names counts q a e = unfold plan_operands_t in rw e
   at_open (holds h (scope kind name fs)) i zero names counts q a e = absurd (omega arith)
   at_open (holds h (scope kind name fs)) i (suc left) names counts q a e = unfold plan_operands_t if_ref taken in rw a.0.reads refl
 
   -- behind the operands nothing more is done
-  operands_end : (it : Item) (x : Option ℕ) (i left : ℕ) (names : List Slot) (counts : List ℕ) (q : PlanState) → At field i (export_rows x ++ inside_rows it) → left ≡ length (export_rows x ++ inside_rows it) → plan_operands_t field entered names scopes counts q at i left ≡ (Done q & names & counts)
+  operands_end : (it : Item) (x : Option ℕ) (i left : ℕ) (names : List Slot) (counts : List ℕ) (q : PlanState) → At field i (export_rows x ++ inside_rows it) → left ≡ length (export_rows x ++ inside_rows it) → plan_operands_t field entered names scopes counts q at i left ≡ (Ok q & names & counts)
   operands_end it x i left names counts q a e =
       let l = length-append (export_rows x) (inside_rows it) in
       pass (export_rows x) i (length (inside_rows it)) left names counts q (others_export x) (at_left field i (export_rows x) (inside_rows it) a) (omega arith)
@@ -260,7 +259,7 @@ module _ (room first : ℕ) (names₀ : List Slot) (n depth far : ℕ) (early : 
     unfolding plan_insertions_t expand_head head_slots
     insertions_are = rw field_code_lem (go (here_only (head_of it).code))
       where
-        go : (t : Bool) → StepIs room first names₀ n depth far early (λ e. before ++ heads_decls e.inserted) (λ e. slots ++ (when t then [] else operands_slots here outside before k (at + 1 + length (head_of it).decls) (head_of it).operands)) (λ e. e.k) at (when t then ok (as_it_is (head_of it) k) else (expand_operands here outside k (head_of it).operands >>= λ e. ok (record { inserted = e.inserted; rows = e.rows; now = with_operands (head_of it) e.now; k = e.k }))) (pick t (Done (P used k) & names & counts) (plan_operands_t field entered names scopes counts (P used k) at 1 (length field / 16 - 1)))
+        go : (t : Bool) → StepIs room first names₀ n depth far early (λ e. before ++ heads_decls e.inserted) (λ e. slots ++ (when t then [] else operands_slots here outside before k (at + 1 + length (head_of it).decls) (head_of it).operands)) (λ e. e.k) at (when t then ok (as_it_is (head_of it) k) else (expand_operands here outside k (head_of it).operands >>= λ e. ok (record { inserted = e.inserted; rows = e.rows; now = with_operands (head_of it) e.now; k = e.k }))) (pick t (Ok (P used k) & names & counts) (plan_operands_t field entered names scopes counts (P used k) at 1 (length field / 16 - 1)))
         go true =
             unfold when◌then◌else◌ pick as_it_is heads_decls in
             record { used = used; names = names; counts = counts; answer = refl; tab = rw (append-nil before, append-nil slots) tab }
@@ -308,7 +307,7 @@ module _ (room first : ℕ) (names₀ : List Slot) (fits : room ≤ most) (field
       (λ slots' used' names' counts' tab'. decls_are ds (i + 1) left (row + 1) rest (before ++ (d ∷ [])) slots' used' names' counts' tab' l.1 (omega arith) (omega arith) (omega arith) m a.1 (omega arith))
 
 -- DECLs that were entered: the step is done
-declared_went : (room first : ℕ) (names₀ : List Slot) (n depth far : ℕ) (early : Bool) (k at used : ℕ) (before : List Declaration) (slots : List Slot) (o : Out ℕ Tables) → Declared room first names₀ before slots o → Went room first names₀ n depth far early before slots k at (declare_then o λ ns cs u. Done (with_used (plan_of room first names₀ n depth far early at used k) u) & ns & cs)
+declared_went : (room first : ℕ) (names₀ : List Slot) (n depth far : ℕ) (early : Bool) (k at used : ℕ) (before : List Declaration) (slots : List Slot) (o : Out ℕ Tables) → Declared room first names₀ before slots o → Went room first names₀ n depth far early before slots k at (declare_then o λ ns cs u. Ok (with_used (plan_of room first names₀ n depth far early at used k) u) & ns & cs)
 unfolding declare_then
 declared_went room first names₀ n depth far early k at used before slots o r = record { used = r.used; names = r.names; counts = r.counts; answer = rw r.answer; tab = r.tab }
 

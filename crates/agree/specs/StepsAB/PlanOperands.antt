@@ -1,5 +1,5 @@
 -- Step B at one operand: what `plan_ref_t` comes to is what the rules' `expand_operand` says.
-use Rattle.std.specs.Prelude.{◌≡◌, Bool, ◌&&◌, ◌||◌, eqb, leb}
+use Rattle.std.specs.Prelude.{◌≡◌, Bool, ◌&&◌, ◌||◌, eqb, leb, Ok, Err}
 use Rattle.std.proofs.Math.Path.{refl, sym}
 use Rattle.std.proofs.Common.{ap, ◌∙◌, lt-ltb}
 use Rattle.std.proofs.Math.Bool.{true, false, not}
@@ -30,7 +30,6 @@ use Rattle.late.specs.Late.{late_in, before_around}
 use Rattle.plan.specs.Enter.{is_found}
 use Rattle.plan.specs.Insertions.{Step, insert_with, insert_alias_t, insert_then, plan_paths_t, plan_done_t, late_here_t, late_out_t, plan_outer_t, met_t, plan_name_t, plan_index_t, plan_ref_t}
 use Rattle.plan.specs.declared.insertions.PlanState.{PlanState}
-use Rattle.plan.specs.declared.insertions.Planned.TheVariants.{Done, Refused}
 use Rattle.agree.specs.Tables.Sizes.{most}
 use Rattle.agree.specs.Tables.Earlier.{Knows, Come, Earlier, earlier_kept, late_out, never_out, earlier_nth, below_nth, late_is, Timed}
 use Rattle.agree.specs.Tables.Slots.{reach_out, reach_at, inserted_slot, inserted_slots}
@@ -112,16 +111,16 @@ module _ (room first : ℕ) (names₀ : List Slot) (n depth far : ℕ) (early : 
     P k = plan_of room first names₀ n depth far early at used k
 
     -- nothing is inserted
-    nothing : (o : Operand) (k : ℕ) → OperandIs (ok (as_it_is o k)) (Done (P k) & names & counts)
+    nothing : (o : Operand) (k : ℕ) → OperandIs (ok (as_it_is o k)) (Ok (P k) & names & counts)
     unfolding as_it_is heads_decls inserted_slots
     nothing o k = record { used = used; names = names; counts = counts; answer = refl; tab = rw (append-nil before, append-nil slots) tab }
 
     -- a refusal leaves the tables as they are
-    stopped : (m : Said) (z : Told) → Stopped room first names₀ n depth far early m z (Refused m z & names & counts)
+    stopped : (m : Said) (z : Told) → Stopped room first names₀ n depth far early m z (Err (record { refusal = m; told = z }) & names & counts)
     stopped m z = record { names = names; counts = counts; answer = refl; size = tab.size; kept = tab.kept }
 
     -- a name that comes too late is refused, whatever else would be done
-    in_time_lem : (b : Bool) (z : ℕ) (m : Result (Expanded Operand)) (o : Step) → OperandIs m o → OperandIs (in_time b z >>= λ u. m) (pick b (Refused (refusal_at 13 z) untold & names & counts) o)
+    in_time_lem : (b : Bool) (z : ℕ) (m : Result (Expanded Operand)) (o : Step) → OperandIs m o → OperandIs (in_time b z >>= λ u. m) (pick b (Err (record { refusal = refusal_at 13 z; told = untold }) & names & counts) o)
     unfolding in_time when◌then◌else◌ pick ◌>>=◌ number_of carried_by
     in_time_lem true z m o r = stopped (refusal_at 13 z) untold
     in_time_lem false z m o r = r
@@ -135,7 +134,7 @@ module _ (room first : ℕ) (names₀ : List Slot) (n depth far : ℕ) (early : 
         let o : a.0 % 4294967296 ≡ a.0 = omega arith in
         rw (s, o) (go (is_in space FOUR))
       where
-        go : (t : Bool) → OperandIs (when t then ok (through space z k (outer_alias space (fresh k) a.0 a.1 z ∷ [])) else refused (not_outer space) z) (pick t (plan_done_t (insert_alias_t names counts (P k) space row a.0 a.1)) (Refused (refusal_at 8 z) (of_space space) & names & counts))
+        go : (t : Bool) → OperandIs (when t then ok (through space z k (outer_alias space (fresh k) a.0 a.1 z ∷ [])) else refused (not_outer space) z) (pick t (plan_done_t (insert_alias_t names counts (P k) space row a.0 a.1)) (Err (record { refusal = refusal_at 8 z; told = of_space space }) & names & counts))
         go true =
             unfold when◌then◌else◌ pick through outer_alias heads_decls inserted_slots inserted_slot declared first_name reach_out reach_at fresh in
             done_went room first names₀ n depth far early _ _ _ at _ (insert_is row at before slots used names counts tab (record { space = space; name = 2147483648 + k; z = z }) k a.0 a.1 refl l u h)
@@ -198,7 +197,7 @@ module _ (room first : ℕ) (names₀ : List Slot) (n depth far : ℕ) (early : 
         rw (known space name, outward_walk names scopes space name depth outside.scopes en) (go (is_just (find here space name)) refl len)
       where
         go : (t : Bool) → is_just (find here space name) ≡ t → length outside.scopes ≡ depth
-            → OperandIs (in_time (late_name here outside space name) z >>= λ u. when t then ok (as_it_is (ref space (Id name) [] z) k) else found_at space name z k (walk outside.scopes 1 space name)) (pick t (pick (late_here_t names (P k) space name) (Refused (refusal_at 13 z) untold & names & counts) (Done (P k) & names & counts)) (met_t (met_of (walk outside.scopes 1 space name)) names scopes counts (P k) (record { space = space; at = as_index (Id name); paths = 0; z = z; row = row }) name))
+            → OperandIs (in_time (late_name here outside space name) z >>= λ u. when t then ok (as_it_is (ref space (Id name) [] z) k) else found_at space name z k (walk outside.scopes 1 space name)) (pick t (pick (late_here_t names (P k) space name) (Err (record { refusal = refusal_at 13 z; told = untold }) & names & counts) (Ok (P k) & names & counts)) (met_t (met_of (walk outside.scopes 1 space name)) names scopes counts (P k) (record { space = space; at = as_index (Id name); paths = 0; z = z; row = row }) name))
         go true t len = unfold when◌then◌else◌ pick in rw (late_here space name k t low) (in_time_lem (late_here_t names (P k) space name) z _ _ (nothing _ k))
         go false t len = unfold when◌then◌else◌ pick in met_is space name z k (walk outside.scopes 1 space name) refl t low len l u h
 
@@ -211,7 +210,7 @@ module _ (room first : ℕ) (names₀ : List Slot) (n depth far : ℕ) (early : 
         let e : suc (length ps) - 1 ≡ length ps = omega arith in
         rw (lt-ltb 0 (suc (length ps)) (omega arith), e) (go (eqb space 4) (eqb space 6))
       where
-        go : (t v : Bool) → OperandIs (when t || (v || false) then refused not_exported z else ok (through space z (k + length ps) (path_aliases space ix p ps z k))) (pick t (Refused (refusal_at 7 z) untold & names & counts) (pick v (Refused (refusal_at 7 z) untold & names & counts) (plan_done_t (plan_paths_t names counts (P k) space row (length ps)))))
+        go : (t v : Bool) → OperandIs (when t || (v || false) then refused not_exported z else ok (through space z (k + length ps) (path_aliases space ix p ps z k))) (pick t (Err (record { refusal = refusal_at 7 z; told = untold }) & names & counts) (pick v (Err (record { refusal = refusal_at 7 z; told = untold }) & names & counts) (plan_done_t (plan_paths_t names counts (P k) space row (length ps)))))
         go true v = unfold when◌then◌else◌ pick number_of carried_by in stopped (refusal_at 7 z) untold
         go false true = unfold when◌then◌else◌ pick number_of carried_by in stopped (refusal_at 7 z) untold
         go false false =

@@ -1,5 +1,5 @@
 -- Step B's tables: one slot more, for a DECL or for something inserted, and what a step comes to.
-use Rattle.std.specs.Prelude.{◌≡◌, Bool, true, false, ℕ, suc, ◌+◌, ◌%◌, ◌≤◌, ◌<◌, eqb, length, get_or, take}
+use Rattle.std.specs.Prelude.{◌≡◌, Bool, true, false, ℕ, suc, ◌+◌, ◌%◌, ◌≤◌, ◌<◌, eqb, length, get_or, take, Ok, Err}
 use Rattle.std.proofs.Math.Path.{refl, sym, ap}
 use Rattle.std.proofs.Common.{◌∙◌, get_or-set_same, get_or-set_other}
 use mathlib.Core.List.{List, [], ◌∷◌, ◌++◌}
@@ -19,7 +19,6 @@ use Rattle.names.specs.Stands.{count, Stands}
 use Rattle.names.proofs.Storey.{count_same, count_other, stands_length, stands_append, pushed_room, between_push}
 use Rattle.plan.specs.Insertions.{Tables, Step, bump_t, with_counts_t, declare_with, declare_t, plan_done_t, step_then, stops}
 use Rattle.plan.specs.declared.insertions.PlanState.{PlanState}
-use Rattle.plan.specs.declared.insertions.Planned.TheVariants.{Done, Refused}
 use Rattle.agree.specs.Refusals.Carried.{said_of, told_of}
 use Rattle.agree.specs.Tables.Sizes.{most}
 
@@ -119,7 +118,7 @@ module _ (room first : ℕ) (names₀ : List Slot) where
       pub used : ℕ
       pub names : List Slot
       pub counts : List ℕ
-      pub answer : o ≡ (Done (plan_of at used k) & names & counts)
+      pub answer : o ≡ (Ok (plan_of at used k) & names & counts)
       pub tab : Tab before slots used names counts
 
     pub record Inserted (before : List Declaration) (slots : List Slot) (k at : ℕ) (o : Out PlanState Tables) : Type 0 where
@@ -132,7 +131,7 @@ module _ (room first : ℕ) (names₀ : List Slot) where
     pub record Stopped (n : Said) (z : Told) (o : Step) : Type 0 where
       pub names : List Slot
       pub counts : List ℕ
-      pub answer : o ≡ (Refused n z & names & counts)
+      pub answer : o ≡ (Err (record { refusal = n; told = z }) & names & counts)
       pub size : length names ≡ room
       pub kept : take first names ≡ take first names₀
 

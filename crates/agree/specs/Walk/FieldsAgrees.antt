@@ -1,5 +1,5 @@
 -- The fields of a scope, one after another, up to its CLOSE.
-use Rattle.std.specs.Prelude.{◌≡◌, Bool, eqb, get_or}
+use Rattle.std.specs.Prelude.{◌≡◌, Bool, eqb, get_or, Ok}
 use Rattle.std.proofs.Math.Path.{refl, sym, ap}
 use Rattle.std.proofs.Common.{◌∙◌, length-append}
 use Rattle.std.proofs.Math.Bool.{true, false}
@@ -29,7 +29,6 @@ use Rattle.names.specs.Stands.{Envs, Below}
 use Rattle.names.proofs.Storey.{between_kept, envs_kept}
 use Rattle.plan.specs.Enter.{row_number}
 use Rattle.write.specs.declared.alias.WriteState.{WriteState}
-use Rattle.write.specs.declared.alias.Walked.TheVariants.{Done}
 use Rattle.write.specs.WriteState.{begun_t, put_then}
 use Rattle.walk.specs.Scopes.{Wrote₃, wrote_then₃, field_walk_t, closed_t, ended_t, fields_walk_t, scope_walk_t}
 use Rattle.agree.specs.Tables.Sizes.{Sizes, Fits}
@@ -143,7 +142,7 @@ module _ (rules : RuleSet) (heap : rules.heap < 13) (sizes : Sizes) (rows ends :
   abbrev closed : WriteState → (to : ℕ) → WriteState
   closed s to = record { at = row_number s.at 1; to = to; used = s.used; fresh = s.fresh; depth = s.depth; next = s.next; alias = s.alias; seen = s.seen; before = s.before; early = s.early }
 
-  close_is : (entered names : List Slot) (out : List ℕ) (s : WriteState) (to : ℕ) (out' : List ℕ) → Is rows s.at Close → put_all out s.to (Close ∷ []) ≡ (to & out') → ended_t rows ends (closed_t rows ends out s) entered names ≡ (Done (closed s to) & entered & names & out')
+  close_is : (entered names : List Slot) (out : List ℕ) (s : WriteState) (to : ℕ) (out' : List ℕ) → Is rows s.at Close → put_all out s.to (Close ∷ []) ≡ (to & out') → ended_t rows ends (closed_t rows ends out s) entered names ≡ (Ok (closed s to) & entered & names & out')
   unfolding closed_t ended_t put_then
   close_is entered names out s to out' is e = rw (row_copied rows s.at Close out s.to is, ← put_one_lem out s.to Close, e)
 

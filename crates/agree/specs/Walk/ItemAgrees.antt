@@ -1,5 +1,5 @@
 -- A field, with the scope that it may hold.
-use Rattle.std.specs.Prelude.{◌≡◌, true, List, [], ◌∷◌, ◌++◌, ℕ, ◌+◌, ◌/◌, ◌≤◌, ◌<◌, eqb, get_or}
+use Rattle.std.specs.Prelude.{◌≡◌, true, List, [], ◌∷◌, ◌++◌, ℕ, ◌+◌, ◌/◌, ◌≤◌, ◌<◌, eqb, get_or, Ok}
 use Rattle.std.proofs.Math.Path.{refl, sym}
 use Rattle.std.proofs.Common.{ap, ◌∙◌, append_assoc, append-nil}
 use native.Mathlib.Omega.{arith}
@@ -17,7 +17,6 @@ use Rattle.rows.specs.RowAt.{code_at}
 use Rattle.form.specs.Part.{field_rows}
 use Rattle.names.specs.Table.{Slot, past_of, innermost_t}
 use Rattle.write.specs.declared.alias.WriteState.{WriteState}
-use Rattle.write.specs.declared.alias.Walked.TheVariants.{Done}
 use Rattle.write.specs.WriteState.{arrived_t, at_depth_t, after_scope_t}
 use Rattle.write.specs.Own.{Wrote₂, wrote_then₂}
 use Rattle.walk.specs.Scopes.{wrote_then₃, stops₃, write_head_t, field_walk_t, scope_walk_t}
@@ -128,7 +127,7 @@ module _ (rules : RuleSet) (heap : rules.heap < 13) (sizes : Sizes) (rows ends :
       → let T = arrived_t (own_on s O.to (s.next + n + length h.decls) O.alias O.seen) (s.at + length (head_rows h)) in
       Says (inside_says h t env outside k h' new)
       (λ x w. FieldGone sizes s names out (s.at + (length (head_rows h) + length (flatten t))) (s.next + n + length h.decls) x.1.1 (heads_rows x.0 ++ item_rows x.1.0) w × (x.1.1 ≤ k + length (flatten t)))
-      (wrote_then₃ (scope_walk_t rows ends allowed O.table names scopes O.after (at_depth_t T s.depth)) (λ u e m o. Done (after_scope_t T u) & e & m & o) stops₃)
+      (wrote_then₃ (scope_walk_t rows ends allowed O.table names scopes O.after (at_depth_t T s.depth)) (λ u e m o. Ok (after_scope_t T u) & e & m & o) stops₃)
   unfolding wrote_then₃ flatten inside_says
   item_inside h h' t new goes allowed n k env outside entered names scopes out s w same at_row deep at inside good low low_scope ready O =
       let T = arrived_t (own_on s O.to (s.next + n + length h.decls) O.alias O.seen) (s.at + length (head_rows h)) in

@@ -1,5 +1,5 @@
 -- The walk over a whole form: it writes the rows that the rules make of the form, or it refuses with the same number and place.
-use Rattle.std.specs.Prelude.{◌≡◌, Bool, true, ℕ, suc, ◌+◌, ◌*◌, ◌/◌, ◌≤◌, ◌<◌, length, drop}
+use Rattle.std.specs.Prelude.{◌≡◌, Bool, true, ℕ, suc, ◌+◌, ◌*◌, ◌/◌, ◌≤◌, ◌<◌, length, drop, Ok, Err}
 use Rattle.std.proofs.Math.Path.{refl}
 use Rattle.std.proofs.Common.{sym, ap, ◌∙◌, arith, add-zero, zero-add, length-append, length-drop, drop-drop}
 use Rattle.std.proofs.Math.Option.{Option, none, some}
@@ -26,7 +26,6 @@ use Rattle.refusal.specs.declared.Told.{Told}
 use Rattle.names.specs.Table.{Slot}
 use Rattle.names.specs.Stands.{Envs, Below}
 use Rattle.write.specs.declared.alias.WriteState.{WriteState}
-use Rattle.write.specs.declared.alias.Walked.TheVariants.{Done, Refused}
 use Rattle.write.specs.WriteState.{put_then}
 use Rattle.walk.specs.Scopes.{Wrote₃, scope_walk_t, start_in}
 use Rattle.agree.specs.Refusals.Carried.{said_of, told_of}
@@ -77,14 +76,14 @@ pub record Written (out : List ℕ) (rows : List Row) (w : Wrote₃) : Type 0 wh
   pub entered : List Slot
   pub names : List Slot
   pub after : List ℕ
-  pub is : w ≡ (Done state & entered & names & after)
+  pub is : w ≡ (Ok state & entered & names & after)
   pub count : state.to ≡ length rows
   pub holds : after ≡ rows_bytes rows ++ drop (16 * length rows) out
 
 -- the refusal with which a walk ended, if it did
 unfoldable pub refusal_of : Wrote₃ → Option (Said × Told)
-refusal_of (Done s & tables) = none
-refusal_of (Refused n z & tables) = some (n, z)
+refusal_of (Ok s & tables) = none
+refusal_of (Err (record { refusal = n; told = z }) & tables) = some (n, z)
 
 -- and the rules' refusal
 unfoldable pub refused_by : {A : Type 0} → Result A → Option (Said × Told)

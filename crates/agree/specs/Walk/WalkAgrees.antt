@@ -1,5 +1,5 @@
 -- The whole walk: on the rows of a scope the code does what the rules say of the scope. The induction is over the tree.
-use Rattle.std.specs.Prelude.{◌≡◌, true, List, [], ◌∷◌, ◌++◌, map, get_or, set, take}
+use Rattle.std.specs.Prelude.{◌≡◌, true, List, [], ◌∷◌, ◌++◌, map, get_or, set, take, Result as CodeResult}
 use Rattle.std.proofs.Math.Path.{refl}
 use Rattle.std.proofs.Common.{sym, ap, ◌∙◌, arith, length-set, take-take, get_or-set_same}
 use Prim.Native.Nat.{ℕ, zero, suc, ◌+◌, ◌/◌, ◌≤◌, ◌<◌}
@@ -19,7 +19,6 @@ use Rattle.names.specs.Table.{Slot, row_of, between, no_scope, scope_of, past_of
 use Rattle.names.specs.Stands.{Stands, entry_rows}
 use Rattle.names.proofs.Storey.{envs_kept, below_more, envs_push, below_push}
 use Rattle.plan.specs.Enter.{row_number}
-use Rattle.plan.specs.declared.insertions.Planned.{Planned}
 use Rattle.write.specs.declared.alias.WriteState.{WriteState}
 use Rattle.write.specs.WriteState.{begun_t, put_then}
 use Rattle.walk.specs.Scopes.{begin_scope_t, open_name, fields_walk_t, inside_t, scoped_t, scope_walk_t}
@@ -39,6 +38,8 @@ use Rattle.agree.specs.Tables.SlotRows.{slot_rows}
 use Rattle.agree.specs.Walk.WalkStates.{Ready, Gone, ScopeGoes, FieldsGo, ItemGoes}
 use Rattle.agree.specs.Walk.ItemAgrees.{item_plain, item_holds}
 use Rattle.agree.specs.Walk.FieldsAgrees.{fields_end, fields_from}
+use Rattle.plan.specs.declared.insertions.PlanState.{PlanState}
+use Rattle.refusal.specs.declared.Refused.{Refused}
 
 -- what agrees on the first n agrees on the first m of them
 take_less : {A : Type 0} (m n : ℕ) (xs ys : List A) → m ≤ n → take n xs ≡ take n ys → take m xs ≡ take m ys
@@ -58,7 +59,7 @@ fields_say kind name fs outside k p = resolve_fields fs (declarations fs) p.0 ou
 
 module _ (rules : RuleSet) (heap : rules.heap < 13) (sizes : Sizes) (rows ends : List ℕ) (short : Fits sizes rows) where
   -- the fields of a scope that steps A and B accept
-  inside : (kind name : ℕ) (fs : Fields) → FieldsGo rules sizes rows ends fs → (allowed k : ℕ) (outside : Outside) (entered names : List Slot) (scopes : List (List ℕ)) (out : List ℕ) (s : WriteState) (p : Env × ℕ) (o : Out Planned (Out (List Slot) (List Slot)))
+  inside : (kind name : ℕ) (fs : Fields) → FieldsGo rules sizes rows ends fs → (allowed k : ℕ) (outside : Outside) (entered names : List Slot) (scopes : List (List ℕ)) (out : List ℕ) (s : WriteState) (p : Env × ℕ) (o : Out (CodeResult PlanState Refused) (Out (List Slot) (List Slot)))
       → outside.early ≡ s.early → outside.before.decls ≡ [] → outside.before.row ≡ s.at + 1 → heights fs ≤ allowed → At rows s.at (Open kind name ∷ (fields_rows fs ++ (Close ∷ []))) → Ends fs ends (s.at + 1) → GoodFields rules fs kind → DeclFields fs → (s.early ≡ true → LowFields fs)
       → Ready sizes entered names scopes s outside.scopes (suc (heights fs)) (2 + (own fs + deep fs)) k → prepare name fs outside k ≡ ok p
       → (B : BeginDone sizes s.used names (fields_slots (declarations fs) outside [] k (s.at + 1) fs) (table_of p.0) p.1 o) (to : ℕ) (out' : List ℕ) → put_all out s.to (Open kind name ∷ []) ≡ (to & out')
@@ -115,7 +116,7 @@ module _ (rules : RuleSet) (heap : rules.heap < 13) (sizes : Sizes) (rows ends :
       ))
 
   -- a scope, by what steps A and B make of it
-  scope_turn : (kind name : ℕ) (fs : Fields) → FieldsGo rules sizes rows ends fs → (allowed k : ℕ) (outside : Outside) (entered names : List Slot) (scopes : List (List ℕ)) (out : List ℕ) (s : WriteState) (m : Result (Env × ℕ)) (o : Out Planned (Out (List Slot) (List Slot)))
+  scope_turn : (kind name : ℕ) (fs : Fields) → FieldsGo rules sizes rows ends fs → (allowed k : ℕ) (outside : Outside) (entered names : List Slot) (scopes : List (List ℕ)) (out : List ℕ) (s : WriteState) (m : Result (Env × ℕ)) (o : Out (CodeResult PlanState Refused) (Out (List Slot) (List Slot)))
       → outside.early ≡ s.early → outside.before.decls ≡ [] → outside.before.row ≡ s.at + 1 → heights fs ≤ allowed → At rows s.at (Open kind name ∷ (fields_rows fs ++ (Close ∷ []))) → Ends fs ends (s.at + 1) → GoodFields rules fs kind → DeclFields fs → (s.early ≡ true → LowFields fs)
       → Ready sizes entered names scopes s outside.scopes (suc (heights fs)) (2 + (own fs + deep fs)) k → prepare name fs outside k ≡ m
       → BeginIs sizes s.used names (fields_slots (declarations fs) outside [] k (s.at + 1) fs) m o

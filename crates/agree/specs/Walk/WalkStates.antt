@@ -1,5 +1,5 @@
 -- What the walk has ready, and what it has done.
-use Rattle.std.specs.Prelude.{◌≡◌, refl, true, false, List, [], ◌∷◌, ◌++◌, ℕ, ◌+◌, ◌≤◌, ◌<◌, eqb, length, get_or, take}
+use Rattle.std.specs.Prelude.{◌≡◌, refl, true, false, List, [], ◌∷◌, ◌++◌, ℕ, ◌+◌, ◌≤◌, ◌<◌, eqb, length, get_or, take, Ok, Err}
 use Rattle.kit.specs.Out.{Out, ◌&◌}
 use Rattle.rules.specs.Versions.{RuleSet}
 use Rattle.rules.specs.Rows.{Row, Close}
@@ -13,7 +13,6 @@ use Rattle.rows.specs.RowAt.{code_at}
 use Rattle.names.specs.Table.{Slot, past_of, innermost_t}
 use Rattle.names.specs.Stands.{Envs, Below}
 use Rattle.write.specs.declared.alias.WriteState.{WriteState}
-use Rattle.write.specs.declared.alias.Walked.TheVariants.{Done, Refused}
 use Rattle.write.specs.WriteState.{begun_t}
 use Rattle.write.specs.Own.{Wrote₂, wrote_then₂}
 use Rattle.walk.specs.Scopes.{Wrote₃, wrote_then₃, stops₃, field_walk_t, fields_walk_t, scope_walk_t}
@@ -48,7 +47,7 @@ pub record Gone (sizes : Sizes) (s : WriteState) (names : List Slot) (out : List
   pub entered' : List Slot
   pub names' : List Slot
   pub after : List ℕ
-  pub is : w ≡ (Done state & entered' & names' & after)
+  pub is : w ≡ (Ok state & entered' & names' & after)
   pub arrived : state.at ≡ at
   pub fresh : state.fresh ≡ 2147483648 + k
   pub wrote : (state.to & after) ≡ put_all out s.to rows
@@ -70,16 +69,16 @@ pub says_then₃ : {A B : Type 0} (r : Result A) (f : A → Result B) (P : A →
 unfolding ◌>>=◌ wrote_then₃
 says_then₃ (refused n z) f P Q w g h k = go h.0 h.1
   where
-    go : (x : Out (List Slot) (Out (List Slot) (List ℕ))) → w ≡ (Refused (said_of n z) (told_of n) & x) → Says (refused n z) Q (wrote_then₃ w g stops₃)
+    go : (x : Out (List Slot) (Out (List Slot) (List ℕ))) → w ≡ (Err (record { refusal = said_of n z; told = told_of n }) & x) → Says (refused n z) Q (wrote_then₃ w g stops₃)
     go (e & m & o) q = (e & m & o, rw q)
 says_then₃ (ok a) f P Q w g h k = k a refl h
 
 pub says_field : {A B : Type 0} (r : Result A) (f : A → Result B) (P : A → Wrote₂ → Type 0) (Q : B → Wrote₃ → Type 0) (w : Wrote₂) (g : WriteState → List Slot → List ℕ → Wrote₃) (names : List Slot)
-    → Says r P w → ((a : A) → r ≡ ok a → P a w → Says (f a) Q (wrote_then₂ w g λ n z e o. Refused n z & e & names & o)) → Says (r >>= f) Q (wrote_then₂ w g λ n z e o. Refused n z & e & names & o)
+    → Says r P w → ((a : A) → r ≡ ok a → P a w → Says (f a) Q (wrote_then₂ w g λ n z e o. Err (record { refusal = n; told = z }) & e & names & o)) → Says (r >>= f) Q (wrote_then₂ w g λ n z e o. Err (record { refusal = n; told = z }) & e & names & o)
 unfolding ◌>>=◌ wrote_then₂
 says_field (refused n z) f P Q w g names h k = go h.0 h.1
   where
-    go : (x : Out (List Slot) (List ℕ)) → w ≡ (Refused (said_of n z) (told_of n) & x) → Says (refused n z) Q (wrote_then₂ w g λ n z e o. Refused n z & e & names & o)
+    go : (x : Out (List Slot) (List ℕ)) → w ≡ (Err (record { refusal = said_of n z; told = told_of n }) & x) → Says (refused n z) Q (wrote_then₂ w g λ n z e o. Err (record { refusal = n; told = z }) & e & names & o)
     go (e & o) q = (e & names & o, rw q)
 says_field (ok a) f P Q w g names h k = k a refl h
 

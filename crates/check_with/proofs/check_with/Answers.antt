@@ -18,12 +18,12 @@ pub judge_lent-requires : goal.judge_lent-requires
 judge_lent-requires c = let args = c.args in
     (table_long c.asked_for-i.result (length args.table.now) (length args.index.now) (lent_of args.entered.now args.names.now args.known.now args.chains.now args.ends.now) _ c.are_roomy-lent.ensures _ c.is_small.ensures c.if-is_small.false, index_long c.asked_for-i.result (length args.table.now) (length args.index.now) (lent_of args.entered.now args.names.now args.known.now args.chains.now args.ends.now) _ c.are_roomy-lent.ensures _ c.is_small.ensures c.if-is_small.false, accepted_long c.asked_for-i.result args.form.now _ c.try_lent.ensures.value (search rules))
 
-pub returns-in-Pass : goal.returns-in-Pass
-returns-in-Pass c = let args = c.args in
+pub returns-in-Ok : goal.returns-in-Ok
+returns-in-Ok c = let args = c.args in
     let asks = c.asked_for-i.ensures in
-    record { result_value = judged_returns args.form.now c.shared_slice_known-1.given args.claim.now (length args.table.now) (length args.index.now) (lent_of args.entered.now args.names.now args.known.now args.chains.now args.ends.now) c.asked_for-i.result asks _ c.are_roomy-lent.ensures _ c.is_small.ensures c.if-is_small.false _ c.try_lent.ensures.value c.in-Pass.is _ c.judge_lent.ensures.value; table_after = (table_after_lem args.form.now c.asked_for-i.result asks _ _ c.judge_lent.ensures.table_after.0, index_after_lem args.form.now c.asked_for-i.result asks _ _ c.judge_lent.ensures.table_after.1); cleared = areas_after args.form.now c.asked_for-i.result asks _ _ _ _ _ _ _ _ _ _ c.try_lent.ensures.cleared }
+    record { result_value = judged_returns args.form.now c.shared_slice_known-1.given args.claim.now (length args.table.now) (length args.index.now) (lent_of args.entered.now args.names.now args.known.now args.chains.now args.ends.now) c.asked_for-i.result asks _ c.are_roomy-lent.ensures _ c.is_small.ensures c.if-is_small.false _ c.try_lent.ensures.value c.in-Ok.is _ c.judge_lent.ensures.value; table_after = (table_after_lem args.form.now c.asked_for-i.result asks _ _ c.judge_lent.ensures.table_after.0, index_after_lem args.form.now c.asked_for-i.result asks _ _ c.judge_lent.ensures.table_after.1); cleared = areas_after args.form.now c.asked_for-i.result asks _ _ _ _ _ _ _ _ _ _ c.try_lent.ensures.cleared }
 
-pub returns-in-Refused : goal.returns-in-Refused
-returns-in-Refused c = let args = c.args in
+pub returns-in-Err : goal.returns-in-Err
+returns-in-Err c = let args = c.args in
     let asks = c.asked_for-i.ensures in
-    record { result_value = refused_returns args.form.now c.shared_slice_known-1.given args.claim.now (length args.table.now) (length args.index.now) (lent_of args.entered.now args.names.now args.known.now args.chains.now args.ends.now) c.asked_for-i.result asks _ c.are_roomy-lent.ensures _ c.is_small.ensures c.if-is_small.false _ c.try_lent.ensures.value _ c.in-Refused.is; table_after = (table_after_lem args.form.now c.asked_for-i.result asks _ _ c.clear-in-Refused.ensures.0, index_after_lem args.form.now c.asked_for-i.result asks _ _ c.clear-in-Refused.ensures.1); cleared = areas_after args.form.now c.asked_for-i.result asks _ _ _ _ _ _ _ _ _ _ c.try_lent.ensures.cleared }
+    record { result_value = refused_returns args.form.now c.shared_slice_known-1.given args.claim.now (length args.table.now) (length args.index.now) (lent_of args.entered.now args.names.now args.known.now args.chains.now args.ends.now) c.asked_for-i.result asks _ c.are_roomy-lent.ensures _ c.is_small.ensures c.if-is_small.false _ c.try_lent.ensures.value _ c.in-Err.is; table_after = (table_after_lem args.form.now c.asked_for-i.result asks _ _ c.clear-in-Err.ensures.0, index_after_lem args.form.now c.asked_for-i.result asks _ _ c.clear-in-Err.ensures.1); cleared = areas_after args.form.now c.asked_for-i.result asks _ _ _ _ _ _ _ _ _ _ c.try_lent.ensures.cleared }

@@ -15,11 +15,11 @@ slice_bounds-judge_claim-end-4 c = sym (length-take-le _ _ (omega arith))
 pub judge_claim-requires : goal.judge_claim-requires
 judge_claim-requires c = (search (claim_fits, rules), search rules)
 
-pub returns-in-Yes : goal.returns-in-Yes
-returns-in-Yes c = record { value = search (claim_judged, rules); table_after = (search (front_cleared, rules), search (front_cleared, rules)) }
+pub returns-in-Ok-Yes : goal.returns-in-Ok-Yes
+returns-in-Ok-Yes c = record { value = search (claim_judged, rules); table_after = (search (front_cleared, rules), search (front_cleared, rules)) }
 
-pub returns-in-No : goal.returns-in-No
-returns-in-No c = record { value = search (claim_judged, rules); table_after = (search (front_cleared, rules), search (front_cleared, rules)) }
+pub returns-in-Ok-No : goal.returns-in-Ok-No
+returns-in-Ok-No c = record { value = search (claim_judged, rules); table_after = (search (front_cleared, rules), search (front_cleared, rules)) }
 
-pub returns-in-Refused : goal.returns-in-Refused
-returns-in-Refused c = record { value = search (claim_judged, rules); table_after = (search (front_cleared, rules), search (front_cleared, rules)) }
+pub returns-in-Err : goal.returns-in-Err
+returns-in-Err c = record { value = search (claim_judged, rules); table_after = (search (front_cleared, rules), search (front_cleared, rules)) }

@@ -3,8 +3,8 @@ use Rattle.check_with.proofs.Ways.{areas_left, told_as}
 use borrow.Author.Rules.{rules}
 use Rattle.check_with.proofs.try_lent.Goals as goal
 
-pub returns-in-Pass : goal.returns-in-Pass
-returns-in-Pass c = record { value = search (told_as, rules); cleared = search (areas_left, rules) }
+pub returns-in-Ok : goal.returns-in-Ok
+returns-in-Ok c = record { value = search (told_as, rules); cleared = search (areas_left, rules) }
 
-pub returns-in-Refused : goal.returns-in-Refused
-returns-in-Refused c = record { value = search (told_as, rules); cleared = search (areas_left, rules) }
+pub returns-in-Err : goal.returns-in-Err
+returns-in-Err c = record { value = search (told_as, rules); cleared = search (areas_left, rules) }

@@ -2,8 +2,8 @@
 use Rattle.claim_aliases.proofs.Ways.{knowing}
 use Rattle.claim_aliases.proofs.is_known.Goals as goal
 
-pub returns-in-Value : goal.returns-in-Value
-returns-in-Value c = search knowing
+pub returns-in-Some : goal.returns-in-Some
+returns-in-Some c = search knowing
 
-pub returns-in-Nothing : goal.returns-in-Nothing
-returns-in-Nothing c = search knowing
+pub returns-in-None : goal.returns-in-None
+returns-in-None c = search knowing

@@ -6,7 +6,7 @@ use rows::row::{DECL, FIELD};
 use scopes::number_of;
 use view::references::say_reference;
 use view::show::show_rows;
-use whole_form::read::{Form, read_claim};
+use whole_form::read::read_claim;
 use words::kinds::say_space;
 use words::names::say_operand;
 use words::refusals::say_meaning;
@@ -36,8 +36,8 @@ fn say_no_form(fd: Talk<'_>, number: u32) {
 
 fn say_first(fd: Talk<'_>, claim: &[u8]) {
     match read_claim(claim, 0) {
-        Form::Whole(_) => say(fd, b"it is a form"),
-        Form::Refused(refusal) => say_no_form(fd, refusal.number),
+        Ok(_) => say(fd, b"it is a form"),
+        Err(refusal) => say_no_form(fd, refusal.number),
     }
     say(fd, b"\n");
 }
@@ -91,13 +91,8 @@ fn say_declared(fd: Talk<'_>, form: &[u8], claim: &[u8], decl: u16, out: u32) {
 
 fn say_meant(fd: Talk<'_>, form: &[u8], claim: &[u8], row: u16) {
     match meaning_of(form, row) {
-        Meaning::At {
-            row: decl,
-            number: _,
-            out,
-            name: _,
-        } => say_declared(fd, form, claim, decl, out),
-        Meaning::Nowhere => say(fd, b"nothing"),
+        Some(Meaning { row: decl, out, .. }) => say_declared(fd, form, claim, decl, out),
+        None => say(fd, b"nothing"),
     }
 }
 

@@ -2,8 +2,8 @@
 use Rattle.ferhevok.proofs.Packs.{packs}
 use Rattle.ferhevok.proofs.packed_in.Goals as goal
 
-pub returns-in-Accepted : goal.returns-in-Accepted
-returns-in-Accepted c = search packs
+pub returns-in-Ok : goal.returns-in-Ok
+returns-in-Ok c = search packs
 
-pub returns-in-Refused : goal.returns-in-Refused
-returns-in-Refused c = search packs
+pub returns-in-Err : goal.returns-in-Err
+returns-in-Err c = search packs

@@ -2,8 +2,8 @@
 use Rattle.index.proofs.Laws.{ways}
 use Rattle.index.proofs.met_in.Goals as goal
 
-pub returns-in-At : goal.returns-in-At
-returns-in-At c = search ways
+pub returns-in-Some : goal.returns-in-Some
+returns-in-Some c = search ways
 
-pub returns-in-Nothing : goal.returns-in-Nothing
-returns-in-Nothing c = search ways
+pub returns-in-None : goal.returns-in-None
+returns-in-None c = search ways

@@ -8,5 +8,5 @@ returns-then-is_inserted_outer c = search final_ways
 pub returns-else-is_inserted_outer : goal.returns-else-is_inserted_outer
 returns-else-is_inserted_outer c = search final_ways
 
-pub returns-in-Nowhere : goal.returns-in-Nowhere
-returns-in-Nowhere c = search final_ways
+pub returns-in-None : goal.returns-in-None
+returns-in-None c = search final_ways

@@ -2,8 +2,8 @@
 use Rattle.meant.proofs.Ways.{found_ways}
 use Rattle.meant.proofs.in_member.Goals as goal
 
-pub returns-in-At : goal.returns-in-At
-returns-in-At c = search found_ways
+pub returns-in-Some : goal.returns-in-Some
+returns-in-Some c = search found_ways
 
-pub returns-in-Nowhere : goal.returns-in-Nowhere
-returns-in-Nowhere c = search found_ways
+pub returns-in-None : goal.returns-in-None
+returns-in-None c = search found_ways

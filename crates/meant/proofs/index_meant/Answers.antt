@@ -2,8 +2,8 @@
 use Rattle.meant.proofs.Ways.{index_ways}
 use Rattle.meant.proofs.index_meant.Goals as goal
 
-pub returns-in-At : goal.returns-in-At
-returns-in-At c = search index_ways
+pub returns-in-Some : goal.returns-in-Some
+returns-in-Some c = search index_ways
 
-pub returns-in-Nowhere : goal.returns-in-Nowhere
-returns-in-Nowhere c = search index_ways
+pub returns-in-None : goal.returns-in-None
+returns-in-None c = search index_ways

@@ -2,8 +2,8 @@
 use Rattle.meant.proofs.Ways.{ref_ways}
 use Rattle.meant.proofs.walked.Goals as goal
 
-pub returns-in-At : goal.returns-in-At
-returns-in-At c = search ref_ways
+pub returns-in-Some : goal.returns-in-Some
+returns-in-Some c = search ref_ways
 
-pub returns-in-Nowhere : goal.returns-in-Nowhere
-returns-in-Nowhere c = search ref_ways
+pub returns-in-None : goal.returns-in-None
+returns-in-None c = search ref_ways

@@ -2,8 +2,8 @@
 use Rattle.numbers.proofs.Ways.{ways}
 use Rattle.numbers.proofs.counted_entry.Goals as goal
 
-pub returns-in-At : goal.returns-in-At
-returns-in-At c = search ways
+pub returns-in-Some : goal.returns-in-Some
+returns-in-Some c = search ways
 
-pub returns-in-Nothing : goal.returns-in-Nothing
-returns-in-Nothing c = search ways
+pub returns-in-None : goal.returns-in-None
+returns-in-None c = search ways

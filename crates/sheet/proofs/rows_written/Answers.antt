@@ -2,8 +2,8 @@
 use Rattle.sheet.proofs.Ways.{ways}
 use Rattle.sheet.proofs.rows_written.Goals as goal
 
-pub returns-in-Accepted : goal.returns-in-Accepted
-returns-in-Accepted c = search ways
+pub returns-in-Ok : goal.returns-in-Ok
+returns-in-Ok c = search ways
 
 pub returns-then-refusal-eq0 : goal.returns-then-refusal-eq0
 returns-then-refusal-eq0 c = search ways

@@ -7,8 +7,8 @@ use Rattle.text.proofs.parse.Goals as goal
 pub loop-from-init : goal.loop-from-init
 loop-from-init c = (search (text_start, rules), search rules, search rules, search rules, search rules, search rules)
 
-pub returns-in-Wrong : goal.returns-in-Wrong
-returns-in-Wrong c = search (text_wrong, rules)
+pub returns-in-Err : goal.returns-in-Err
+returns-in-Err c = search (text_wrong, rules)
 
 pub returns-then-most-rows : goal.returns-then-most-rows
 returns-then-most-rows c = search (text_many, rules)
@@ -16,8 +16,8 @@ returns-then-most-rows c = search (text_many, rules)
 pub put_parts-requires : goal.put_parts-requires
 put_parts-requires c = search (row_room, rules)
 
-pub loop-from-preserved-in-Nothing : goal.loop-from-preserved-in-Nothing
-loop-from-preserved-in-Nothing c = (search text_ways, search rules, search rules, search rules, search rules, search rules)
+pub loop-from-preserved-in-Ok-None : goal.loop-from-preserved-in-Ok-None
+loop-from-preserved-in-Ok-None c = (search text_ways, search rules, search rules, search rules, search rules, search rules)
 
 pub loop-from-preserved : goal.loop-from-preserved
 loop-from-preserved c = (search text_ways, search rules, search rules, search rules, search rules, search rules)

@@ -5,8 +5,8 @@ use Rattle.anonymise.proofs.numbers.enter.Goals as goal
 pub returns-then-name-eq0 : goal.returns-then-name-eq0
 returns-then-name-eq0 c = search enters
 
-pub returns-in-At : goal.returns-in-At
-returns-in-At c = search enters
+pub returns-in-Some : goal.returns-in-Some
+returns-in-Some c = search enters
 
-pub returns-in-Nothing : goal.returns-in-Nothing
-returns-in-Nothing c = search enters
+pub returns-in-None : goal.returns-in-None
+returns-in-None c = search enters

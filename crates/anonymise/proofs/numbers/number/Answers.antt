@@ -8,8 +8,8 @@ returns-then-name-eq0 c = search numbers
 pub returns-then-name-ge-FIRST_FRESH : goal.returns-then-name-ge-FIRST_FRESH
 returns-then-name-ge-FIRST_FRESH c = search numbers
 
-pub returns-in-At : goal.returns-in-At
-returns-in-At c = search numbers
+pub returns-in-Some : goal.returns-in-Some
+returns-in-Some c = search numbers
 
-pub returns-in-Nothing : goal.returns-in-Nothing
-returns-in-Nothing c = search numbers
+pub returns-in-None : goal.returns-in-None
+returns-in-None c = search numbers

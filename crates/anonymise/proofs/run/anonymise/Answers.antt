@@ -5,11 +5,11 @@ use Rattle.anonymise.proofs.run.anonymise.Goals as goal
 pub run-requires : goal.run-requires
 run-requires c = search agrees
 
-pub returns-in-Wrong : goal.returns-in-Wrong
-returns-in-Wrong c = search agrees
+pub returns-in-Err-Wrong : goal.returns-in-Err-Wrong
+returns-in-Err-Wrong c = search agrees
 
-pub returns-in-Count : goal.returns-in-Count
-returns-in-Count c = search agrees
+pub returns-in-Err-Count : goal.returns-in-Err-Count
+returns-in-Err-Count c = search agrees
 
-pub returns-in-Rows : goal.returns-in-Rows
-returns-in-Rows c = search agrees
+pub returns-in-Ok : goal.returns-in-Ok
+returns-in-Ok c = search agrees

@@ -2,8 +2,8 @@
 use Rattle.claim_check.proofs.Ways.{seconds}
 use Rattle.claim_check.proofs.conditions.try_conditions.Goals as goal
 
-pub returns-in-Passes : goal.returns-in-Passes
-returns-in-Passes c = search seconds
+pub returns-in-Ok : goal.returns-in-Ok
+returns-in-Ok c = search seconds
 
-pub returns-in-Breaks : goal.returns-in-Breaks
-returns-in-Breaks c = search seconds
+pub returns-in-Err : goal.returns-in-Err
+returns-in-Err c = search seconds

@@ -3,17 +3,17 @@ use Rattle.claim_check.proofs.Agrees.{checked_yes, checked_no, checked_refused, 
 use borrow.Author.Rules.{rules}
 use Rattle.claim_check.proofs.run.check.Goals as goal
 
-pub returns-in-Yes : goal.returns-in-Yes
-returns-in-Yes c = let form = c.args.form.now in
+pub returns-in-Ok-Yes : goal.returns-in-Ok-Yes
+returns-in-Ok-Yes c = let form = c.args.form.now in
     let all = c.shared_slice_known-1.given in
     (search (checked_yes form all, rules), search (table_cleared, rules), search (index_cleared, rules))
 
-pub returns-in-No : goal.returns-in-No
-returns-in-No c = let form = c.args.form.now in
+pub returns-in-Ok-No : goal.returns-in-Ok-No
+returns-in-Ok-No c = let form = c.args.form.now in
     let all = c.shared_slice_known-1.given in
     (search (checked_no form all, rules), search (table_cleared, rules), search (index_cleared, rules))
 
-pub returns-in-Refused : goal.returns-in-Refused
-returns-in-Refused c = let form = c.args.form.now in
+pub returns-in-Err : goal.returns-in-Err
+returns-in-Err c = let form = c.args.form.now in
     let all = c.shared_slice_known-1.given in
     (search (checked_refused form all, rules), search (table_cleared, rules), search (index_cleared, rules))

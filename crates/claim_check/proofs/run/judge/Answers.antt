@@ -6,8 +6,8 @@ use Rattle.claim_check.proofs.run.judge.Goals as goal
 pub judge_steps-requires : goal.judge_steps-requires
 judge_steps-requires c = (search rules, search (input_long, rules))
 
-pub returns-in-Refused : goal.returns-in-Refused
-returns-in-Refused c = search judging
+pub returns-in-Err : goal.returns-in-Err
+returns-in-Err c = search judging
 
-pub returns-in-Whole : goal.returns-in-Whole
-returns-in-Whole c = search judging
+pub returns-in-Ok : goal.returns-in-Ok
+returns-in-Ok c = search judging

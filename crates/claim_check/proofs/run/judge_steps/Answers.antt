@@ -2,8 +2,8 @@
 use Rattle.claim_check.proofs.Runs.{judging}
 use Rattle.claim_check.proofs.run.judge_steps.Goals as goal
 
-pub returns-in-Refused : goal.returns-in-Refused
-returns-in-Refused c = search judging
+pub returns-in-Err : goal.returns-in-Err
+returns-in-Err c = search judging
 
-pub returns-in-Pass : goal.returns-in-Pass
-returns-in-Pass c = search judging
+pub returns-in-Ok : goal.returns-in-Ok
+returns-in-Ok c = search judging

@@ -11,8 +11,8 @@ returns-then-p-up c = search reaching
 pub returns-then-q-lt2 : goal.returns-then-q-lt2
 returns-then-q-lt2 c = search reaching
 
-pub returns-in-Value : goal.returns-in-Value
-returns-in-Value c = search reaching
+pub returns-in-Some : goal.returns-in-Some
+returns-in-Some c = search reaching
 
-pub returns-in-Nothing : goal.returns-in-Nothing
-returns-in-Nothing c = search reaching
+pub returns-in-None : goal.returns-in-None
+returns-in-None c = search reaching

@@ -8,8 +8,8 @@ returns-then-p-gt0 c = search outers
 pub returns-then-q-eq0 : goal.returns-then-q-eq0
 returns-then-q-eq0 c = search outers
 
-pub returns-in-Out : goal.returns-in-Out
-returns-in-Out c = search outers
+pub returns-in-Some : goal.returns-in-Some
+returns-in-Some c = search outers
 
-pub returns-in-Nowhere : goal.returns-in-Nowhere
-returns-in-Nowhere c = search outers
+pub returns-in-None : goal.returns-in-None
+returns-in-None c = search outers

@@ -2,8 +2,8 @@
 use Rattle.claim_operands.proofs.Ways.{pathing}
 use Rattle.claim_operands.proofs.reference.path_right.Goals as goal
 
-pub returns-in-Value : goal.returns-in-Value
-returns-in-Value c = search pathing
+pub returns-in-Some : goal.returns-in-Some
+returns-in-Some c = search pathing
 
-pub returns-in-Nothing : goal.returns-in-Nothing
-returns-in-Nothing c = search pathing
+pub returns-in-None : goal.returns-in-None
+returns-in-None c = search pathing

@@ -2,8 +2,8 @@
 use Rattle.claim_reach.proofs.Ways.{throughs}
 use Rattle.claim_reach.proofs.alias.through_export.Goals as goal
 
-pub returns-in-Value : goal.returns-in-Value
-returns-in-Value c = search throughs
+pub returns-in-Some : goal.returns-in-Some
+returns-in-Some c = search throughs
 
-pub returns-in-Nothing : goal.returns-in-Nothing
-returns-in-Nothing c = search throughs
+pub returns-in-None : goal.returns-in-None
+returns-in-None c = search throughs

@@ -6,8 +6,8 @@ use Rattle.claim_reach.proofs.outward.outward.Goals as goal
 pub loop-left-init : goal.loop-left-init
 loop-left-init c = (search turns, search rules)
 
-pub returns-in-Value : goal.returns-in-Value
-returns-in-Value c = search turns
+pub returns-in-Some : goal.returns-in-Some
+returns-in-Some c = search turns
 
 pub loop-left-preserved : goal.loop-left-preserved
 loop-left-preserved c = (search turns, search rules)

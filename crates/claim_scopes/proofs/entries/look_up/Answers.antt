@@ -5,8 +5,8 @@ use Rattle.claim_scopes.proofs.entries.look_up.Goals as goal
 pub find-requires : goal.find-requires
 find-requires c = search looks
 
-pub returns-in-At : goal.returns-in-At
-returns-in-At c = search looks
+pub returns-in-Some : goal.returns-in-Some
+returns-in-Some c = search looks
 
-pub returns-in-Nothing : goal.returns-in-Nothing
-returns-in-Nothing c = search looks
+pub returns-in-None : goal.returns-in-None
+returns-in-None c = search looks

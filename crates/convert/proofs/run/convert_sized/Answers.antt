@@ -11,5 +11,5 @@ returns-then-out-header c = search sized_ways
 pub convert_form-requires : goal.convert_form-requires
 convert_form-requires c = search sized_ways
 
-pub returns-in-Refused : goal.returns-in-Refused
-returns-in-Refused c = search sized_ways
+pub returns-in-Err : goal.returns-in-Err
+returns-in-Err c = search sized_ways

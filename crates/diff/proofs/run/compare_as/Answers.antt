@@ -6,11 +6,11 @@ use Rattle.diff.proofs.run.compare_as.Goals as goal
 pub list_forms-requires : goal.list_forms-requires
 list_forms-requires c = (search (whole_low, rules), search (whole_high, rules), search (whole_some, rules), search (whole_high, rules))
 
-pub returns-in-Refused : goal.returns-in-Refused
-returns-in-Refused c = search as_ways
+pub returns-in-Err : goal.returns-in-Err
+returns-in-Err c = search as_ways
 
-pub returns-in-Refused-read_claim : goal.returns-in-Refused-read_claim
-returns-in-Refused-read_claim c = search as_ways
+pub returns-in-Err-read_claim : goal.returns-in-Err-read_claim
+returns-in-Err-read_claim c = search as_ways
 
-pub returns-in-Whole-read_claim : goal.returns-in-Whole-read_claim
-returns-in-Whole-read_claim c = let right = c.shared_slice_known-2-1.given in search (as_ways, right)
+pub returns-in-Ok-read_claim : goal.returns-in-Ok-read_claim
+returns-in-Ok-read_claim c = let right = c.shared_slice_known-2-1.given in search (as_ways, right)

@@ -2,8 +2,8 @@
 use Rattle.ferhevok.proofs.Slots.{packs_slots}
 use Rattle.ferhevok.proofs.bindings.packed_slots.Goals as goal
 
-pub returns-in-Answered : goal.returns-in-Answered
-returns-in-Answered c = search packs_slots
+pub returns-in-Ok : goal.returns-in-Ok
+returns-in-Ok c = search packs_slots
 
-pub returns-in-Refused : goal.returns-in-Refused
-returns-in-Refused c = search packs_slots
+pub returns-in-Err : goal.returns-in-Err
+returns-in-Err c = search packs_slots

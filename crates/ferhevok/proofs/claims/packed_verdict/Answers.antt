@@ -2,11 +2,11 @@
 use Rattle.ferhevok.proofs.Verdicts.{verdicts}
 use Rattle.ferhevok.proofs.claims.packed_verdict.Goals as goal
 
-pub returns-in-Yes : goal.returns-in-Yes
-returns-in-Yes c = search verdicts
+pub returns-in-Ok-Yes : goal.returns-in-Ok-Yes
+returns-in-Ok-Yes c = search verdicts
 
-pub returns-in-No : goal.returns-in-No
-returns-in-No c = search verdicts
+pub returns-in-Ok-No : goal.returns-in-Ok-No
+returns-in-Ok-No c = search verdicts
 
-pub returns-in-Refused : goal.returns-in-Refused
-returns-in-Refused c = search verdicts
+pub returns-in-Err : goal.returns-in-Err
+returns-in-Err c = search verdicts

@@ -2,8 +2,8 @@
 use Rattle.ferhevok.proofs.Packs.{packs_mending}
 use Rattle.ferhevok.proofs.in_place.packed_in.Goals as goal
 
-pub returns-in-Mended : goal.returns-in-Mended
-returns-in-Mended c = search packs_mending
+pub returns-in-Ok : goal.returns-in-Ok
+returns-in-Ok c = search packs_mending
 
-pub returns-in-Refused : goal.returns-in-Refused
-returns-in-Refused c = search packs_mending
+pub returns-in-Err : goal.returns-in-Err
+returns-in-Err c = search packs_mending

@@ -2,8 +2,8 @@
 use Rattle.ferhevok.proofs.Declarations.{declarations}
 use Rattle.ferhevok.proofs.members.packed_declared.Goals as goal
 
-pub returns-in-Member : goal.returns-in-Member
-returns-in-Member c = search declarations
+pub returns-in-Some-Member : goal.returns-in-Some-Member
+returns-in-Some-Member c = search declarations
 
-pub returns-in-Prelude : goal.returns-in-Prelude
-returns-in-Prelude c = search declarations
+pub returns-in-Some-Prelude : goal.returns-in-Some-Prelude
+returns-in-Some-Prelude c = search declarations

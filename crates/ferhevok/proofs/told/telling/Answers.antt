@@ -3,8 +3,8 @@ use Rattle.ferhevok.proofs.Packs.{packs}
 use Rattle.ferhevok.proofs.Tells.{tell_ways}
 use Rattle.ferhevok.proofs.told.telling.Goals as goal
 
-pub returns-in-Accepted : goal.returns-in-Accepted
-returns-in-Accepted c = (search packs, search tell_ways)
+pub returns-in-Ok : goal.returns-in-Ok
+returns-in-Ok c = (search packs, search tell_ways)
 
-pub returns-in-Refused : goal.returns-in-Refused
-returns-in-Refused c = (search packs, search tell_ways)
+pub returns-in-Err : goal.returns-in-Err
+returns-in-Err c = (search packs, search tell_ways)

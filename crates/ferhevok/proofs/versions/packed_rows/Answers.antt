@@ -2,8 +2,8 @@
 use Rattle.ferhevok.proofs.Conversions.{rows}
 use Rattle.ferhevok.proofs.versions.packed_rows.Goals as goal
 
-pub returns-in-Converted : goal.returns-in-Converted
-returns-in-Converted c = search rows
+pub returns-in-Ok : goal.returns-in-Ok
+returns-in-Ok c = search rows
 
-pub returns-in-Refused : goal.returns-in-Refused
-returns-in-Refused c = search rows
+pub returns-in-Err : goal.returns-in-Err
+returns-in-Err c = search rows

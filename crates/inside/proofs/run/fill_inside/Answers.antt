@@ -6,8 +6,8 @@ use Rattle.inside.proofs.run.fill_inside.Goals as goal
 pub returns-then-front-header : goal.returns-then-front-header
 returns-then-front-header c = search ways
 
-pub returns-in-Refused : goal.returns-in-Refused
-returns-in-Refused c = search ways
+pub returns-in-Err : goal.returns-in-Err
+returns-in-Err c = search ways
 
-pub returns-in-Done : goal.returns-in-Done
-returns-in-Done c = search (fill_done, c.header_size-header.ensures.0, c.if-front-header.false, c.walk_inside.ensures, rules)
+pub returns-in-Ok : goal.returns-in-Ok
+returns-in-Ok c = search (fill_done, c.header_size-header.ensures.0, c.if-front-header.false, c.walk_inside.ensures, rules)

@@ -2,5 +2,5 @@
 use Rattle.meanings.proofs.EntryLaws.{told_ways}
 use Rattle.meanings.proofs.entries.told.Goals as goal
 
-pub returns-in-At : goal.returns-in-At
-returns-in-At c = search told_ways
+pub returns-in-Some : goal.returns-in-Some
+returns-in-Some c = search told_ways

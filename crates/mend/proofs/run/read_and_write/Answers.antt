@@ -12,11 +12,11 @@ slice_bounds-read_of-end-2 c = sym (length-take-le _ _ (omega arith))
 pub read_of-requires : goal.read_of-requires
 read_of-requires c = search (fits_head, rules)
 
-pub returns-in-Broken : goal.returns-in-Broken
-returns-in-Broken c = search (read_broken, rules)
+pub returns-in-Err-Broken : goal.returns-in-Err-Broken
+returns-in-Err-Broken c = search (read_broken, rules)
 
-pub returns-in-Deep : goal.returns-in-Deep
-returns-in-Deep c = search (read_deep, rules)
+pub returns-in-Err-Deep : goal.returns-in-Err-Deep
+returns-in-Err-Deep c = search (read_deep, rules)
 
-pub returns-in-Whole : goal.returns-in-Whole
-returns-in-Whole c = search (read_whole, rules)
+pub returns-in-Ok : goal.returns-in-Ok
+returns-in-Ok c = search (read_whole, rules)

@@ -2,11 +2,11 @@
 use Rattle.moved.proofs.Laws.{ways}
 use Rattle.moved.proofs.run.rows_asked.Goals as goal
 
-pub returns-in-Rows : goal.returns-in-Rows
-returns-in-Rows c = search ways
+pub returns-in-Ok : goal.returns-in-Ok
+returns-in-Ok c = search ways
 
-pub returns-in-Wrong : goal.returns-in-Wrong
-returns-in-Wrong c = search ways
+pub returns-in-Err-Wrong : goal.returns-in-Err-Wrong
+returns-in-Err-Wrong c = search ways
 
-pub returns-in-Count : goal.returns-in-Count
-returns-in-Count c = search ways
+pub returns-in-Err-Count : goal.returns-in-Err-Count
+returns-in-Err-Count c = search ways

@@ -13,8 +13,8 @@ returns-in_default c = (search ways, search grows)
 pub first_place-requires : goal.first_place-requires
 first_place-requires c = search grows
 
-pub returns-in-At : goal.returns-in-At
-returns-in-At c = (search ways, search grows)
+pub returns-in-Some : goal.returns-in-Some
+returns-in-Some c = (search ways, search grows)
 
 pub push-count-requires : goal.push-count-requires
 push-count-requires c = search grows

@@ -22,8 +22,8 @@ row_number-next-requires c = search grows
 pub loop-turns-preserved : goal.loop-turns-preserved
 loop-turns-preserved c = (search ways, search grows, search rules, search rules)
 
-pub returns-in-Twice : goal.returns-in-Twice
-returns-in-Twice c = (search ways, search grows)
+pub returns-in-Err : goal.returns-in-Err
+returns-in-Err c = (search ways, search grows)
 
 pub returns : goal.returns
 returns c = (search ways, search grows)

@@ -8,11 +8,11 @@ find-requires c = search ways
 pub enum_told-1 : goal.enum_told-1
 enum_told-1 c = search ways
 
-pub enum_told-in-Nothing : goal.enum_told-in-Nothing
-enum_told-in-Nothing c = search ways
+pub enum_told-in-None : goal.enum_told-in-None
+enum_told-in-None c = search ways
 
-pub returns-in-At : goal.returns-in-At
-returns-in-At c = search ways
+pub returns-in-Some : goal.returns-in-Some
+returns-in-Some c = search ways
 
-pub returns-in-Nothing : goal.returns-in-Nothing
-returns-in-Nothing c = search ways
+pub returns-in-None : goal.returns-in-None
+returns-in-None c = search ways

@@ -10,8 +10,8 @@ plan_insertions-planned-requires c = search grows
 pub plan_decls-requires : goal.plan_decls-requires
 plan_decls-requires c = search grows
 
-pub returns-in-Refused : goal.returns-in-Refused
-returns-in-Refused c = (search ways, search grows)
+pub returns-in-Err : goal.returns-in-Err
+returns-in-Err c = (search ways, search grows)
 
-pub returns-in-Done : goal.returns-in-Done
-returns-in-Done c = (search ways, search grows)
+pub returns-in-Ok : goal.returns-in-Ok
+returns-in-Ok c = (search ways, search grows)

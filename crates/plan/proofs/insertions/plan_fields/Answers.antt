@@ -19,8 +19,8 @@ plan_next-planned-requires c = search grows
 pub loop-turns-preserved : goal.loop-turns-preserved
 loop-turns-preserved c = (search fields_turn, search grows, search rules, search rules, search rules)
 
-pub returns-in-Refused : goal.returns-in-Refused
-returns-in-Refused c = (search fields_stop, search grows)
+pub returns-in-Err : goal.returns-in-Err
+returns-in-Err c = (search fields_stop, search grows)
 
 pub returns : goal.returns
 returns c = (search fields_end, search grows)

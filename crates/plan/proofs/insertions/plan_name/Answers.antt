@@ -21,8 +21,8 @@ outward-requires c = search grows
 pub plan_outer-requires : goal.plan_outer-requires
 plan_outer-requires c = search grows
 
-pub returns-in-Nowhere : goal.returns-in-Nowhere
-returns-in-Nowhere c = (search ways, search grows)
+pub returns-in-None : goal.returns-in-None
+returns-in-None c = (search ways, search grows)
 
-pub returns-in-At : goal.returns-in-At
-returns-in-At c = (search ways, search grows)
+pub returns-in-Some : goal.returns-in-Some
+returns-in-Some c = (search ways, search grows)

@@ -13,11 +13,11 @@ ref_or_open_at-requires c = search grows
 pub plan_row-planned-requires : goal.plan_row-planned-requires
 plan_row-planned-requires c = search grows
 
-pub loop-i-preserved-in-Done : goal.loop-i-preserved-in-Done
-loop-i-preserved-in-Done c = (search operands_turn, search grows, search rules, search rules, search rules)
+pub loop-i-preserved-in-Ok : goal.loop-i-preserved-in-Ok
+loop-i-preserved-in-Ok c = (search operands_turn, search grows, search rules, search rules, search rules)
 
-pub returns-in-Refused : goal.returns-in-Refused
-returns-in-Refused c = (search operands_stop, search grows)
+pub returns-in-Err : goal.returns-in-Err
+returns-in-Err c = (search operands_stop, search grows)
 
 pub returns-in-Open : goal.returns-in-Open
 returns-in-Open c = (search operands_open, search grows)

@@ -18,17 +18,17 @@ header_to-requires c = search ways
 pub enum_told-1 : goal.enum_told-1
 enum_told-1 c = search ways
 
-pub returns-in-Rows : goal.returns-in-Rows
-returns-in-Rows c = search ways
+pub returns-in-Ok : goal.returns-in-Ok
+returns-in-Ok c = search ways
 
-pub enum_told-in-Count : goal.enum_told-in-Count
-enum_told-in-Count c = search ways
+pub enum_told-in-Err-Count : goal.enum_told-in-Err-Count
+enum_told-in-Err-Count c = search ways
 
-pub returns-in-Count : goal.returns-in-Count
-returns-in-Count c = search ways
+pub returns-in-Err-Count : goal.returns-in-Err-Count
+returns-in-Err-Count c = search ways
 
-pub enum_told-in-Wrong : goal.enum_told-in-Wrong
-enum_told-in-Wrong c = search ways
+pub enum_told-in-Err-Wrong : goal.enum_told-in-Err-Wrong
+enum_told-in-Err-Wrong c = search ways
 
 pub loop-next-smaller : goal.loop-next-smaller
 loop-next-smaller c = search ways

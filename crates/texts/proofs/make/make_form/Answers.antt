@@ -2,8 +2,8 @@
 use Rattle.texts.proofs.Laws.{made_ways}
 use Rattle.texts.proofs.make.make_form.Goals as goal
 
-pub returns-in-Rows : goal.returns-in-Rows
-returns-in-Rows c = search made_ways
+pub returns-in-Ok : goal.returns-in-Ok
+returns-in-Ok c = search made_ways
 
-pub returns-in-Wrong : goal.returns-in-Wrong
-returns-in-Wrong c = search made_ways
+pub returns-in-Err : goal.returns-in-Err
+returns-in-Err c = search made_ways

@@ -11,8 +11,8 @@ slice_bounds-give-start c = search running
 pub give-requires : goal.give-requires
 give-requires c = (search running, search running)
 
-pub returns-in-Nothing : goal.returns-in-Nothing
-returns-in-Nothing c = (search running, search running)
+pub returns-in-None : goal.returns-in-None
+returns-in-None c = (search running, search running)
 
-pub returns-in-From : goal.returns-in-From
-returns-in-From c = (search running, search running)
+pub returns-in-Some : goal.returns-in-Some
+returns-in-Some c = (search running, search running)

@@ -9,8 +9,8 @@ write_fresh-requires c = search opens
 pub write_own-requires : goal.write_own-requires
 write_own-requires c = search opens
 
-pub returns-in-Refused : goal.returns-in-Refused
-returns-in-Refused c = search ways
+pub returns-in-Err : goal.returns-in-Err
+returns-in-Err c = search ways
 
-pub returns-in-Done : goal.returns-in-Done
-returns-in-Done c = search ways
+pub returns-in-Ok : goal.returns-in-Ok
+returns-in-Ok c = search ways

@@ -6,11 +6,11 @@ use Rattle.whole_form.proofs.asked.asked_as.Goals as goal
 pub loop-next-init : goal.loop-next-init
 loop-next-init c = search asked_ways
 
-pub returns-in-Rows : goal.returns-in-Rows
-returns-in-Rows c = search asked_ways
+pub returns-in-Ok : goal.returns-in-Ok
+returns-in-Ok c = search asked_ways
 
-pub returns-in-Count : goal.returns-in-Count
-returns-in-Count c = search asked_ways
+pub returns-in-Err-Count : goal.returns-in-Err-Count
+returns-in-Err-Count c = search asked_ways
 
 pub loop-next-preserved : goal.loop-next-preserved
 loop-next-preserved c = search asked_ways

@@ -2,11 +2,11 @@
 use Rattle.whole_form.proofs.Ways.{read_ways}
 use Rattle.whole_form.proofs.read.read_rows.Goals as goal
 
-pub returns-in-Broken : goal.returns-in-Broken
-returns-in-Broken c = search read_ways
+pub returns-in-Err-Broken : goal.returns-in-Err-Broken
+returns-in-Err-Broken c = search read_ways
 
-pub returns-in-Deep : goal.returns-in-Deep
-returns-in-Deep c = search read_ways
+pub returns-in-Err-Deep : goal.returns-in-Err-Deep
+returns-in-Err-Deep c = search read_ways
 
-pub returns-in-Whole : goal.returns-in-Whole
-returns-in-Whole c = search read_ways
+pub returns-in-Ok : goal.returns-in-Ok
+returns-in-Ok c = search read_ways

@@ -6,14 +6,14 @@ use Rattle.write.proofs.alias.write_alias.Goals as goal
 pub number_in-requires : goal.number_in-requires
 number_in-requires c = search serves
 
-pub returns-in-Late : goal.returns-in-Late
-returns-in-Late c = search ways
+pub returns-in-Err-Late : goal.returns-in-Err-Late
+returns-in-Err-Late c = search ways
 
-pub returns-in-Nothing : goal.returns-in-Nothing
-returns-in-Nothing c = search ways
+pub returns-in-Err-Nothing : goal.returns-in-Err-Nothing
+returns-in-Err-Nothing c = search ways
 
-pub returns-in-At : goal.returns-in-At
-returns-in-At c = search ways
+pub returns-in-Ok : goal.returns-in-Ok
+returns-in-Ok c = search ways
 
 pub returns-then-not-is_inserted : goal.returns-then-not-is_inserted
 returns-then-not-is_inserted c = search ways

@@ -28,20 +28,20 @@ write_alias-walked-requires c = search ways
 pub enum_known-walked : goal.enum_known-walked
 enum_known-walked c = search ways
 
-pub loop-i-smaller-in-Done : goal.loop-i-smaller-in-Done
-loop-i-smaller-in-Done c = search ways
+pub loop-i-smaller-in-Ok : goal.loop-i-smaller-in-Ok
+loop-i-smaller-in-Ok c = search ways
 
-pub loop-i-preserved-in-Done : goal.loop-i-preserved-in-Done
-loop-i-preserved-in-Done c = (search aliases_turn, search rules)
+pub loop-i-preserved-in-Ok : goal.loop-i-preserved-in-Ok
+loop-i-preserved-in-Ok c = (search aliases_turn, search rules)
 
 pub enum_told-1 : goal.enum_told-1
 enum_told-1 c = search ways
 
-pub shape_of-out-in-Refused : goal.shape_of-out-in-Refused
-shape_of-out-in-Refused c = search ways
+pub shape_of-out-in-Err : goal.shape_of-out-in-Err
+shape_of-out-in-Err c = search ways
 
-pub returns-in-Refused : goal.returns-in-Refused
-returns-in-Refused c = search ways
+pub returns-in-Err : goal.returns-in-Err
+returns-in-Err c = search ways
 
 pub enum_told-in-Open : goal.enum_told-in-Open
 enum_told-in-Open c = search ways

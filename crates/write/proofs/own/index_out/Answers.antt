@@ -9,11 +9,11 @@ returns-then-depth-far c = search ways
 pub number_in-requires : goal.number_in-requires
 number_in-requires c = search serves
 
-pub returns-in-At : goal.returns-in-At
-returns-in-At c = search ways
+pub returns-in-Ok : goal.returns-in-Ok
+returns-in-Ok c = search ways
 
-pub returns-in-Late : goal.returns-in-Late
-returns-in-Late c = search ways
+pub returns-in-Err-Late : goal.returns-in-Err-Late
+returns-in-Err-Late c = search ways
 
-pub returns-in-Nothing : goal.returns-in-Nothing
-returns-in-Nothing c = search ways
+pub returns-in-Err-Nothing : goal.returns-in-Err-Nothing
+returns-in-Err-Nothing c = search ways

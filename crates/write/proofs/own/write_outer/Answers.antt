@@ -2,8 +2,8 @@
 use Rattle.write.proofs.LawsOwn.{ways}
 use Rattle.write.proofs.own.write_outer.Goals as goal
 
-pub returns-in-Refused : goal.returns-in-Refused
-returns-in-Refused c = search ways
+pub returns-in-Err : goal.returns-in-Err
+returns-in-Err c = search ways
 
-pub returns-in-Is : goal.returns-in-Is
-returns-in-Is c = search ways
+pub returns-in-Ok : goal.returns-in-Ok
+returns-in-Ok c = search ways

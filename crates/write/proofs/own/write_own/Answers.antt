@@ -9,10 +9,10 @@ pub write_rows-walked-requires : goal.write_rows-walked-requires
 write_rows-walked-requires c = (c.requires.0, seen_same _ _ _ _ (ap (λ x. x.seen) c.unseen.ensures) c.requires.1)
 
 pub leave-requires : goal.leave-requires
-leave-requires c = (seen_done _ _ _ _ c.in-Done.is c.write_rows-walked.ensures.1, search rules)
+leave-requires c = (seen_done _ _ _ _ c.in-Ok.is c.write_rows-walked.ensures.1, search rules)
 
-pub returns-in-Refused : goal.returns-in-Refused
-returns-in-Refused c = (own_as _ _ _ _ _ c.args.s _ c.unseen.ensures _ _ _ c.write_rows-walked.ensures.0 _ refl, search stopped)
+pub returns-in-Err : goal.returns-in-Err
+returns-in-Err c = (own_as _ _ _ _ _ c.args.s _ c.unseen.ensures _ _ _ c.write_rows-walked.ensures.0 _ refl, search stopped)
 
-pub returns-in-Done : goal.returns-in-Done
-returns-in-Done c = (own_as _ _ _ _ _ c.args.s _ c.unseen.ensures _ _ _ c.write_rows-walked.ensures.0 _ c.in-Done.is, c.leave.ensures)
+pub returns-in-Ok : goal.returns-in-Ok
+returns-in-Ok c = (own_as _ _ _ _ _ c.args.s _ c.unseen.ensures _ _ _ c.write_rows-walked.ensures.0 _ c.in-Ok.is, c.leave.ensures)
