@@ -138,7 +138,7 @@ fn judge_lent(
     i: usize,
     table: &mut [Slot],
     index: &mut [u16],
-) -> Result<Result<Verdict, Refusal>, Refusal>
+) -> Result<Verdict, Refusal>
     requires { (slots_of (version_of i) ≤ length table.old) × (links_of (version_of i) ≤ length index.old) × ((version_of i).header ≤ length form.now) }
     ensures value { result ≡ claim_by i form.now claim.now (slots_of (version_of i)) (form_of (read_form (as_claimed (setting i)) claim.now)) }
     ensures table_after { (table.new ≡ cleared empty_slot (slots_of (version_of i)) table.old) × (index.new ≡ cleared 0 (links_of (version_of i)) index.old) }
@@ -180,7 +180,7 @@ pub fn check_with(
     known: &mut [u16],
     chains: &mut [u16],
     ends: &mut [u32],
-) -> Result<Result<Verdict, Refusal>, Refusal>
+) -> Result<Verdict, Refusal>
     ensures result_value { meaning result ≡ ruled (check_with form.now claim.now (length table.old) (length index.old) (lent_of entered.old names.old known.old chains.old ends.old)) }
     ensures table_after { (table.new ≡ table_after all form.now table.old) × (index.new ≡ index_after all form.now index.old) }
     ensures cleared { Cleared (asked form.now).version entered.old entered.new names.old names.new known.old known.new chains.old chains.new ends.old ends.new }

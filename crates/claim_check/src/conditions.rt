@@ -12,7 +12,7 @@ use claim_rows::same::try_rows;
 use names::Slot;
 
 // The condition is broken, first at this row.
-fn no(condition: u8, row: usize) -> Result<Result<Verdict, Refusal>, Refusal>
+fn no(condition: u8, row: usize) -> Result<Verdict, Refusal>
     ensures { result ≡ no_t condition row }
 {
     Ok(Verdict::No {
@@ -26,7 +26,7 @@ fn try_fourth(
     claim: &[u8],
     table: &mut [Slot],
     index: &mut [u16],
-) -> Result<Result<Verdict, Refusal>, Refusal>
+) -> Result<Verdict, Refusal>
     requires { Fit (length table.old) (length index.old) }
     ensures { result ≡ fourth_t input.now claim.now (length table.old) }
 {
@@ -43,7 +43,7 @@ fn try_third(
     claim: &[u8],
     table: &mut [Slot],
     index: &mut [u16],
-) -> Result<Result<Verdict, Refusal>, Refusal>
+) -> Result<Verdict, Refusal>
     requires { Fit (length table.old) (length index.old) }
     ensures { result ≡ third_t input.now claim.now (length table.old) }
 {
@@ -59,7 +59,7 @@ pub(crate) fn try_conditions(
     claim: &[u8],
     table: &mut [Slot],
     index: &mut [u16],
-) -> Result<Result<Verdict, Refusal>, Refusal>
+) -> Result<Verdict, Refusal>
     requires { Fit (length table.old) (length index.old) }
     ensures { result ≡ conditions_t input.now claim.now (length table.old) }
 {

@@ -64,7 +64,7 @@ fn judge_rows(
     i: usize,
     table: &mut [Slot],
     index: &mut [u16],
-) -> Result<Result<Verdict, Refusal>, Refusal>
+) -> Result<Verdict, Refusal>
     requires { Fit (length table.old) (length index.old) × ((version_of i).header ≤ length form.now) × ((version_of i).header ≤ length claim.now) }
     ensures { result ≡ conditions_t (body_of i form.now) (body_of i claim.now) (length table.old) }
 {
@@ -79,7 +79,7 @@ pub fn judge_claim(
     i: usize,
     table: &mut [Slot],
     index: &mut [u16],
-) -> Result<Result<Verdict, Refusal>, Refusal>
+) -> Result<Verdict, Refusal>
     requires { Fit (length table.old) (length index.old) × ((version_of i).header ≤ length form.now) }
     ensures { result ≡ claim_by i form.now claim.now (length table.old) (form_of (read_form (as_claimed (setting i)) claim.now)) }
 {
@@ -99,7 +99,7 @@ fn judge_steps(
     i: usize,
     table: &mut [Slot],
     index: &mut [u16],
-) -> Result<Result<Verdict, Refusal>, Refusal>
+) -> Result<Verdict, Refusal>
     requires { Fit (length table.old) (length index.old) × ((version_of i).header ≤ length form.now) }
     ensures { result ≡ steps_by i form.now claim.now (length table.old) (steps_t (body_of i form.now)) }
 {
@@ -117,7 +117,7 @@ fn judge(
     i: usize,
     table: &mut [Slot],
     index: &mut [u16],
-) -> Result<Result<Verdict, Refusal>, Refusal>
+) -> Result<Verdict, Refusal>
     requires { Fit (length table.old) (length index.old) }
     ensures { result ≡ judge_t i form.now claim.now (length table.old) }
 {
@@ -130,14 +130,14 @@ fn judge(
 // ---- in areas of any size
 
 // A refusal whose number document 01 gives, at place 0.
-fn refused(number: u32) -> Result<Result<Verdict, Refusal>, Refusal>
+fn refused(number: u32) -> Result<Verdict, Refusal>
     ensures { result ≡ refused_t number 0 }
 {
     Err(Refusal { number, place: 0 })
 }
 
 // An area is too small: that comes after a wrong header and a wrong row count of the input.
-pub fn refuse_small(form: &[u8], i: usize) -> Result<Result<Verdict, Refusal>, Refusal>
+pub fn refuse_small(form: &[u8], i: usize) -> Result<Verdict, Refusal>
     ensures { result ≡ small_t i form.now }
 {
     match header_to(form, of_input(i)) {
@@ -154,7 +154,7 @@ fn decide(
     i: usize,
     table: &mut [Slot],
     index: &mut [u16],
-) -> Result<Result<Verdict, Refusal>, Refusal>
+) -> Result<Verdict, Refusal>
     ensures { (result ≡ decide_t i form.now claim.now (length table.old) (length index.old)) × Kept (slots_of (version_of i)) table.old table.new × Kept (links_of (version_of i)) index.old index.new }
 {
     let most = slots(i);
@@ -183,7 +183,7 @@ pub fn check(
     claim: &[u8],
     table: &mut [Slot],
     index: &mut [u16],
-) -> Result<Result<Verdict, Refusal>, Refusal>
+) -> Result<Verdict, Refusal>
     ensures { (meaning result ≡ ruled (check_answer base form.now claim.now (length table.old) (length index.old))) × (table.new ≡ table_after base form.now table.old) × (index.new ≡ index_after base form.now index.old) }
 {
     match decide(form, claim, FIRST, table, index) {

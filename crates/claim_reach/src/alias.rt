@@ -71,7 +71,7 @@ fn export_code(space: u8) -> u8
 }
 
 // How far out the alias whose DECL is that row leads, and the number there, if it is one of an outer item.
-fn outer_at(claim: &[u8], row: u32) -> Option<Option<Met>>
+fn outer_at(claim: &[u8], row: u32) -> Option<Met>
     ensures { result ≡ outer_at claim.now row }
 {
     let i = row as usize;
@@ -100,7 +100,7 @@ fn export_at(claim: &[u8], row: u32, space: u8, name: u32) -> Option<u32>
 }
 
 // What is reached through one added outer alias: how far out, and the number there.
-pub fn through_outer(claim: &[u8], table: &[Slot], index: &[u16], s: Sought) -> Option<Option<Met>>
+pub fn through_outer(claim: &[u8], table: &[Slot], index: &[u16], s: Sought) -> Option<Met>
     requires { Holds table.now index.now s.used }
     ensures { result ≡ through_outer_t (take s.used table.now) claim.now s }
 {

@@ -16,7 +16,7 @@ pub fn outward(
     depth: usize,
     space: u8,
     name: u32,
-) -> Option<Option<Met>>
+) -> Option<Met>
     requires { Holds table.now index.now used }
     ensures { result ≡ reach_out_t (take used table.now) (open_in scopes.now depth) 1 space name }
 {

@@ -98,7 +98,7 @@ fn say_verdict(
 // ---- the run
 
 // The areas have the sizes of version 1.
-fn verdict_on(form: &[u8], claim: &[u8]) -> Result<Result<Verdict, Refusal>, Refusal> {
+fn verdict_on(form: &[u8], claim: &[u8]) -> Result<Verdict, Refusal> {
     let mut table: [Slot; 2046] = [[0u32; 6]; 2046];
     let mut index = [0u16; 3070];
     check(form, claim, &mut table, &mut index)

@@ -25,7 +25,7 @@ pub(crate) fn told(meaning: Option<Meaning>) -> Entry
 }
 
 // The meaning that an entry tells.
-pub(crate) fn read(entry: Entry) -> Option<Option<Meaning>>
+pub(crate) fn read(entry: Entry) -> Option<Meaning>
     ensures { result ≡ read entry }
 {
     let behind = entry[0];

@@ -77,7 +77,7 @@ fn is_noted(form: &[u8], entries: &[Entry], row: u16) -> bool
 }
 
 // What a reference means: by its entry, and without one by the readings.
-pub fn meaning_at(form: &[u8], entries: &[Entry], row: u16) -> Option<Option<Meaning>>
+pub fn meaning_at(form: &[u8], entries: &[Entry], row: u16) -> Option<Meaning>
     ensures { result ≡ meaning_at form.now entries.now row }
 {
     if is_noted(form, entries, row) {
@@ -100,7 +100,7 @@ pub fn number_at(form: &[u8], entries: &[Entry], row: u16) -> u32
 }
 
 // What a reference means in the end: behind an inserted outer alias, what its OUTER means.
-pub fn final_at(form: &[u8], entries: &[Entry], row: u16) -> Option<Option<Meaning>>
+pub fn final_at(form: &[u8], entries: &[Entry], row: u16) -> Option<Meaning>
     ensures { result ≡ final_at form.now entries.now row }
 {
     match meaning_at(form, entries, row) {

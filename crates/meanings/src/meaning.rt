@@ -16,7 +16,7 @@ pub(crate) fn meant_by(
     names: &[u16],
     numbers: &[u16],
     row: u16,
-) -> Option<Option<Meaning>>
+) -> Option<Meaning>
     requires { Tabled form.now known.now names.now numbers.now × (row < rows_in form.now) }
     ensures { result ≡ meant_by form.now row }
 {

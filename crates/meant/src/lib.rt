@@ -27,7 +27,7 @@ const ROOT: u16 = 1;
 // ---- in one form
 
 // What a name means that is looked for in the member alone.
-fn in_member(meaning: Option<Meaning>) -> Option<Option<Declared>>
+fn in_member(meaning: Option<Meaning>) -> Option<Declared>
     ensures { result ≡ in_member meaning }
 {
     match meaning {
@@ -37,7 +37,7 @@ fn in_member(meaning: Option<Meaning>) -> Option<Option<Declared>>
 }
 
 // What a name means in the prelude's root.
-fn in_root(prelude: &[u8], space: u8, name: u32) -> Option<Option<Declared>>
+fn in_root(prelude: &[u8], space: u8, name: u32) -> Option<Declared>
     ensures { result ≡ in_root prelude.now space name }
 {
     match find(prelude, ROOT, space, Key::Name(name)) {
@@ -49,7 +49,7 @@ fn in_root(prelude: &[u8], space: u8, name: u32) -> Option<Option<Declared>>
 // ---- references
 
 // A walked name: the member's scopes around it, and then the prelude's root.
-fn walked(prelude: &[u8], member: &[u8], row: u16) -> Option<Option<Declared>>
+fn walked(prelude: &[u8], member: &[u8], row: u16) -> Option<Declared>
     ensures { result ≡ walked_meant_t prelude.now member.now row }
 {
     match meaning_of(member, row) {
@@ -59,7 +59,7 @@ fn walked(prelude: &[u8], member: &[u8], row: u16) -> Option<Option<Declared>>
 }
 
 // A REF: a name that is not walked means what its own scope declares, and a number means nothing here.
-fn ref_meant(prelude: &[u8], member: &[u8], row: u16) -> Option<Option<Declared>>
+fn ref_meant(prelude: &[u8], member: &[u8], row: u16) -> Option<Declared>
     ensures { result ≡ ref_meant_t prelude.now member.now row }
 {
     match reading_of(member, row) {
@@ -109,7 +109,7 @@ fn is_root(prelude: &[u8], member: &[u8], row: u16, wanted: Wanted) -> bool
 }
 
 // A name that one scope of the member declares.
-fn in_scope(member: &[u8], scope: u16, space: u8, name: u32) -> Option<Option<Declared>>
+fn in_scope(member: &[u8], scope: u16, space: u8, name: u32) -> Option<Declared>
     ensures { result ≡ scope_meant member.now scope space name }
 {
     match find(member, scope, space, Key::Name(name)) {
@@ -119,7 +119,7 @@ fn in_scope(member: &[u8], scope: u16, space: u8, name: u32) -> Option<Option<De
 }
 
 // A named index where no scope of the member is the one asked for.
-fn behind(prelude: &[u8], member: &[u8], row: u16, wanted: Wanted) -> Option<Option<Declared>>
+fn behind(prelude: &[u8], member: &[u8], row: u16, wanted: Wanted) -> Option<Declared>
     ensures { result ≡ meant_behind_t prelude.now member.now row wanted }
 {
     if is_root(prelude, member, row, wanted) {
@@ -129,7 +129,7 @@ fn behind(prelude: &[u8], member: &[u8], row: u16, wanted: Wanted) -> Option<Opt
 }
 
 // A named index: what the scope declares that is asked for.
-fn index_meant(prelude: &[u8], member: &[u8], row: u16) -> Option<Option<Declared>>
+fn index_meant(prelude: &[u8], member: &[u8], row: u16) -> Option<Declared>
     ensures { result ≡ index_meant_t prelude.now member.now row }
 {
     let wanted = outer_wanted(e_at(member, row), x_at(member, row));
@@ -142,7 +142,7 @@ fn index_meant(prelude: &[u8], member: &[u8], row: u16) -> Option<Option<Declare
 // ---- any row
 
 // What the name in a row means; rows without one mean nothing, and so does an OUTER whose index is a number.
-fn name_meant(prelude: &[u8], member: &[u8], row: u16) -> Option<Option<Declared>>
+fn name_meant(prelude: &[u8], member: &[u8], row: u16) -> Option<Declared>
     ensures { result ≡ name_meant_t prelude.now member.now row }
 {
     let code = code_at(member, row);
@@ -172,7 +172,7 @@ fn part_of(form: &[u8]) -> &[u8]
 }
 
 // Which declaration the name in a row of the member means, and in which of the two forms it stands.
-pub fn meant_at(prelude: &[u8], member: &[u8], row: u16) -> Option<Option<Declared>>
+pub fn meant_at(prelude: &[u8], member: &[u8], row: u16) -> Option<Declared>
     ensures { result ≡ meant_t prelude.now member.now row }
 {
     name_meant(part_of(prelude), part_of(member), row)

@@ -91,7 +91,7 @@ fn is_pushed(out: &[u8], scope: u16, n: Number) -> bool
 }
 
 // A number that meant something in the input, in its scope of the output.
-fn gets_entry(out: &[u8], scope: u16, n: Number, meant: u16) -> Option<Option<Entry>>
+fn gets_entry(out: &[u8], scope: u16, n: Number, meant: u16) -> Option<Entry>
     ensures { result ≡ gets_entry out.now scope n meant }
 {
     if is_pushed(out, scope, n) {
@@ -110,7 +110,7 @@ fn gets_entry(out: &[u8], scope: u16, n: Number, meant: u16) -> Option<Option<En
 }
 
 // The same, this many scopes out from a row of the output.
-fn output_entry(out: &[u8], at: u16, away: u32, n: Number, meant: u16) -> Option<Option<Entry>>
+fn output_entry(out: &[u8], at: u16, away: u32, n: Number, meant: u16) -> Option<Entry>
     ensures { result ≡ output_entry out.now at away n meant }
 {
     match scope_outward(out, scope_of(out, at), Wanted::Out(away)) {
@@ -127,7 +127,7 @@ fn counted_entry(
     n: Number,
     out: &[u8],
     at: u16,
-) -> Option<Option<Entry>>
+) -> Option<Entry>
     ensures { result ≡ counted_entry form.now scope away n out.now at }
 {
     match find(form, scope, n.space, Key::Number(n.number)) {
@@ -142,7 +142,7 @@ fn counted_entry(
 
 // What is listed of a row of the input, where `at` is a row of the output in the same scope. A number whose scope does not exist is not
 // listed.
-pub fn entry_at(form: &[u8], row: u16, out: &[u8], at: u16) -> Option<Option<Entry>>
+pub fn entry_at(form: &[u8], row: u16, out: &[u8], at: u16) -> Option<Entry>
     ensures { result ≡ entry_at form.now row out.now at }
 {
     if is_written(form, row) {

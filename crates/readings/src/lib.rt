@@ -58,7 +58,7 @@ pub fn is_outward(form: &[u8], row: u16) -> bool
 }
 
 // What was found, `out` scopes out.
-fn meant(form: &[u8], found: Option<Found>, out: u32) -> Option<Option<Meaning>>
+fn meant(form: &[u8], found: Option<Found>, out: u32) -> Option<Meaning>
     ensures { result ≡ meant form.now found out }
 {
     match found {
@@ -81,7 +81,7 @@ fn outward(
     row: u16,
     space: u8,
     name: u32,
-) -> Option<Option<Meaning>>
+) -> Option<Meaning>
     requires { Known form.now known.now names.now numbers.now }
     ensures { result ≡ outward_for form.now row space name }
 {
@@ -109,7 +109,7 @@ pub fn through_outer_with(
     names: &[u16],
     numbers: &[u16],
     row: u16,
-) -> Option<Option<Meaning>>
+) -> Option<Meaning>
     requires { Known form.now known.now names.now numbers.now }
     ensures { result ≡ through_outer form.now row }
 {
@@ -147,7 +147,7 @@ pub fn meaning_with(
     names: &[u16],
     numbers: &[u16],
     row: u16,
-) -> Option<Option<Meaning>>
+) -> Option<Meaning>
     requires { Known form.now known.now names.now numbers.now }
     ensures { result ≡ meaning_of form.now row }
 {
@@ -174,21 +174,21 @@ pub fn meaning_with(
 }
 
 // The declaration at an OUTER's index in its outer scope.
-pub fn through_outer(form: &[u8], row: u16) -> Option<Option<Meaning>>
+pub fn through_outer(form: &[u8], row: u16) -> Option<Meaning>
     ensures { result ≡ through_outer form.now row }
 {
     through_outer_with(form, &[], &[], &[], row)
 }
 
 // The declaration that a REF or an OUTER means; a number counts in its own scope, and no alias is followed.
-pub fn meaning_of(form: &[u8], row: u16) -> Option<Option<Meaning>>
+pub fn meaning_of(form: &[u8], row: u16) -> Option<Meaning>
     ensures { result ≡ meaning_of form.now row }
 {
     meaning_with(form, &[], &[], &[], row)
 }
 
 // What a reference means in the end: behind an inserted outer alias, the declaration that the alias's OUTER counts to.
-pub fn final_meaning(form: &[u8], row: u16) -> Option<Option<Meaning>>
+pub fn final_meaning(form: &[u8], row: u16) -> Option<Meaning>
     ensures { result ≡ final_meaning form.now row }
 {
     match meaning_of(form, row) {

@@ -62,7 +62,7 @@ pub fn is_meant(key: Key, name: u32, number: u32) -> bool
 }
 
 // The declaration of a space that a scope has by a name or a number, or its first inserted one.
-pub fn find(form: &[u8], scope: u16, space: u8, key: Key) -> Option<Option<Found>>
+pub fn find(form: &[u8], scope: u16, space: u8, key: Key) -> Option<Found>
     ensures { result ≡ find_in form.now scope space key }
 {
     let rows = rows_in(form);
@@ -87,7 +87,7 @@ pub fn find(form: &[u8], scope: u16, space: u8, key: Key) -> Option<Option<Found
 }
 
 // The first scope that is wanted, from a scope outward, that scope included.
-pub fn scope_outward(form: &[u8], scope: u16, wanted: Wanted) -> Option<Option<Outer>>
+pub fn scope_outward(form: &[u8], scope: u16, wanted: Wanted) -> Option<Outer>
     ensures { result ≡ scope_outward form.now scope wanted }
 {
     scope_outward_with(form, &[], &[], &[], scope, wanted)

@@ -59,7 +59,7 @@ fn first_on(form: &[u8], known: &[u16], chains: &[u16], scope: u16, space: u8, k
 }
 
 // The declaration at the row before.
-fn found_at(form: &[u8], known: &[u16], behind: u16) -> Option<Option<Found>>
+fn found_at(form: &[u8], known: &[u16], behind: u16) -> Option<Found>
     requires { Counts form.now known.now behind }
     ensures { result ≡ found_at form.now behind }
 {
@@ -80,7 +80,7 @@ fn follow(
     scope: u16,
     space: u8,
     key: Key,
-) -> Option<Option<Found>>
+) -> Option<Found>
     requires { Scopes form.now known.now 4096 × Counts form.now known.now (rows_in form.now) × Chains form.now (kind_of key) chains.now (rows_in form.now) × (0 < kind_of key) × (rows_in form.now ≤ 4096) × (is_scope form.now scope ≡ true) }
     ensures { result ≡ find_in form.now scope space key }
 {
@@ -100,7 +100,7 @@ fn find_known(
     scope: u16,
     space: u8,
     key: Key,
-) -> Option<Option<Found>>
+) -> Option<Found>
     requires { Tabled form.now known.now names.now numbers.now }
     ensures { result ≡ find_in form.now scope space key }
 {
@@ -123,7 +123,7 @@ pub fn find_with(
     scope: u16,
     space: u8,
     key: Key,
-) -> Option<Option<Found>>
+) -> Option<Found>
     requires { Known form.now known.now names.now numbers.now }
     ensures { result ≡ find_in form.now scope space key }
 {
@@ -183,7 +183,7 @@ pub fn scope_outward_with(
     numbers: &[u16],
     scope: u16,
     wanted: Wanted,
-) -> Option<Option<Outer>>
+) -> Option<Outer>
     requires { Known form.now known.now names.now numbers.now }
     ensures { result ≡ scope_outward form.now scope wanted }
 {

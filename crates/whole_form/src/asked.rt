@@ -25,7 +25,7 @@ fn limits_at(claim: bool, i: usize) -> Limits
 }
 
 // The setting that the header asks for, of a claimed output or of an input.
-fn asked_as(form: &[u8], claim: bool) -> Result<Result<Asked, BadHeader>, BadHeader>
+fn asked_as(form: &[u8], claim: bool) -> Result<Asked, BadHeader>
     ensures { result ≡ asked_from claim 0 all form.now }
 {
     let mut next = 0;
@@ -42,14 +42,14 @@ fn asked_as(form: &[u8], claim: bool) -> Result<Result<Asked, BadHeader>, BadHea
 }
 
 // The setting that the header of these bytes asks for.
-pub fn setting_of(form: &[u8]) -> Result<Result<Asked, BadHeader>, BadHeader>
+pub fn setting_of(form: &[u8]) -> Result<Asked, BadHeader>
     ensures { result ≡ asked_of form.now }
 {
     asked_as(form, false)
 }
 
 // The same of what is claimed to be an output, which may have four times the rows.
-pub fn claim_of(form: &[u8]) -> Result<Result<Asked, BadHeader>, BadHeader>
+pub fn claim_of(form: &[u8]) -> Result<Asked, BadHeader>
     ensures { result ≡ claimed_of form.now }
 {
     asked_as(form, true)
