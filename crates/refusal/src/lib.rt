@@ -1,6 +1,9 @@
 // A refusal: document 01's number, and the place that it gives with it.
 #![tactic(auto)]
 
+ghost use Rattle.std.specs.Prelude.{◌≡◌};
+ghost use Rattle.refusal.specs.Refusals.{untold_of};
+
 #[derive(Clone, Copy)]
 pub struct Refusal {
     pub number: u32,
@@ -20,6 +23,18 @@ pub struct Told {
 pub struct Refused {
     pub refusal: Refusal,
     pub told: Told,
+}
+
+// A refusal that tells nothing besides.
+impl From<Refusal> for Refused {
+    ghost from_gives = { λ why refused. refused ≡ untold_of why };
+
+    fn from(refusal: Refusal) -> Refused {
+        Refused {
+            refusal,
+            told: Told { space: 0, first: 0 },
+        }
+    }
 }
 
 // The numbers. The header is not that of a form,
