@@ -1,7 +1,6 @@
 -- Ways through the end of a field.
 use mathlib.Core.Path.{◌≡◌, refl}
 use mathlib.Core.List.{List}
-use native.Mathlib.Omega.{arith}
 use Prim.Native.Nat.{ℕ, ◌/◌, ◌≤◌, ◌<◌}
 use lib.ListN.{length, get_or}
 use borrow.Author.Rules.{rules}

@@ -1,5 +1,5 @@
 -- Ways through the code that reads rows.
-use Rattle.std.specs.Prelude.{Option, Some, None, ℕ}
+use Rattle.std.specs.Prelude.{Option as CodeOption, Some, None, is_some as holds_some}
 use mathlib.Core.Path.{◌≡◌, refl, sym, ap, ◌∙◌}
 use mathlib.Core.Bool.{Bool, true, false, ◌&&◌, not, or-false, and-true, and-false}
 use mathlib.Core.Option.{Option, none, some}
@@ -191,14 +191,16 @@ module _ (s : ReadState) where
       pub open_kind : b ≡ false → false ≡ may_open_t (current_in s) kind name
       open_kind g = sym (open_as ∙ rw (← x, g) (simp and-false))
 
-module _ (code : ℕ) (i : Option ℕ) (o : as_option i ≡ opens code) where
-  pub opens_nothing : i ≡ None → true ≡ is_none (opens code)
-  unfolding as_option is_none
-  opens_nothing e = rw (← o, e)
+none_is : (i : CodeOption ℕ) (r : Bool) → holds_some i ≡ not r → r ≡ is_none (as_option i)
+unfolding as_option is_none
+none_is None true e = refl
+none_is None false e = e
+none_is (Some k) true e = e
+none_is (Some k) false e = refl
 
-  pub opens_some : (k : ℕ) → i ≡ Some k → false ≡ is_none (opens code)
-  unfolding as_option is_none
-  opens_some k e = rw (← o, e)
+module _ (code : ℕ) (i : CodeOption ℕ) (o : as_option i ≡ opens code) where
+  pub opens_nothing : (r : Bool) → holds_some i ≡ not r → r ≡ is_none (opens code)
+  opens_nothing r e = rw (← o) (none_is i r e)
 
   pub other_kind : (kind : ℕ) → i ≡ None → false ≡ same_kind (opens code) kind
   unfolding as_option same_kind

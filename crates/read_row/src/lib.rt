@@ -13,7 +13,7 @@ ghost use Rattle.shapes.specs.Starts.{known};
 ghost use Rattle.read_row.specs.Machine.{on, wrong, whole, deep, current_in, position_of, outcome_of, more_decls_t, declared_t, declared_left, wanted_t, settled_t, may_end_t, on_field_t, on_decl_t, between_t, pathed_t, stays, on_ref_t, on_outer_t, on_case_t, on_path_t, on_export_t, may_open_t, on_open_t, on_close_t, read_step_t, in_root};
 
 use after_row::{CASE, END, NOTHING, after, after_outer, after_ref};
-use codes::{Inner, allows, builtin_ok, exports, may_declare, opens};
+use codes::{allows, builtin_ok, exports, may_declare, opens};
 use parts::Parts;
 use rows::row::is_sound;
 use shapes::{bare, start};
@@ -200,10 +200,7 @@ fn is_settled(s: ReadState, table: &[[u8; 41]; 67]) -> bool
 fn opens_none(code: usize) -> bool
     ensures { result ≡ is_none (rules.opens code) }
 {
-    match opens(code) {
-        Inner::Nothing => true,
-        Inner::Kind(_) => false,
-    }
+    opens(code).is_none()
 }
 
 // Whether the field opens a scope of that kind.
@@ -211,8 +208,8 @@ fn opens_kind(code: usize, kind: usize) -> bool
     ensures { result ≡ same_kind (rules.opens code) kind }
 {
     match opens(code) {
-        Inner::Nothing => false,
-        Inner::Kind(k) => k == kind,
+        None => false,
+        Some(k) => k == kind,
     }
 }
 

@@ -1,5 +1,4 @@
 -- `form::header::is_zero` meets its contract. The invariant: from here on is as from the start.
-use Prim.Native.Nat.{◌-◌}
 use Rattle.form.proofs.HeaderTests.{zero_ways}
 use Rattle.form.proofs.header.is_zero.Goals as goal
 
