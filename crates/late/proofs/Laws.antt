@@ -1,5 +1,5 @@
 -- The ways through the code: each law is one unfolding of a definition, with the facts in the form in which the code gives them.
-use Rattle.std.specs.Prelude.{Option, Some, None, ℕ}
+use Rattle.std.specs.Prelude.{Option, ℕ, not, is_some}
 use mathlib.Core.Path.{◌≡◌, refl}
 use mathlib.Core.Bool.{Bool, true, false}
 use mathlib.Core.List.{List}
@@ -19,14 +19,15 @@ covers_least table index before to n e c =
     let b = c.below in
     record { used = c.used; below = omega arith; holds = c.holds }
 
-module _ (table : List Slot) (from before to space name n : ℕ) (e : n ≡ before - (before - to)) (f : Option ℕ) (got : f ≡ find_in (between from n table) space name) where
-  pub late_found : (k : ℕ) → f ≡ Some k → false ≡ late_in table from before to space name
-  unfolding late_in
-  late_found k m = rw (← e, ← got, m)
+-- what is the other than another, of two
+not_turn : (a b : Bool) → a ≡ not b → b ≡ not a
+not_turn a true h = rw h
+not_turn a false h = rw h
 
-  pub late_nothing : f ≡ None → true ≡ late_in table from before to space name
+module _ (table : List Slot) (from before to space name n : ℕ) (e : n ≡ before - (before - to)) (f : Option ℕ) (got : f ≡ find_in (between from n table) space name) where
+  pub late_is : (late : Bool) → is_some f ≡ not late → late ≡ late_in table from before to space name
   unfolding late_in
-  late_nothing m = rw (← e, ← got, m)
+  late_is late m = rw (← e, ← got) (not_turn (is_some f) late m)
 
 -- ---- scope_around, before_around
 
@@ -42,4 +43,4 @@ module _ (scopes : List (List ℕ)) (depth before out : ℕ) where
   unfolding before_around
   before_further h s q = no! _ (omega tests) (rw q)
 
-pub ruleset ways = (covers_least, late_found, late_nothing, around_at, before_innermost, before_further, rules)
+pub ruleset ways = (covers_least, late_is, around_at, before_innermost, before_further, rules)

@@ -1,15 +1,11 @@
 -- Whether a declaration stands before a field, by the slots of its scope.
-use Rattle.std.specs.Prelude.{Bool, true, false, List, ℕ, ◌-◌, leb, Option, Some, None}
+use Rattle.std.specs.Prelude.{Bool, List, ℕ, ◌-◌, leb, is_none}
 use Rattle.kit.specs.Pick.{pick}
 use Rattle.names.specs.Table.{Slot, between, find_in, scope_at, before_of}
 
-abbrev pub is_absent : Option ℕ → Bool
-is_absent (Some n) = false
-is_absent None = true
-
 -- none of the slots from `from` up to `before`, of those up to `to`, has the name
 unfoldable pub late_in : List Slot → (from before to space name : ℕ) → Bool
-late_in table from before to space name = is_absent (find_in (between from (before - (before - to)) table) space name)
+late_in table from before to space name = is_none (find_in (between from (before - (before - to)) table) space name)
 
 -- how many slots stand before the field that holds us in the scope `out` scopes out, the innermost as one scope out: `before` in the
 -- innermost, and further out what stands with the scope inside

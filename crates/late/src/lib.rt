@@ -23,10 +23,7 @@ pub fn is_late(
     requires { Covers table.now index.now to }
     ensures { result ≡ late_in table.now from before to space name }
 {
-    match find(table, index, from, least(before, to), space, name) {
-        Some(_) => false,
-        None => true,
-    }
+    find(table, index, from, least(before, to), space, name).is_none()
 }
 
 // The scope `out` scopes out of `depth` that are open, the innermost as one scope out.

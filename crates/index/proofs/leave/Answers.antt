@@ -1,5 +1,4 @@
 -- `index::leave` meets its contract.
-use Prim.Native.Nat.{◌-◌}
 use borrow.Author.Rules.{rules}
 use Rattle.index.proofs.Storey.{changes}
 use Rattle.index.proofs.leave.Goals as goal

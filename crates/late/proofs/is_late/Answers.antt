@@ -5,8 +5,5 @@ use Rattle.late.proofs.is_late.Goals as goal
 pub find-requires : goal.find-requires
 find-requires c = search ways
 
-pub returns-in-Some : goal.returns-in-Some
-returns-in-Some c = search ways
-
-pub returns-in-None : goal.returns-in-None
-returns-in-None c = search ways
+pub returns : goal.returns
+returns c = search ways

@@ -1,5 +1,4 @@
 -- `names::first_slot` meets its contract. The invariant: the search from here answers what the search from the start does.
-use Prim.Native.Nat.{◌-◌}
 use Rattle.names.proofs.Laws.{ways}
 use Rattle.names.proofs.first_slot.Goals as goal
 

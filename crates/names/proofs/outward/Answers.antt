@@ -1,5 +1,4 @@
 -- `names::outward` meets its contract. Each loop's invariant: its twin from here is its twin from where it began.
-use Prim.Native.Nat.{◌-◌}
 use Rattle.names.proofs.Laws.{ways, walk_hit, first_hit}
 use Rattle.names.proofs.outward.Goals as goal
 
