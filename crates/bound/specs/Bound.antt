@@ -34,7 +34,7 @@ reference_at form place =
 -- ---- what it is bound to
 
 unfoldable pub bound_to : Option Meaning → (name : ℕ) → Binding
-bound_to (Some (record { row = row; number = number; out = out; name = reached })) name = pick (eqb reached name) AsWritten (Elsewhere row)
+bound_to (Some meaning) name = pick (eqb meaning.name name) AsWritten (Elsewhere meaning.row)
 bound_to None name = Elsewhere 0
 
 -- what a reference is bound to: what it means in the end, which is a declaration of that name or not

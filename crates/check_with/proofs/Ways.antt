@@ -75,7 +75,7 @@ as_steps (some r) = Err r.0
 of_walk : (w : Wrote₃) → steps_in (seen_of w) ≡ as_steps (refusal_of w)
 unfolding seen_of steps_in refusal_of
 of_walk (Ok s & e & n & o) = refl
-of_walk (Err (record { refusal = refusal; told = told }) & e & n & o) = refl
+of_walk (Err refused & e & n & o) = refl
 
 of_rules : (m : Result (Scope × ℕ)) → as_steps (refused_by m) ≡ steps_of m
 unfolding refused_by steps_of

@@ -15,8 +15,8 @@ use Rattle.names.specs.declared.Met.{Met}
 -- do both lead to the same?
 unfoldable pub is_met_t : Option Met → Option Met → Bool
 is_met_t None b = false
-is_met_t (Some (record { out = out; number = number })) None = false
-is_met_t (Some (record { out = out; number = number })) (Some (record { out = o; number = n })) = eqb out o && eqb number n
+is_met_t (Some met) None = false
+is_met_t (Some met) (Some met') = eqb met.out met'.out && eqb met.number met'.number
 
 abbrev pub seeking : (used scope space number : ℕ) → Sought
 seeking used scope space number = record { used = used; scope = scope; space = space; number = number }

@@ -33,11 +33,11 @@ rows_most form = by (ltb ((length form - 8) / 16) 65535) refl
     by false e = rw e (omega arith)
 
 abbrev FoundLow : Option Found → Type 0
-FoundLow (Some (record { row = row; number = number })) = row < 65536
+FoundLow (Some found) = found.row < 65536
 FoundLow None = Unit {0}
 
 abbrev Low : Option Meaning → Type 0
-Low (Some (record { row = row; number = number; out = out; name = name })) = row < 65536
+Low (Some meaning) = meaning.row < 65536
 Low None = Unit {0}
 
 module _ (form : List ℕ) where
@@ -53,12 +53,12 @@ module _ (form : List ℕ) where
   scope_low scope out space key = by (find_from form space key scope (rows_in form - scope) 0 0) (let m = rows_most form in find_low space key scope (rows_in form - scope) 0 0 (λ h. omega arith))
     where
       by : (f : Option Found) → FoundLow f → Low (meant form f out)
-      by (Some (record { row = row; number = number })) l = l
+      by (Some found) l = l
       by None l = tt
 
   outer_low : (o : Option Outer) (space : ℕ) (key : Key) → Low (in_outer form o space key)
   unfolding in_outer
-  outer_low (Some (record { scope = scope; out = out })) space key = scope_low scope out space key
+  outer_low (Some outer) space key = scope_low outer.scope outer.out space key
   outer_low None space key = tt
 
   meaning_low : (row : ℕ) → Low (meaning_of form row)
@@ -69,8 +69,8 @@ module _ (form : List ℕ) where
 
 read_told : (m : Option Meaning) → Low m → read (told m) ≡ m
 unfolding read
-read_told (Some (record { row = row; number = number; out = out; name = name })) l =
-    let e : row + 1 - 1 ≡ row = omega arith in
+read_told (Some meaning) l =
+    let e : meaning.row + 1 - 1 ≡ meaning.row = omega arith in
     sym (no! _ (omega tests) (no! _ (omega tests) (rw e)))
 read_told None l = sym (yes! _ refl refl)
 
@@ -156,10 +156,10 @@ module _ (form : List ℕ) (entries : List Entry) where
 
   behind_is : (m : Option Meaning) → behind_at form (noted form entries) m ≡ behind form m
   unfolding behind_at behind
-  behind_is (Some (record { row = decl; number = number; out = out; name = name })) = by (is_inserted_outer form decl) refl
+  behind_is (Some meaning) = by (is_inserted_outer form meaning.row) refl
     where
-      by : (b : Bool) → is_inserted_outer form decl ≡ b → behind_at form (noted form entries) (Some (record { row = decl; number = number; out = out; name = name })) ≡ behind form (Some (record { row = decl; number = number; out = out; name = name }))
-      by true h = sym (yes! _ h refl) ∙ (alias_is decl h ∙ yes! _ h refl)
+      by : (b : Bool) → is_inserted_outer form meaning.row ≡ b → behind_at form (noted form entries) (Some meaning) ≡ behind form (Some meaning)
+      by true h = sym (yes! _ h refl) ∙ (alias_is meaning.row h ∙ yes! _ h refl)
       by false h = sym (no! _ h refl) ∙ no! _ h refl
   behind_is None = refl
 

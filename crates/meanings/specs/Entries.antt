@@ -20,7 +20,7 @@ no_entry = entry 0 0 0 0
 
 -- a declaration's row is noted as one more, so that 0 says that there is none
 abbrev pub told : Option Meaning → Entry
-told (Some (record { row = row; number = number; out = out; name = name })) = entry (row + 1) number out name
+told (Some meaning) = entry (meaning.row + 1) meaning.number meaning.out meaning.name
 told None = no_entry
 
 -- of a DECL itself, of a REF or an OUTER what it means, of any other row none
@@ -58,7 +58,7 @@ number_at form entries row = pick (is_noted form entries row) (get_or (get_or en
 
 -- behind an inserted outer alias, what its OUTER means
 unfoldable pub behind_at : (form : List ℕ) → List Entry → Option Meaning → Option Meaning
-behind_at form entries (Some (record { row = row; number = number; out = out; name = name })) = pick (is_inserted_outer form row) (meaning_at form entries (next_of row)) (Some (record { row = row; number = number; out = out; name = name }))
+behind_at form entries (Some meaning) = pick (is_inserted_outer form meaning.row) (meaning_at form entries (next_of meaning.row)) (Some meaning)
 behind_at form entries None = None
 
 -- what a reference means in the end: behind an inserted outer alias, what its OUTER means

@@ -19,16 +19,16 @@ use Rattle.scopes.specs.declared.Outer.{Outer}
 
 -- what a name means that is looked for in the member alone
 unfoldable pub in_member : Option Meaning → Option Declared
-in_member (Some (record { row = row; number = number; out = out; name = name })) = Some (Member row)
+in_member (Some meaning) = Some (Member meaning.row)
 in_member None = None
 
 -- what a search in the prelude's root finds, or in a scope of the member
 unfoldable pub root_found : Option Found → Option Declared
-root_found (Some (record { row = row; number = number })) = Some (Prelude row)
+root_found (Some found) = Some (Prelude found.row)
 root_found None = None
 
 unfoldable pub member_found : Option Found → Option Declared
-member_found (Some (record { row = row; number = number })) = Some (Member row)
+member_found (Some found) = Some (Member found.row)
 member_found None = None
 
 -- a name in the prelude's root, whose first row is row 1
@@ -42,7 +42,7 @@ scope_meant member scope space name = member_found (find_in member scope space (
 -- ---- references
 
 unfoldable pub or_root : Option Meaning → (prelude : List ℕ) (space name : ℕ) → Option Declared
-or_root (Some (record { row = row; number = number; out = out; name = name' })) prelude space name = Some (Member row)
+or_root (Some meaning) prelude space name = Some (Member meaning.row)
 or_root None prelude space name = in_root prelude space name
 
 -- a walked name: outward in the member, and then the prelude's root
@@ -66,7 +66,7 @@ outer_wanted_t e x = pick (eqb (e % 2) 1) (Named x) (Out x)
 
 -- was a scope found?
 abbrev pub is_there : Option Outer → Bool
-is_there (Some (record { scope = scope; out = out })) = true
+is_there (Some outer) = true
 is_there None = false
 
 -- whether there is such a scope of the member around a row
@@ -84,7 +84,7 @@ unfoldable pub meant_behind_t : (prelude member : List ℕ) (row : ℕ) → Want
 meant_behind_t prelude member row wanted = pick (is_root_t prelude member row wanted) (in_root prelude (b_at member row) (y_at member row)) None
 
 unfoldable pub in_outer_t : Option Outer → (prelude member : List ℕ) (row : ℕ) → Wanted → Option Declared
-in_outer_t (Some (record { scope = scope; out = out })) prelude member row wanted = scope_meant member scope (b_at member row) (y_at member row)
+in_outer_t (Some outer) prelude member row wanted = scope_meant member outer.scope (b_at member row) (y_at member row)
 in_outer_t None prelude member row wanted = meant_behind_t prelude member row wanted
 
 -- a named index: what the scope declares that is asked for

@@ -102,7 +102,7 @@ module _ (P M : List ℕ) (r : ℕ) where
 
 found_meant : (form : List ℕ) (out : ℕ) (f : CodeOption Found) → names_of.in_member (meant form f out) ≡ member_found f
 unfolding meant names_of.in_member member_found
-found_meant form out (Some (record { row = row; number = number })) = refl
+found_meant form out (Some found) = refl
 found_meant form out None = refl
 
 sought_path : (space n : ℕ) → sought space (suc n) ≡ instance_space space
@@ -158,7 +158,7 @@ module _ (P M : List ℕ) (s m : Scope) (RP : Rows P s) (RM : Rows M m) (low-s :
       (subst (λ (o : Option Meant). Told s m o (or_root (meaning_of M r) P space name)) (sym (outward_meant s (levels fs) space name)) (go (outward (levels fs) space name) (reads)))
     where
       no_row : (x : CodeOption Meaning) → row_meant x ≡ none → or_root x P space name ≡ in_root P space name
-      no_row (Some (record { row = row; number = number; out = out; name = n })) e = no_option row (sym e)
+      no_row (Some meaning) e = no_option meaning.row (sym e)
       no_row None e = refl
 
       go : (o : Option Place) → outward_reading m p ≡ o → Told s m (map in_member o or_else map in_prelude (declared (Readings.root s) space name)) (or_root (meaning_of M r) P space name)

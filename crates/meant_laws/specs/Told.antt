@@ -24,13 +24,13 @@ pub data Finds (t : Scope) : Option Place → CodeOption Found → Type 0 where
 pub found_in_member : (s m : Scope) (o : Option Place) (f : CodeOption Found) → Finds m o f → Told s m (map in_member o) (member_found f)
 unfolding member_found
 found_in_member s m none None no_row = nothing
-found_in_member s m (some d) (Some (record { row = row; number = number })) (at_row e) = in_member_lem e
-found_in_member s m none (Some (record { row = row; number = number })) x'' = elim x'' [ ]
+found_in_member s m (some d) (Some found) (at_row e) = in_member_lem e
+found_in_member s m none (Some found) x'' = elim x'' [ ]
 found_in_member s m (some d) None x3 = elim x3 [ ]
 
 pub found_in_root : (s m : Scope) (o : Option Place) (f : CodeOption Found) → Finds s o f → Told s m (map in_prelude o) (root_found f)
 unfolding root_found
 found_in_root s m none None no_row = nothing
-found_in_root s m (some d) (Some (record { row = row; number = number })) (at_row e) = in_prelude_lem e
-found_in_root s m none (Some (record { row = row; number = number })) x'' = elim x'' [ ]
+found_in_root s m (some d) (Some found) (at_row e) = in_prelude_lem e
+found_in_root s m none (Some found) x'' = elim x'' [ ]
 found_in_root s m (some d) None x3 = elim x3 [ ]

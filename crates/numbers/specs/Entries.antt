@@ -36,7 +36,7 @@ scope_wanted form row = pick (eqb (code_at form row) 5) (outer_wanted (e_at form
 
 -- is the number of what is found at most n?
 unfoldable pub reaches : Option Found → (n : ℕ) → Bool
-reaches (Some (record { row = row; number = number })) n = leb number n
+reaches (Some found) n = leb found.number n
 reaches None n = false
 
 -- has an inserted declaration this number or a lower one?
@@ -44,7 +44,7 @@ unfoldable pub is_pushed : (out : List ℕ) (scope : ℕ) → Number → Bool
 is_pushed out scope n = reaches (find_in out scope n.space Inserted) n.number
 
 unfoldable pub gets : Number → (meant : ℕ) → Option Found → Option Entry
-gets n meant (Some (record { row = row; number = number })) = Some (Moved n.z n.space meant row)
+gets n meant (Some found) = Some (Moved n.z n.space meant found.row)
 gets n meant None = None
 
 -- a number that meant something in the input, in its scope of the output
@@ -53,7 +53,7 @@ gets_entry out scope n meant =
     pick (is_pushed out scope n) (gets n meant (find_in out scope n.space (Numbered n.number))) None
 
 unfoldable pub gets_in : (out : List ℕ) → Option Outer → Number → (meant : ℕ) → Option Entry
-gets_in out (Some (record { scope = scope; out = away })) n meant = gets_entry out scope n meant
+gets_in out (Some outer) n meant = gets_entry out outer.scope n meant
 gets_in out None n meant = None
 
 -- this many scopes out from a row
@@ -63,7 +63,7 @@ output_entry out at away n meant = gets_in out (scope_outward out (scope_of out 
 -- ---- in the input
 
 unfoldable pub meant_by : (out : List ℕ) (at away : ℕ) → Number → Option Found → Option Entry
-meant_by out at away n (Some (record { row = row; number = number })) = output_entry out at away n row
+meant_by out at away n (Some found) = output_entry out at away n found.row
 meant_by out at away n None = Some (Apart n.z n.space n.number)
 
 -- a number in its scope of the input, which is `away` scopes out
@@ -71,7 +71,7 @@ unfoldable pub counted_entry : (form : List ℕ) (scope away : ℕ) → Number �
 counted_entry form scope away n out at = meant_by out at away n (find_in form scope n.space (Numbered n.number))
 
 unfoldable pub counted_in : (form : List ℕ) → Option Outer → Number → (out : List ℕ) (at : ℕ) → Option Entry
-counted_in form (Some (record { scope = scope; out = away })) n out at = counted_entry form scope away n out at
+counted_in form (Some outer) n out at = counted_entry form outer.scope outer.out n out at
 counted_in form None n out at = None
 
 -- `at` is a row of the output in the scope of the input's row

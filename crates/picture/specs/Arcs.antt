@@ -7,7 +7,7 @@ use Rattle.readings.specs.declared.Meaning.{Meaning}
 
 -- the row that is meant; a reference that means nothing has its own
 abbrev pub row_meant : Option Meaning → (row : ℕ) → ℕ
-row_meant (Some (record { row = decl; number = number; out = out; name = name })) row = decl
+row_meant (Some meaning) row = meaning.row
 row_meant None row = row
 
 -- from a reference to what it means, by the entries of the form; from any other row to itself

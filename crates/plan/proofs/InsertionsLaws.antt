@@ -247,7 +247,7 @@ module _ (rows ends : List ℕ) (entered names : List Slot) (scopes : List (List
 two_steps : (W : Step) (f : PlanState → PlanState) (g : List Slot → List ℕ → PlanState → Step) → step_then (step_then W (λ ns cs q. Ok (f q) & ns & cs) stops) g stops ≡ step_then W (λ ns cs q. g ns cs (f q)) stops
 unfolding step_then
 two_steps (Ok q & ns & cs) f g = refl
-two_steps (Err (record { refusal = x; told = y }) & ns & cs) f g = refl
+two_steps (Err refused & ns & cs) f g = refl
 
 module _ (rows ends : List ℕ) (entered names : List Slot) (scopes : List (List ℕ)) (counts : List ℕ) (p : PlanState) (turns : ℕ) (T : Step) (inv : plan_fields_t rows ends entered names scopes counts p turns ≡ T) where
   pub fields_end : turns ≤ 0 → (Ok p & names & counts) ≡ T

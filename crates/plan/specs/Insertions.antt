@@ -97,8 +97,8 @@ plan_outer_t out number names counts p r =
 -- a name that the scope does not have, by where the scopes around have it
 unfoldable pub met_t : Option Met → List Slot → (scopes : List (List ℕ)) → List ℕ → PlanState → Reference → (name : ℕ) → Step
 met_t None names scopes counts p r name = Ok p & names & counts
-met_t (Some (record { out = out; number = number })) names scopes counts p r name =
-    pick (late_out_t names scopes p out r.space name) (Err (record { refusal = refusal_at 13 r.z; told = untold }) & names & counts) (plan_outer_t out number names counts p r)
+met_t (Some met) names scopes counts p r name =
+    pick (late_out_t names scopes p met.out r.space name) (Err (record { refusal = refusal_at 13 r.z; told = untold }) & names & counts) (plan_outer_t met.out met.number names counts p r)
 
 -- a walked name: one of this scope needs nothing, one of a scope further out an outer alias; too late, it is refusal 13
 unfoldable pub plan_name_t : (entered names : List Slot) (scopes : List (List ℕ)) → List ℕ → PlanState → Reference → (name : ℕ) → Step
@@ -124,7 +124,7 @@ plan_ref_t entered names scopes counts p r =
 -- goes on after a part of step B, by `f` if it is done and by `g` if it refused
 unfoldable pub step_then : {A : Type 0} → Step → (List Slot → List ℕ → PlanState → A) → (Refusal → Told → List Slot → List ℕ → A) → A
 step_then (Ok p & names & counts) f g = f names counts p
-step_then (Err (record { refusal = why; told = told }) & names & counts) f g = g why told names counts
+step_then (Err refused & names & counts) f g = g refused.refusal refused.told names counts
 
 -- a refusal ends the step
 abbrev pub stops : Refusal → Told → List Slot → List ℕ → Step

@@ -87,7 +87,7 @@ module _ (form : List ℕ) where
 
 no_row : (m : CodeOption Meaning) → row_meant m ≡ none → m ≡ None
 unfolding row_meant
-no_row (Some (record { row = row; number = number; out = out; name = name })) e = no_option row (sym e)
+no_row (Some meaning) e = no_option meaning.row (sym e)
 no_row None e = refl
 
 -- the rows of a tree stand in a form

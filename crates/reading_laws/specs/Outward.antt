@@ -38,7 +38,7 @@ use Rattle.scopes.specs.declared.Outer.{Outer}
 
 -- the row of the DECL that is meant
 unfoldable pub row_meant : CodeOption Meaning → Option ℕ
-row_meant (Some (record { row = row; number = number; out = out; name = name })) = some row
+row_meant (Some meaning) = some meaning.row
 row_meant None = none
 
 -- ---- scopes outward

@@ -29,7 +29,7 @@ is_outward Counting = false
 
 -- what was found, `out` scopes out, with its name
 unfoldable pub meant : (form : List ℕ) → Option Found → (out : ℕ) → Option Meaning
-meant form (Some (record { row = row; number = number })) out = Some (record { row = row; number = number; out = out; name = x_at form row })
+meant form (Some found) out = Some (record { row = found.row; number = found.number; out = out; name = x_at form found.row })
 meant form None out = None
 
 -- what a scope that is `out` out declares
@@ -38,7 +38,7 @@ in_scope form scope out space key = meant form (find_in form scope space key) ou
 
 -- what the scope that was found declares
 unfoldable pub in_outer : (form : List ℕ) → Option Outer → (space : ℕ) → Key → Option Meaning
-in_outer form (Some (record { scope = scope; out = out })) space key = in_scope form scope out space key
+in_outer form (Some outer) space key = in_scope form outer.scope outer.out space key
 in_outer form None space key = None
 
 -- the innermost scope around a row that declares a name
@@ -61,7 +61,7 @@ meaning_of form row =
 
 -- behind such an alias, what its OUTER counts to
 unfoldable pub behind : (form : List ℕ) → Option Meaning → Option Meaning
-behind form (Some (record { row = row; number = number; out = out; name = name })) = pick (is_inserted_outer form row) (through_outer form (next_of row)) (Some (record { row = row; number = number; out = out; name = name }))
+behind form (Some meaning) = pick (is_inserted_outer form meaning.row) (through_outer form (next_of meaning.row)) (Some meaning)
 behind form None = None
 
 -- what a reference means in the end

@@ -37,7 +37,7 @@ find_in form scope space key = find_from form space key scope (rows_in form - sc
 
 -- was a declaration found?
 abbrev pub is_found : Option Found → Bool
-is_found (Some (record { row = row; number = number })) = true
+is_found (Some found) = true
 is_found None = false
 
 -- does the scope declare this name in this space?

@@ -6,4 +6,4 @@ use Rattle.text.specs.declared.Wrong.{Wrong}
 -- makes the form that a text spells
 unfoldable pub made : Out (Result ℕ Wrong) (List ℕ) → Out (Option ℕ) (List ℕ)
 made (Ok rows & out) = Some rows & out
-made (Err (record { line = line; why = why }) & out) = None & out
+made (Err wrong & out) = None & out

@@ -57,7 +57,7 @@ plan_in s at entered =
 
 -- step B after step A, unless that refused
 unfoldable pub planned_t : Out (Result ℕ Refused) (List Slot) → (rows ends : List ℕ) (names : List Slot) (scopes : List (List ℕ)) → WriteState → Out (Result PlanState Refused) (Out (List Slot) (List Slot))
-planned_t (Err (record { refusal = why; told = told }) & entered) rows ends names scopes s = Err (record { refusal = why; told = told }) & entered & names
+planned_t (Err refused & entered) rows ends names scopes s = Err refused & entered & names
 planned_t (Ok count & entered) rows ends names scopes s =
     with_tables_t entered
     (plan.plan_scope_t rows ends entered names scopes
@@ -95,7 +95,7 @@ Inner = (entered names : List Slot) (scopes : List (List ℕ)) (out : List ℕ) 
 -- goes on after a part of the walk, by `f` if it is done and by `g` if it refused
 unfoldable pub wrote_then₃ : {A : Type 0} → Wrote₃ → (WriteState → List Slot → List Slot → List ℕ → A) → (Refusal → Told → List Slot → List Slot → List ℕ → A) → A
 wrote_then₃ (Ok s & entered & names & out) f g = f s entered names out
-wrote_then₃ (Err (record { refusal = why; told = told }) & entered & names & out) f g = g why told entered names out
+wrote_then₃ (Err refused & entered & names & out) f g = g refused.refusal refused.told entered names out
 
 -- a refusal ends the walk
 abbrev pub stops₃ : Refusal → Told → List Slot → List Slot → List ℕ → Wrote₃
@@ -142,7 +142,7 @@ module _ (rows ends : List ℕ) where
 
   -- a scope after steps A and B, unless they refused: its OPEN, its fields, its CLOSE
   unfoldable pub scoped_t : Inner → Out (Result PlanState Refused) (Out (List Slot) (List Slot)) → (scopes : List (List ℕ)) (out : List ℕ) → WriteState → Wrote₃
-  scoped_t inner (Err (record { refusal = why; told = told }) & entered & names) scopes out s = Err (record { refusal = why; told = told }) & entered & names & out
+  scoped_t inner (Err refused & entered & names) scopes out s = Err refused & entered & names & out
   scoped_t inner (Ok p & entered & names) scopes out s =
       put_then (copy_row rows s.at out s.to) λ to out'.
       fields_walk_t inner entered names (set scopes s.depth (scope_of (open_name (row_at rows s.at)) s.used p.used s.before)) out' (inside_t s p to) (s.depth + 1) (length rows / 16)

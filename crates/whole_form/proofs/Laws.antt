@@ -53,7 +53,7 @@ first = record { version = version1; rules = today }
 -- where what is read is a claimed output, or an input
 module _ (claim : Bool) where
   abbrev Asks : List Setting → (k : ℕ) → List ℕ → Result Asked BadHeader → Type 0
-  Asks ss k input (Ok (record { setting = i; rows = rows })) = (j : ℕ) × (i ≡ k + j) × (j < length ss) × (setting_of ss input ≡ some (get_or ss j first)) × Headed (held_as claim (get_or ss j first)) input rows
+  Asks ss k input (Ok asked) = (j : ℕ) × (asked.setting ≡ k + j) × (j < length ss) × (setting_of ss input ≡ some (get_or ss j first)) × Headed (held_as claim (get_or ss j first)) input asked.rows
   Asks ss k input (Err Wrong) = setting_of ss input ≡ none
   Asks ss k input (Err Count) = (s : Setting) × (setting_of ss input ≡ some s) × (unsized (held_as claim s) input ≡ true)
 
@@ -67,7 +67,7 @@ module _ (claim : Bool) where
       go false = unfold pick in refl
 
   asks_next : (s : Setting) (ss : List Setting) (k : ℕ) (input : List ℕ) (a : Result Asked BadHeader) → setting_of (s ∷ ss) input ≡ setting_of ss input → Asks ss (k + 1) input a → Asks (s ∷ ss) k input a
-  asks_next s ss k input (Ok (record { setting = i; rows = rows })) e (j, p, h, q, r) = (suc j, omega arith, omega arith, e ∙ q, r)
+  asks_next s ss k input (Ok asked) e (j, p, h, q, r) = (suc j, omega arith, omega arith, e ∙ q, r)
   asks_next s ss k input (Err Wrong) e w = e ∙ w
   asks_next s ss k input (Err Count) e (t, p, q) = (t, e ∙ p, q)
 

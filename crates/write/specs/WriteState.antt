@@ -64,7 +64,7 @@ Wrote = Out (Result WriteState Refused) (List ℕ)
 -- goes on after something is written, by `f` if it is and by `g` if it is refused
 unfoldable pub wrote_then : {A : Type 0} → Wrote → (WriteState → List ℕ → A) → (Refusal → Told → List ℕ → A) → A
 wrote_then (Ok s & out) f g = f s out
-wrote_then (Err (record { refusal = why; told = told }) & out) f g = g why told out
+wrote_then (Err refused & out) f g = g refused.refusal refused.told out
 
 -- a refusal ends the step
 abbrev pub stops : Refusal → Told → List ℕ → Wrote

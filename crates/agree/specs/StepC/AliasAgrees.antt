@@ -92,7 +92,7 @@ export_skips (some n) = (tt, tt)
 wrote_same : (w : Wrote) (f g : WriteState → List ℕ → Wrote) → ((t : WriteState) (out : List ℕ) → f t out ≡ g t out) → wrote_then w f stops ≡ wrote_then w g stops
 unfolding wrote_then
 wrote_same (Ok t & out) f g h = h t out
-wrote_same (Err (record { refusal = n; told = z }) & out) f g h = refl
+wrote_same (Err refused & out) f g h = refl
 
 -- what is inserted for two lists of fields
 pub inserted_append : (env : Env) (outside : Outside) (xs ys : List Head) → resolve_inserted env outside (xs ++ ys) ≡ (resolve_inserted env outside xs >>= λ xs'. resolve_inserted env outside ys >>= λ ys'. ok (xs' ++ ys'))

@@ -95,7 +95,7 @@ others_export (some n) = (refl, tt)
 then_same : (s : Step) (f g : List Slot → List ℕ → PlanState → Step) → ((ns : List Slot) (cs : List ℕ) (q : PlanState) → f ns cs q ≡ g ns cs q) → step_then s f stops ≡ step_then s g stops
 unfolding step_then
 then_same (Ok q & names & counts) f g h = h names counts q
-then_same (Err (record { refusal = n; told = z }) & names & counts) f g h = refl
+then_same (Err refused & names & counts) f g h = refl
 
 module _ (field : List ℕ) (entered : List Slot) (scopes : List (List ℕ)) (at : ℕ) where
   -- such rows are passed over one by one
