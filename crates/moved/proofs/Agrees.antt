@@ -1,6 +1,6 @@
 -- The run against the rules, for any settings: when the lists have no room, when the form is refused, and what the lists hold when it is
 -- accepted.
-use Rattle.std.specs.Prelude.{Option, Some, None}
+use Rattle.std.specs.Prelude.{Option as CodeOption, Some, None}
 use mathlib.Core.Path.{◌≡◌, refl, ap, ap₂, sym, ◌∙◌, subst}
 use mathlib.Core.Bool.{Bool, true, false, ◌||◌, not}
 use mathlib.Core.Option.{Option, none, some}
@@ -133,14 +133,14 @@ written_is l bs n h room =
     ∙ (ap (λ (x : List ℕ). x ++ drop n l) (sets-eq bs (replicate n 0) 0 here ∙ ap (λ (k : ℕ). bs ++ drop k (replicate n 0)) behind ∙ ap (λ (x : List ℕ). bs ++ x) (drop_zeros n (length bs)))
     ∙ append_assoc bs (replicate (n - length bs) 0) (drop n l))
 
-few_moved : (es : List (Option Entry)) → length (moved_of es) ≤ length es
+few_moved : (es : List (CodeOption Entry)) → length (moved_of es) ≤ length es
 unfolding moved_of
 few_moved [] = omega arith
 few_moved (Some (Moved z space meant gets) ∷ es) = let h = few_moved es in omega (arith, h)
 few_moved (Some (Apart z space number) ∷ es) = let h = few_moved es in omega (arith, h)
 few_moved (None ∷ es) = let h = few_moved es in omega (arith, h)
 
-few_apart : (es : List (Option Entry)) → length (apart_of es) ≤ length es
+few_apart : (es : List (CodeOption Entry)) → length (apart_of es) ≤ length es
 unfolding apart_of
 few_apart [] = omega arith
 few_apart (Some (Moved z space meant gets) ∷ es) = let h = few_apart es in omega (arith, h)
@@ -369,7 +369,7 @@ module _ (settings : List Setting) (input o m a : List ℕ) where
     unfolding resolve
     made = with_lists v T.before T.after T.next T.asked_for roomy T.forms T.reads T.resolves
 
-    entries : List (Option Entry)
+    entries : List (CodeOption Entry)
     entries = entries_in (body v input) (body v o')
 
     agree : (moved_of entries ≡ l.moved) × (apart_of entries ≡ l.apart)

@@ -1,5 +1,5 @@
 -- What the code answers and leaves is what the rules say.
-use Rattle.std.specs.Prelude.{Option, Some, None, Result, Ok, Err, ℕ}
+use Rattle.std.specs.Prelude.{Option as CodeOption, Some, None, Result, Ok, Err, ℕ}
 use mathlib.Core.Path.{◌≡◌, refl, sym, ap, ◌∙◌, subst}
 use mathlib.Core.Bool.{Bool, true, false, ◌||◌}
 use mathlib.Core.Option.{Option, none, some}
@@ -138,7 +138,7 @@ module _ (i : ℕ) (F : Fit (setting i)) where
       let counted : row_count (setting i).version x ≡ length u = ap (row_count (setting i).version) (x_is ∙ sym (append-nil (form_bytes (setting i) u))) ∙ count in
       omega arith
 
-  module _ (form out a : List ℕ) (b : Option ℕ) (k : Came i b form a) (e : b ≡ None) where
+  module _ (form out a : List ℕ) (b : CodeOption ℕ) (k : Came i b form a) (e : b ≡ None) where
     none_given : back (alone i) form ≡ none
     unfolding Came
     none_given = rw e at k
@@ -169,7 +169,7 @@ module _ (i : ℕ) (F : Fit (setting i)) where
         (rw (e, t, p, rows_given form x e few), rw (e, t) (q ∙ s))
 
   -- the part of the area from its first byte on
-  module _ (form a : List ℕ) (at : ℕ) (b : Option ℕ) (k : Came i b form a) (e : b ≡ Some at) where
+  module _ (form a : List ℕ) (at : ℕ) (b : CodeOption ℕ) (k : Came i b form a) (e : b ≡ Some at) where
     came : (back (alone i) form ≡ some (drop at a)) × (at ≤ 16 * most) × (length a ≡ header + 16 * most)
     unfolding Came
     came = rw e at k
@@ -225,7 +225,7 @@ module _ (form : List ℕ) (f : Result ℕ Refusal) (said : f ≡ form_of (read_
 
 pub ruleset finding = (first_unread, first_header, rules)
 
-module _ (form out a : List ℕ) (b : Option ℕ) (k : Came 0 b form a) where
+module _ (form out a : List ℕ) (b : CodeOption ℕ) (k : Came 0 b form a) where
   pub first_nothing : b ≡ None → (r : Result ℕ Refused) → r ≡ refused_t 14 → meaning r ≡ returned (back_answer base form (length out))
   unfolding returned
   first_nothing e r q = nothing_said 0 first_fits form out a b k e r q
