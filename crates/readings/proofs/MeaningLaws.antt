@@ -48,35 +48,35 @@ module _ (form : List ℕ) (row : ℕ) (r : Reading) (got : r ≡ reading_of for
 -- ---- meanings
 
 module _ (form : List ℕ) (f : Option Found) (out : ℕ) where
-  pub meant_at : (row number x : ℕ) → f ≡ Some (record { row = row; number = number }) → x ≡ x_at form row → Some (record { row = row; number = number; out = out; name = x }) ≡ meant form f out
+  pub meant_at : (found : Found) (x : ℕ) → f ≡ Some found → x ≡ x_at form found.row → Some (record { row = found.row; number = found.number; out = out; name = x }) ≡ meant form f out
   unfolding meant
-  meant_at row number x q h = rw (q, h)
+  meant_at found x q h = rw (q, h)
 
-  pub meant_nothing : f ≡ None → None ≡ meant form f out
+  pub meant_nothing : f ≡ None → (X : Option Meaning) → X ≡ None → X ≡ meant form f out
   unfolding meant
-  meant_nothing q = rw q
+  meant_nothing q X x = x ∙ rw q
 
   pub meant_in_lem : (scope space : ℕ) (key : Key) → f ≡ find_in form scope space key → (X : Option Meaning) → X ≡ meant form f out → X ≡ in_scope form scope out space key
   unfolding in_scope
   meant_in_lem scope space key q X e = e ∙ rw q
 
 module _ (form : List ℕ) (row space name s : ℕ) (around : s ≡ scope_of form row) (o : Option Outer) (got : o ≡ scope_outward form s (Declaring space name)) where
-  pub outward_at : (scope out : ℕ) → o ≡ Some (record { scope = scope; out = out }) → (X : Option Meaning) → X ≡ in_scope form scope out space (Name name) → X ≡ outward_for form row space name
+  pub outward_at : (outer : Outer) → o ≡ Some outer → (X : Option Meaning) → X ≡ in_scope form outer.scope outer.out space (Name name) → X ≡ outward_for form row space name
   unfolding outward_for in_outer
-  outward_at scope out q X x = x ∙ rw (← around, ← got, q)
+  outward_at outer q X x = x ∙ rw (← around, ← got, q)
 
-  pub outward_nowhere : o ≡ None → None ≡ outward_for form row space name
+  pub outward_nowhere : o ≡ None → (X : Option Meaning) → X ≡ None → X ≡ outward_for form row space name
   unfolding outward_for in_outer
-  outward_nowhere q = rw (← around, ← got, q)
+  outward_nowhere q X x = x ∙ rw (← around, ← got, q)
 
 module _ (form : List ℕ) (row e x s : ℕ) (flags : e ≡ e_at form row) (up : x ≡ x_at form row) (around : s ≡ scope_of form row) (w : Wanted) (wanted : w ≡ outer_wanted e x) (o : Option Outer) (got : o ≡ scope_outward form s w) where
-  pub through_at : (scope out : ℕ) → o ≡ Some (record { scope = scope; out = out }) → (b y : ℕ) (k : Key) → b ≡ b_at form row → y ≡ y_at form row → k ≡ index_key e y → (X : Option Meaning) → X ≡ in_scope form scope out b k → X ≡ through_outer form row
+  pub through_at : (outer : Outer) → o ≡ Some outer → (b y : ℕ) (k : Key) → b ≡ b_at form row → y ≡ y_at form row → k ≡ index_key e y → (X : Option Meaning) → X ≡ in_scope form outer.scope outer.out b k → X ≡ through_outer form row
   unfolding through_outer in_outer
-  through_at scope out q b y k hb hy hk X h = h ∙ rw (← flags, ← up, ← around, ← wanted, ← got, q, hk, hb, hy)
+  through_at outer q b y k hb hy hk X h = h ∙ rw (← flags, ← up, ← around, ← wanted, ← got, q, hk, hb, hy)
 
-  pub through_nowhere : o ≡ None → None ≡ through_outer form row
+  pub through_nowhere : o ≡ None → (X : Option Meaning) → X ≡ None → X ≡ through_outer form row
   unfolding through_outer in_outer
-  through_nowhere q = rw (← flags, ← up, ← around, ← wanted, ← got, q)
+  through_nowhere q X x = x ∙ rw (← flags, ← up, ← around, ← wanted, ← got, q)
 
 module _ (form : List ℕ) (row c : ℕ) (code : c ≡ code_at form row) (X : Option Meaning) where
   pub meaning_outer : c ≡ 5 → X ≡ through_outer form row → X ≡ meaning_of form row
@@ -93,18 +93,18 @@ module _ (form : List ℕ) (row c : ℕ) (code : c ≡ code_at form row) (X : Op
     meaning_here h s hs k hk x = no! _ (omega tests) (no! _ (rw (← outward) h) (x ∙ rw (sought, hs, hk)))
 
 module _ (form : List ℕ) (row : ℕ) (m : Option Meaning) (got : m ≡ meaning_of form row) where
-  module _ (decl number out name : ℕ) (at : m ≡ Some (record { row = decl; number = number; out = out; name = name })) (i : Bool) (alias : i ≡ is_inserted_outer form decl) where
-    pub final_behind : i ≡ true → (n : ℕ) → n ≡ next_of decl → (X : Option Meaning) → X ≡ through_outer form n → X ≡ final_meaning form row
+  module _ (meaning : Meaning) (at : m ≡ Some meaning) (i : Bool) (alias : i ≡ is_inserted_outer form meaning.row) where
+    pub final_behind : i ≡ true → (n : ℕ) → n ≡ next_of meaning.row → (X : Option Meaning) → X ≡ through_outer form n → X ≡ final_meaning form row
     unfolding final_meaning behind
     final_behind h n hn X x = rw (← got, at) (yes! _ (rw (← alias) h) (x ∙ rw hn))
 
-    pub final_itself : i ≡ false → Some (record { row = decl; number = number; out = out; name = name }) ≡ final_meaning form row
+    pub final_itself : i ≡ false → Some meaning ≡ final_meaning form row
     unfolding final_meaning behind
     final_itself h = rw (← got, at) (no! _ (rw (← alias) h) refl)
 
-  pub final_nowhere : m ≡ None → None ≡ final_meaning form row
+  pub final_nowhere : m ≡ None → (X : Option Meaning) → X ≡ None → X ≡ final_meaning form row
   unfolding final_meaning behind
-  final_nowhere q = rw (← got, q)
+  final_nowhere q X x = x ∙ rw (← got, q)
 
 pub ruleset final_ways = (final_behind, final_itself, final_nowhere, rules)
 

@@ -61,15 +61,13 @@ pub fn is_outward(form: &[u8], row: u16) -> bool
 fn meant(form: &[u8], found: Option<Found>, out: u32) -> Option<Meaning>
     ensures { result ≡ meant form.now found out }
 {
-    match found {
-        Some(Found { row, number }) => Some(Meaning {
-            row,
-            number,
-            out,
-            name: x_at(form, row),
-        }),
-        None => None,
-    }
+    let Found { row, number } = found?;
+    Some(Meaning {
+        row,
+        number,
+        out,
+        name: x_at(form, row),
+    })
 }
 
 // A name by the outward reading: the innermost scope around a row that declares it.
@@ -85,21 +83,19 @@ fn outward(
     requires { Known form.now known.now names.now numbers.now }
     ensures { result ≡ outward_for form.now row space name }
 {
-    match scope_outward_with(
+    let Outer { scope, out } = scope_outward_with(
         form,
         known,
         names,
         numbers,
         scope_at(form, known, row),
         Wanted::Declaring { space, name },
-    ) {
-        Some(Outer { scope, out }) => meant(
-            form,
-            find_with(form, known, names, numbers, scope, space, Key::Name(name)),
-            out,
-        ),
-        None => None,
-    }
+    )?;
+    meant(
+        form,
+        find_with(form, known, names, numbers, scope, space, Key::Name(name)),
+        out,
+    )
 }
 
 // The declaration at an OUTER's index in its outer scope, found with the tables of the form where they are lent.
@@ -114,29 +110,27 @@ pub fn through_outer_with(
     ensures { result ≡ through_outer form.now row }
 {
     let e = e_at(form, row);
-    match scope_outward_with(
+    let Outer { scope, out } = scope_outward_with(
         form,
         known,
         names,
         numbers,
         scope_at(form, known, row),
         outer_wanted(e, x_at(form, row)),
-    ) {
-        Some(Outer { scope, out }) => meant(
+    )?;
+    meant(
+        form,
+        find_with(
             form,
-            find_with(
-                form,
-                known,
-                names,
-                numbers,
-                scope,
-                b_at(form, row),
-                index_key(e, y_at(form, row)),
-            ),
-            out,
+            known,
+            names,
+            numbers,
+            scope,
+            b_at(form, row),
+            index_key(e, y_at(form, row)),
         ),
-        None => None,
-    }
+        out,
+    )
 }
 
 // The declaration that a REF or an OUTER means, found with the tables of the form where they are lent; a number counts in its own scope, and no
@@ -191,26 +185,11 @@ pub fn meaning_of(form: &[u8], row: u16) -> Option<Meaning>
 pub fn final_meaning(form: &[u8], row: u16) -> Option<Meaning>
     ensures { result ≡ final_meaning form.now row }
 {
-    match meaning_of(form, row) {
-        Some(
-            Meaning {
-                row: decl,
-                number,
-                out,
-                name,
-            },
-        ) => {
-            if is_inserted_outer(form, decl) {
-                through_outer(form, next(decl))
-            } else {
-                Some(Meaning {
-                    row: decl,
-                    number,
-                    out,
-                    name,
-                })
-            }
-        }
-        None => None,
+    let meaning = meaning_of(form, row)?;
+    let decl = meaning.row;
+    if is_inserted_outer(form, decl) {
+        through_outer(form, next(decl))
+    } else {
+        Some(meaning)
     }
 }

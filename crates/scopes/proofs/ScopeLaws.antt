@@ -1,6 +1,6 @@
 -- The ways through the code that goes through scopes.
-use Rattle.std.specs.Prelude.{Option, Some, None}
-use mathlib.Core.Path.{◌≡◌, refl, sym, ◌∙◌}
+use Rattle.std.specs.Prelude.{Option, Some, None, is_some}
+use mathlib.Core.Path.{◌≡◌, refl, ◌∙◌}
 use mathlib.Core.Bool.{Bool, true, false, ◌&&◌, not}
 use mathlib.Core.List.{List}
 use native.Mathlib.Omega.{arith}
@@ -8,10 +8,10 @@ use Prim.Native.Nat.{ℕ, zero, suc, ◌+◌, ◌-◌, ◌≤◌, ◌<◌}
 use borrow.Author.Rules.{rules}
 use lib.Dec.{eqb, leb}
 use Rattle.kit.specs.Pick.{pick}
-use Rattle.kit.proofs.Laws.{yes!, no!, tests, left_suc, down}
+use Rattle.kit.proofs.Laws.{yes!, no!, tests, left_suc}
 use Rattle.rules.specs.Readings.{is_fresh}
 use Rattle.row_parts.specs.Parts.{code_at, x_at, rows_in}
-use Rattle.scopes.specs.Scopes.{level_behind, scope_of, declares, is_meant, find_from, find_in, is_found, declares_name, is_wanted, outward_from, scope_outward}
+use Rattle.scopes.specs.Scopes.{level_behind, scope_of, declares, is_meant, find_from, find_in, declares_name, is_wanted, outward_from, scope_outward}
 use Rattle.scopes.specs.declared.Key.{Key}
 use Rattle.scopes.specs.declared.Key.TheVariants.{Name, Number, Inserted}
 use Rattle.scopes.specs.declared.Wanted.{Wanted}
@@ -59,13 +59,9 @@ module _ (form : List ℕ) (space : ℕ) (key : Key) (rows row level number : �
 -- ---- outward
 
 module _ (form : List ℕ) (scope space name : ℕ) (f : Option Found) (w : f ≡ find_in form scope space (Name name)) where
-  pub declares_at : (row number : ℕ) → f ≡ Some (record { row = row; number = number }) → true ≡ declares_name form scope space name
+  pub declares_found : is_some f ≡ declares_name form scope space name
   unfolding declares_name
-  declares_at row number q = rw (← w, q)
-
-  pub declares_nothing : f ≡ None → false ≡ declares_name form scope space name
-  unfolding declares_name
-  declares_nothing q = rw (← w, q)
+  declares_found = rw (← w)
 
 module _ (form : List ℕ) (scope out : ℕ) (wanted : Wanted) where
   pub wanted_out : (count : ℕ) → wanted ≡ Out count → eqb out count ≡ is_wanted form scope out wanted
@@ -101,7 +97,7 @@ module _ (form : List ℕ) (wanted : Wanted) (scope around out : ℕ) (T : Optio
     pub outward_on : b ≡ false → (a : ℕ) → a ≡ scope_of form (around - 1) → outward_from form wanted (scope - (out + 1)) a (out + 1) ≡ T
     outward_on e a ha = no! _ (omega tests) (no! _ e (rw ha)) ∙ sought
 
-pub ruleset scope_ways = (meant_name, meant_number, meant_inserted, declares_at, declares_nothing, wanted_out, wanted_named, wanted_declaring, rules)
+pub ruleset scope_ways = (meant_name, meant_number, meant_inserted, declares_found, wanted_out, wanted_named, wanted_declaring, rules)
 
 pub ruleset find_ways = (find_start, find_end, find_close, find_hit, rules)
 

@@ -299,15 +299,15 @@ number_count form row =
 -- ---- the first declaration that has a key
 
 module _ (form : List ℕ) (s space : ℕ) (key : Key) where
-  abbrev None : (row : ℕ) → Type 0
-  None row = (i : ℕ) → i < row → is_sought form s space key i ≡ false
+  abbrev Unsought : (row : ℕ) → Type 0
+  Unsought row = (i : ℕ) → i < row → is_sought form s space key i ≡ false
 
-  first_none : (row found : ℕ) → None row → first_above form s space key row found ≡ found
+  first_none : (row found : ℕ) → Unsought row → first_above form s space key row found ≡ found
   unfolding first_above pick
   first_none zero found n = refl
   first_none (suc row) found n = rw (n row (omega arith)) (first_none row found (λ i h. n i (omega arith)))
 
-  first_hit : (row more found : ℕ) → None row → is_sought form s space key row ≡ true → first_above form s space key (suc row + more) found ≡ suc row
+  first_hit : (row more found : ℕ) → Unsought row → is_sought form s space key row ≡ true → first_above form s space key (suc row + more) found ≡ suc row
   unfolding first_above pick
   first_hit row zero found n h =
       let z : suc row + 0 ≡ suc row = omega arith in
@@ -343,7 +343,7 @@ module _ (form : List ℕ) (s space : ℕ) (key : Key) where
       none false = refl
 
   -- behind the CLOSE there is none
-  none_close : (row more : ℕ) → s ≤ row → None row → eqb (code_at form row) 8 ≡ true → Past form s (row + 1) → None more
+  none_close : (row more : ℕ) → s ≤ row → Unsought row → eqb (code_at form row) 8 ≡ true → Past form s (row + 1) → Unsought more
   none_close row more b n c p i h = by (lt_or_le i row) (lt_or_le row i)
     where
       by : (i < row) ⊎ (row ≤ i) → (row < i) ⊎ (i ≤ row) → is_sought form s space key i ≡ false
@@ -353,7 +353,7 @@ module _ (form : List ℕ) (s space : ℕ) (key : Key) where
           sought_past i (rw e at (past_more form s (row + 1) (i - (row + 1)) (omega arith) p))
       by (inr k) (inr q) = let e : i ≡ row = omega arith in rw e (sought_close row c)
 
-  none_on : (row : ℕ) → None row → is_sought form s space key row ≡ false → None (row + 1)
+  none_on : (row : ℕ) → Unsought row → is_sought form s space key row ≡ false → Unsought (row + 1)
   none_on row n e i h = by (lt_or_le i row)
     where
       by : (i < row) ⊎ (row ≤ i) → is_sought form s space key i ≡ false
@@ -361,7 +361,7 @@ module _ (form : List ℕ) (s space : ℕ) (key : Key) where
       by (inr k) = let q : i ≡ row = omega arith in rw q e
 
   module _ (inner : 0 < s) where
-    find_from_lem : (left row l n : ℕ) → s ≤ row → On form s row l → n ≡ count_above form s space row → None row → find_from form space key row left l n ≡ found_at form (first_above form s space key (row + left) 0)
+    find_from_lem : (left row l n : ℕ) → s ≤ row → On form s row l → n ≡ count_above form s space row → Unsought row → find_from form space key row left l n ≡ found_at form (first_above form s space key (row + left) 0)
     unfolding find_from found_at count_above is_sought
     find_from_lem zero row l n b o q e = let z : row + 0 ≡ row = omega arith in rw (z, first_none row 0 e)
     find_from_lem (suc left) row l n b o q e =

@@ -1,5 +1,5 @@
 -- Scopes, and what they declare. A scope is known by its first row, the one behind its OPEN; the rows outside every OPEN have 0 for theirs.
-use Rattle.std.specs.Prelude.{Bool, true, false, ◌&&◌, not, List, ℕ, zero, suc, ◌+◌, ◌-◌, eqb, Option, Some, None}
+use Rattle.std.specs.Prelude.{Bool, ◌&&◌, not, List, ℕ, zero, suc, ◌+◌, ◌-◌, eqb, Option, Some, None, is_some}
 use Rattle.kit.specs.Pick.{pick}
 use Rattle.rules.specs.Readings.{is_fresh}
 use Rattle.row_parts.specs.Parts.{code_at, x_at, rows_in}
@@ -35,14 +35,9 @@ find_in form scope space key = find_from form space key scope (rows_in form - sc
 
 -- ---- outward
 
--- was a declaration found?
-abbrev pub is_found : Option Found → Bool
-is_found (Some found) = true
-is_found None = false
-
 -- does the scope declare this name in this space?
 unfoldable pub declares_name : (form : List ℕ) (scope space name : ℕ) → Bool
-declares_name form scope space name = is_found (find_in form scope space (Name name))
+declares_name form scope space name = is_some (find_in form scope space (Name name))
 
 -- a scope's name is that of its OPEN
 abbrev pub is_wanted : (form : List ℕ) (scope out : ℕ) → Wanted → Bool

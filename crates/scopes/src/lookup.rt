@@ -147,10 +147,7 @@ fn declares_name(
     requires { Known form.now known.now names.now numbers.now }
     ensures { result ≡ declares_name form.now scope space name }
 {
-    match find_with(form, known, names, numbers, scope, space, Key::Name(name)) {
-        Some(_) => true,
-        None => false,
-    }
+    find_with(form, known, names, numbers, scope, space, Key::Name(name)).is_some()
 }
 
 // Whether a scope that is `out` scopes out is the one that is wanted.

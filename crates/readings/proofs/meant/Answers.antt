@@ -2,8 +2,8 @@
 use Rattle.readings.proofs.MeaningLaws.{meaning_ways}
 use Rattle.readings.proofs.meant.Goals as goal
 
-pub returns-in-Some : goal.returns-in-Some
-returns-in-Some c = search meaning_ways
+pub returns-in_err-row : goal.returns-in_err-row
+returns-in_err-row c = search meaning_ways
 
-pub returns-in-None : goal.returns-in-None
-returns-in-None c = search meaning_ways
+pub returns : goal.returns
+returns c = search meaning_ways

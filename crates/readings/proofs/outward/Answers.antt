@@ -6,8 +6,8 @@ use Rattle.readings.proofs.outward.Goals as goal
 pub scope_at-requires : goal.scope_at-requires
 scope_at-requires c = search lent_ways
 
-pub returns-in-Some : goal.returns-in-Some
-returns-in-Some c = search meaning_ways
+pub returns : goal.returns
+returns c = search (meaning_ways, c.in_ok-scope.was)
 
-pub returns-in-None : goal.returns-in-None
-returns-in-None c = search meaning_ways
+pub returns-in_err-scope : goal.returns-in_err-scope
+returns-in_err-scope c = search meaning_ways

@@ -1,6 +1,5 @@
 -- `scopes::find` meets its contract. The invariant: the search from here answers what the search from the start does.
 use mathlib.Core.Path.{◌∙◌}
-use Prim.Native.Nat.{◌-◌}
 use borrow.Author.Rules.{rules}
 use Rattle.row_parts.proofs.PartLaws.{count_on_lem}
 use Rattle.scope_rows.proofs.LevelLaws.{level_on_lem}

@@ -3,7 +3,6 @@ use Rattle.scopes.proofs.ChainLaws.{link_less, first_start, first_next, first_en
 use Rattle.scopes.proofs.TableLaws.{counts_below}
 use native.Mathlib.Omega.{arith}
 use borrow.Author.Rules.{rules}
-use Rattle.scopes.specs.Tables.{chain_of, sought_by}
 use Rattle.scopes.proofs.lookup.first_on.Goals as goal
 
 pub loop-next-init : goal.loop-next-init

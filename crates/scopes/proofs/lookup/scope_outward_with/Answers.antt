@@ -1,7 +1,6 @@
 -- `scopes::lookup::scope_outward_with` meets its contract.
 use Rattle.scopes.proofs.ScopeLaws.{outward_ways}
 use Rattle.scopes.proofs.FoundLaws.{lent_ways}
-use Prim.Native.Nat.{◌-◌}
 use Rattle.scopes.proofs.lookup.scope_outward_with.Goals as goal
 
 pub loop-around-init : goal.loop-around-init
