@@ -1,15 +1,15 @@
 -- The ways through the code that tells what a line is.
 use Rattle.std.specs.Prelude.{Option, None, Result, Ok, Err}
-use mathlib.Core.Path.{◌≡◌, refl, sym, ◌∙◌}
+use mathlib.Core.Path.{◌≡◌, refl, ◌∙◌}
 use mathlib.Core.Bool.{Bool, true, false}
-use mathlib.Core.List.{List, [], ◌∷◌}
+use mathlib.Core.List.{List}
 use native.Mathlib.Omega.{arith}
 use Prim.Native.Nat.{ℕ, ◌+◌, ◌≤◌, ◌<◌}
 use borrow.Author.Rules.{rules}
 use lib.Dec.{eqb}
 use lib.ListN.{length, get_or, drop, drop_of_length-le}
 use Rattle.kit.specs.Pick.{pick}
-use Rattle.kit.specs.Out.{Out, ◌&◌}
+use Rattle.kit.specs.Out.{◌&◌}
 use Rattle.kit.proofs.Laws.{yes!, no!, tests, drop_next, past}
 use Rattle.text.specs.Lines.{is_blank_byte, is_blank, is_comment, is_apart, is_closed, has_bracket, sized, number_then, row_in, line_of}
 use Rattle.text.specs.Numbers.{number_behind}

@@ -1,5 +1,5 @@
 -- The lines of a text, and the form that they make.
-use Rattle.std.specs.Prelude.{Some, None, Result, Ok, Err, ℕ}
+use Rattle.std.specs.Prelude.{Some, None, Result, Ok, Err, ℕ, Option}
 use mathlib.Core.Path.{◌≡◌, refl, sym, ap, ◌∙◌}
 use mathlib.Core.Bool.{Bool, true, false}
 use mathlib.Core.List.{List, [], ◌∷◌, ◌++◌}

@@ -1,5 +1,5 @@
 -- The lines of a text, and what a line is: a row, a comment, blank, or wrong.
-use Rattle.std.specs.Prelude.{Bool, true, false, ◌||◌, List, [], ◌∷◌, ℕ, zero, suc, eqb, ltb, get_or, Option, Some, None, Result, Ok, Err}
+use Rattle.std.specs.Prelude.{Bool, true, false, ◌||◌, List, [], ◌∷◌, ℕ, suc, eqb, ltb, get_or, Option, Some, None, Result, Ok, Err}
 use Rattle.kit.specs.Pick.{pick}
 use Rattle.kit.specs.Out.{Out, ◌&◌}
 use Rattle.parts.specs.PartsAt.{parts}

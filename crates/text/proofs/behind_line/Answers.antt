@@ -1,5 +1,4 @@
 -- `text::behind_line` meets its contract. The invariant: the line is as long as what is passed of it and what is left.
-use Prim.Native.Nat.{◌-◌}
 use Rattle.text.proofs.TextLaws.{length_ways}
 use Rattle.text.proofs.behind_line.Goals as goal
 

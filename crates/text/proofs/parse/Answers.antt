@@ -1,5 +1,4 @@
 -- `text::parse` meets its contract. The invariant: the lines from here on make of the rows so far what all lines make.
-use Prim.Native.Nat.{◌-◌}
 use borrow.Author.Rules.{rules}
 use Rattle.text.proofs.TextLaws.{text_start, text_end, text_wrong, text_many, row_room, rows_room, text_ways}
 use Rattle.text.proofs.parse.Goals as goal

@@ -1,5 +1,4 @@
 -- `text::lines::has_bracket` meets its contract. The invariant: a bracket opens from here on exactly if one opens from the start on.
-use Prim.Native.Nat.{◌-◌}
 use Rattle.text.proofs.LineLaws.{bracket_ways}
 use Rattle.text.proofs.lines.has_bracket.Goals as goal
 

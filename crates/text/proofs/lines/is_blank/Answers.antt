@@ -1,5 +1,4 @@
 -- `text::lines::is_blank` meets its contract. The invariant: the bytes from here on are blank exactly if all of them are.
-use Prim.Native.Nat.{◌-◌}
 use Rattle.text.proofs.LineLaws.{blank_ways}
 use Rattle.text.proofs.lines.is_blank.Goals as goal
 

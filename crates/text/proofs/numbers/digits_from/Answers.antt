@@ -1,5 +1,4 @@
 -- `text::numbers::digits_from` meets its contract. The invariant: the digits from here on make of the number so far what all of them make.
-use Prim.Native.Nat.{◌-◌}
 use Rattle.text.proofs.NumberLaws.{digits_ways}
 use Rattle.text.proofs.numbers.digits_from.Goals as goal
 

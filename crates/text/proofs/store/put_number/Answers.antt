@@ -1,5 +1,4 @@
 -- `text::store::put_number` meets its contract. The invariant: the bytes that are left to store make what all of them make.
-use Prim.Native.Nat.{◌-◌}
 use Rattle.text.proofs.TextLaws.{bytes_ways}
 use Rattle.text.proofs.store.put_number.Goals as goal
 
