@@ -1,5 +1,6 @@
 -- Ways through the settings, and through the code that reads a form by itself.
-use Rattle.std.specs.Prelude.{Result, Ok, Err, ⊤, ℕ}
+use Rattle.std.specs.Prelude.{Result, Ok, Err, IsErrAnd, ⊤}
+use Rattle.std.proofs.lemmas.Result.{err_from_is_err_and}
 use mathlib.Core.Path.{◌≡◌, refl, sym, ap, ◌∙◌}
 use mathlib.Core.Bool.{Bool, true, false, ◌||◌, not}
 use mathlib.Core.Option.{Option, some}
@@ -28,12 +29,11 @@ use Rattle.read_form.specs.ReadForm.{as_answer, read_form}
 use Rattle.limits.specs.declared.Limits.{Limits}
 use Rattle.limits.specs.Held.{setting_in, limits_of, setting}
 use Rattle.limits.proofs.Laws.{stand_for, stand_claimed, few_rows}
-use Rattle.form.specs.Header.{header_in, header_for, header_to}
+use Rattle.form.specs.Header.{header_in, header_for, header_to, refusal_of}
 use Rattle.form.specs.declared.header.BadHeader.TheVariants.{Wrong, Count}
 use Rattle.reader.specs.ReadTo.{answer_of, read_to}
 use Rattle.whole_form.specs.Asked.{or_next, held_as, asked_from, asked_of, claimed_of}
 use Rattle.whole_form.specs.Whole.{refused_t, form_of, read_t, body_t, head_t, held_t}
-use Rattle.form.specs.declared.header.BadHeader.TheVariants as asked
 use Rattle.reader.specs.declared.BadRows.TheVariants as rows_read
 use Rattle.form.specs.declared.header.BadHeader.{BadHeader}
 use Rattle.reader.specs.declared.BadRows.{BadRows}
@@ -93,7 +93,7 @@ module _ (claim : Bool) (i : ℕ) (l : Limits) where
   limits_input h e = rw h e
 
 module _ (claim : Bool) (input : List ℕ) (i : ℕ) (T : Result Asked BadHeader) (inv : asked_from claim i (drop i all) input ≡ T) where
-  pub asked_end : 3 ≤ i → Err asked.Wrong ≡ T
+  pub asked_end : 3 ≤ i → Err Wrong ≡ T
   unfolding asked_from
   asked_end h = rw (drop_of_length-le all h) at inv
 
@@ -108,7 +108,7 @@ module _ (claim : Bool) (input : List ℕ) (i : ℕ) (T : Result Asked BadHeader
     unfolding or_next
     asked_rows rows w = rw w at turn
 
-    pub asked_count : said ≡ Err Count → Err asked.Count ≡ T
+    pub asked_count : said ≡ Err Count → Err Count ≡ T
     unfolding or_next
     asked_count w = rw w at turn
 
@@ -201,13 +201,9 @@ module _ (l : Limits) (input : List ℕ) where
     head_long_lem rows q = let n = (header_rows (setting_in l) input rows (sym q ∙ e)).long in omega (arith, held_header l)
 
     module _ (low : l.rows ≤ 4294967295) (v : Result ℕ Refusal) where
-      pub head_wrong : h ≡ Err Wrong → v ≡ refused_t 1 0 → v ≡ form_of (read_form (setting_in l) input)
+      pub head_bad : (why : BadHeader) → h ≡ Err why → IsErrAnd v (λ refusal. refusal ≡ refusal_of why) → v ≡ form_of (read_form (setting_in l) input)
       unfolding held_t head_t
-      head_wrong q w = w ∙ rw (← e, q) at (held_is low)
-
-      pub head_count : h ≡ Err Count → v ≡ refused_t 2 0 → v ≡ form_of (read_form (setting_in l) input)
-      unfolding held_t head_t
-      head_count q w = w ∙ rw (← e, q) at (held_is low)
+      head_bad why q w = let p = err_from_is_err_and v w in p.1 ∙ ap Err p.2 ∙ rw (← e, q) at (held_is low)
 
       pub head_rows_lem : (rows : ℕ) → h ≡ Ok rows → v ≡ body_t l rows input → v ≡ form_of (read_form (setting_in l) input)
       unfolding held_t head_t
@@ -229,4 +225,4 @@ module _ (i : ℕ) (l : Limits) where
     pub claim_read : (input : List ℕ) (v : Result ℕ Refusal) → v ≡ form_of (read_form (setting_in l) input) → v ≡ form_of (read_form (as_claimed (setting i)) input)
     claim_read input v w = rw (e, stand_claimed i) at w
 
-pub ruleset read_ways = (rows_broken, rows_deep, rows_whole, body_read, head_long_lem, head_wrong, head_count, head_rows_lem, input_rows, input_read, claim_rows, claim_read, rules)
+pub ruleset read_ways = (rows_broken, rows_deep, rows_whole, body_read, head_long_lem, head_bad, head_rows_lem, input_rows, input_read, claim_rows, claim_read, rules)

@@ -5,7 +5,6 @@ use Rattle.rules.specs.Versions.{Setting, all, as_claimed}
 use Rattle.rules.specs.Answer.{has_header}
 use Rattle.kit.specs.Pick.{pick}
 use Rattle.form.specs.Header.{header_for}
-use Rattle.form.specs.declared.header.BadHeader.TheVariants as header
 use Rattle.form.specs.declared.header.BadHeader.TheVariants.{Wrong, Count}
 use Rattle.form.specs.declared.header.BadHeader.{BadHeader}
 use Rattle.whole_form.specs.declared.asked.Asked.{Asked}
@@ -13,8 +12,8 @@ use Rattle.whole_form.specs.declared.asked.Asked.{Asked}
 -- what the header says if it is that of the setting at place i, and else this
 unfoldable pub or_next : (i : ℕ) → Result ℕ BadHeader → Result Asked BadHeader → Result Asked BadHeader
 or_next i (Ok rows) else = Ok (record { setting = i; rows = rows })
-or_next i (Err header.Wrong) else = else
-or_next i (Err header.Count) else = Err Count
+or_next i (Err Wrong) else = else
+or_next i (Err Count) else = Err Count
 
 -- the setting to read a claimed output by, or an input
 unfoldable pub held_as : (claim : Bool) → Setting → Setting

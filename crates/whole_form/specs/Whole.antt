@@ -3,8 +3,7 @@ use Rattle.std.specs.Prelude.{List, ℕ, ◌%◌, length, drop, Result, Ok, Err,
 use Rattle.rules.specs.Tree.{Scope, flatten}
 use Rattle.rules.specs.Answer.{AnswerOf, refused, accepted}
 use Rattle.limits.specs.declared.Limits.{Limits}
-use Rattle.form.specs.Header.{header_to}
-use Rattle.form.specs.declared.header.BadHeader.TheVariants.{Wrong, Count}
+use Rattle.form.specs.Header.{header_to, refusal_of}
 use Rattle.reader.specs.ReadTo.{read_to}
 use Rattle.reader.specs.declared.BadRows.TheVariants as rows_read
 use Rattle.form.specs.declared.header.BadHeader.{BadHeader}
@@ -33,8 +32,7 @@ unfoldable pub body_t : Limits → (rows : ℕ) → List ℕ → Result ℕ Refu
 body_t l rows form = read_t (read_to l (drop l.header form)) rows
 
 unfoldable pub head_t : Limits → Result ℕ BadHeader → List ℕ → Result ℕ Refusal
-head_t l (Err Wrong) form = refused_t 1 0
-head_t l (Err Count) form = refused_t 2 0
+head_t l (Err why) form = Err (refusal_of why)
 head_t l (Ok rows) form = body_t l rows form
 
 unfoldable pub held_t : Limits → List ℕ → Result ℕ Refusal

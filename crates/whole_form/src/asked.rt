@@ -10,10 +10,12 @@ use limits::{Limits, of_claim, of_input};
 // How many settings there are.
 const SETTINGS: usize = 3;
 
-// What the header asks for.
+// What a header asks for.
 #[derive(Clone, Copy)]
 pub struct Asked {
+    // The setting's place in the list of all,
     pub setting: usize,
+    // and how many rows the header counts; the bytes have just as many.
     pub rows: usize,
 }
 

@@ -6,10 +6,10 @@ ghost use Rattle.limits.specs.Held.{setting_in, setting};
 ghost use Rattle.reader.specs.ReadTo.{read_to};
 ghost use Rattle.whole_form.specs.Whole.{form_of, refused_t, read_t, body_t};
 
-use form::header::{BadHeader, header_to};
+use form::header::header_to;
 use limits::{Limits, of_claim, of_input};
 use reader::{BadRows, read_to};
-use refusal::{BROKEN, DEEP, NOT_A_FORM, ROW_COUNT, Refusal};
+use refusal::{BROKEN, DEEP, Refusal};
 
 // A refusal whose number document 01 gives, and its place.
 fn refused(number: u32, place: u32) -> Result<usize, Refusal>
@@ -50,11 +50,8 @@ fn read_held(form: &[u8], limits: Limits) -> Result<usize, Refusal>
     requires { limits.rows ≤ 4294967295 }
     ensures { result ≡ form_of (read_form (setting_in limits) form.now) }
 {
-    match header_to(form, limits) {
-        Err(BadHeader::Wrong) => refused(NOT_A_FORM, 0),
-        Err(BadHeader::Count) => refused(ROW_COUNT, 0),
-        Ok(rows) => read_body(form, limits, rows),
-    }
+    let rows = header_to(form, limits)?;
+    read_body(form, limits, rows)
 }
 
 // Whether the bytes are an input of the setting at this place in the list of all.

@@ -1,5 +1,4 @@
 -- `whole_form::asked::asked_as` meets its contract. The invariant: what is asked for from here on is what is asked for.
-use Prim.Native.Nat.{◌-◌}
 use Rattle.whole_form.proofs.Ways.{asked_ways}
 use Rattle.whole_form.proofs.asked.asked_as.Goals as goal
 

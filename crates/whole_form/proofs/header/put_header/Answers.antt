@@ -1,6 +1,5 @@
 -- `whole_form::header::put_header` meets its contract. The invariant: with what is left to write, the output is as it must be.
 use mathlib.Core.Path.{refl}
-use Prim.Native.Nat.{◌-◌}
 use borrow.Author.Rules.{rules}
 use Rattle.copy.proofs.Laws.{copy_full}
 use Rattle.whole_form.proofs.Headers.{header_end, header_turn}
