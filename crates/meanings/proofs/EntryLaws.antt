@@ -31,8 +31,8 @@ put_past entries i e h = sym (set_out entries i e h)
 
 pub ruleset entry_ways = (any_default, past, put_past, rules)
 
-pub told_at : (m : Option Meaning) (row number out name : ℕ) → m ≡ Some (record { row = row; number = number; out = out; name = name }) → entry (row + 1) number out name ≡ told m
-told_at m row number out name q = rw q
+pub told_at : (m : Option Meaning) (found : Meaning) → m ≡ Some found → entry (found.row + 1) found.number found.out found.name ≡ told m
+told_at m found q = rw q
 
 pub told_nowhere : (m : Option Meaning) → m ≡ None → no_entry ≡ told m
 told_nowhere m q = rw q
@@ -129,17 +129,17 @@ module _ (form : List ℕ) (entries : List Entry) (row : ℕ) (b : Bool) (is : b
 pub ruleset read_ways = (is_noted_is, meaning_noted, number_noted, meaning_other, number_other, rules)
 
 module _ (form : List ℕ) (entries : List Entry) (row : ℕ) (m : Option Meaning) (got : m ≡ meaning_at form entries row) where
-  module _ (decl number out name : ℕ) (at : m ≡ Some (record { row = decl; number = number; out = out; name = name })) (i : Bool) (alias : i ≡ is_inserted_outer form decl) where
-    pub final_behind : i ≡ true → (n : ℕ) → n ≡ next_of decl → (X : Option Meaning) → X ≡ meaning_at form entries n → X ≡ final_at form entries row
+  module _ (meaning : Meaning) (at : m ≡ Some meaning) (i : Bool) (alias : i ≡ is_inserted_outer form meaning.row) where
+    pub final_behind : i ≡ true → (n : ℕ) → n ≡ next_of meaning.row → (X : Option Meaning) → X ≡ meaning_at form entries n → X ≡ final_at form entries row
     unfolding final_at behind_at
     final_behind h n hn X x = rw (← got, at) (yes! _ (rw (← alias) h) (x ∙ rw hn))
 
-    pub final_itself : i ≡ false → Some (record { row = decl; number = number; out = out; name = name }) ≡ final_at form entries row
+    pub final_itself : i ≡ false → Some meaning ≡ final_at form entries row
     unfolding final_at behind_at
     final_itself h = rw (← got, at) (no! _ (rw (← alias) h) refl)
 
-  pub final_nowhere : m ≡ None → None ≡ final_at form entries row
+  pub final_nowhere : m ≡ None → (X : Option Meaning) → X ≡ None → X ≡ final_at form entries row
   unfolding final_at behind_at
-  final_nowhere q = rw (← got, q)
+  final_nowhere q X x = x ∙ rw (← got, q)
 
 pub ruleset final_ways = (final_behind, final_itself, final_nowhere, rules)

@@ -1,7 +1,7 @@
 -- What is read of noted rows is what the readings say.
 use Rattle.std.specs.Prelude.{Option, Some, None}
 use mathlib.Core.Path.{◌≡◌, refl, sym, ◌∙◌}
-use mathlib.Core.Bool.{Bool, true, false, ◌&&◌}
+use mathlib.Core.Bool.{Bool, true, false}
 use mathlib.Core.Logic.{◌⊎◌, inl, inr}
 use mathlib.Core.List.{List}
 use native.Mathlib.Omega.{arith}
@@ -16,7 +16,7 @@ use Rattle.row_parts.specs.Parts.{code_at, x_at, rows_in, next_of, is_inserted, 
 use Rattle.scopes.specs.Scopes.{find_from, find_in, number_of}
 use Rattle.scopes.specs.declared.Key.{Key}
 use Rattle.readings.specs.Meaning.{meant, in_scope, in_outer, outward_for, through_outer, meaning_of, is_inserted_outer, behind, final_meaning}
-use Rattle.meanings.specs.Entries.{Entry, entry, no_entry, told, meant_by, note_from, noted, is_noted, read, meaning_at, number_at, behind_at, final_at}
+use Rattle.meanings.specs.Entries.{Entry, no_entry, told, meant_by, note_from, noted, is_noted, read, meaning_at, number_at, behind_at, final_at}
 use Rattle.scopes.proofs.ScopedLaws.{both_true}
 use Rattle.readings.specs.declared.Meaning.{Meaning}
 use Rattle.scopes.specs.declared.Found.{Found}

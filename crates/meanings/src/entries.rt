@@ -12,14 +12,7 @@ pub(crate) fn told(meaning: Option<Meaning>) -> Entry
     ensures { result ≡ told meaning }
 {
     match meaning {
-        Some(
-            Meaning {
-                row,
-                number,
-                out,
-                name,
-            },
-        ) => [row as u32 + 1, number, out, name],
+        Some(found) => [found.row as u32 + 1, found.number, found.out, found.name],
         None => [0; 4],
     }
 }

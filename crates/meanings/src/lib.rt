@@ -103,26 +103,11 @@ pub fn number_at(form: &[u8], entries: &[Entry], row: u16) -> u32
 pub fn final_at(form: &[u8], entries: &[Entry], row: u16) -> Option<Meaning>
     ensures { result ≡ final_at form.now entries.now row }
 {
-    match meaning_at(form, entries, row) {
-        Some(
-            Meaning {
-                row: decl,
-                number,
-                out,
-                name,
-            },
-        ) => {
-            if is_inserted_outer(form, decl) {
-                meaning_at(form, entries, next(decl))
-            } else {
-                Some(Meaning {
-                    row: decl,
-                    number,
-                    out,
-                    name,
-                })
-            }
-        }
-        None => None,
+    let meaning = meaning_at(form, entries, row)?;
+    let decl = meaning.row;
+    if is_inserted_outer(form, decl) {
+        meaning_at(form, entries, next(decl))
+    } else {
+        Some(meaning)
     }
 }

@@ -3,10 +3,10 @@ use Rattle.meanings.proofs.EntryLaws.{final_ways}
 use Rattle.meanings.proofs.final_at.Goals as goal
 
 pub returns-then-is_inserted_outer : goal.returns-then-is_inserted_outer
-returns-then-is_inserted_outer c = search final_ways
+returns-then-is_inserted_outer c = search (final_ways, c.in_ok-meaning.was)
 
 pub returns-else-is_inserted_outer : goal.returns-else-is_inserted_outer
 returns-else-is_inserted_outer c = search final_ways
 
-pub returns-in-None : goal.returns-in-None
-returns-in-None c = search final_ways
+pub returns-in_err-meaning : goal.returns-in_err-meaning
+returns-in_err-meaning c = search final_ways

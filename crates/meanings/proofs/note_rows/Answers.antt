@@ -1,7 +1,6 @@
 -- `meanings::note_rows` meets its contract.
 use Rattle.meanings.proofs.EntryLaws.{note_ways}
 use borrow.Author.Rules.{rules}
-use Prim.Native.Nat.{◌-◌}
 use Rattle.meanings.proofs.note_rows.Goals as goal
 
 pub loop-row-init : goal.loop-row-init

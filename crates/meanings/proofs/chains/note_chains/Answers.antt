@@ -3,7 +3,6 @@ use Rattle.scopes.proofs.ChainLaws.{chains_on, chains_all}
 use Rattle.scopes.proofs.TableLaws.{counts_below}
 use native.Mathlib.Omega.{arith}
 use borrow.Author.Rules.{rules}
-use Prim.Native.Nat.{◌-◌}
 use Rattle.meanings.proofs.chains.note_chains.Goals as goal
 
 pub loop-row-init : goal.loop-row-init

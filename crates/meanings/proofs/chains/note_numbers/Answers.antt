@@ -3,8 +3,7 @@ use Rattle.scopes.proofs.ChainLaws.{chain_space, chains_on}
 use Rattle.scopes.proofs.TableLaws.{counts_none, scopes_kept, counts_on, counts_below}
 use native.Mathlib.Omega.{arith}
 use borrow.Author.Rules.{rules}
-use Prim.Native.Nat.{◌-◌, ◌<◌}
-use Rattle.row_parts.specs.Parts.{rows_in}
+use Prim.Native.Nat.{◌<◌}
 use Rattle.meanings.proofs.chains.note_numbers.Goals as goal
 
 pub loop-row-init : goal.loop-row-init

@@ -2,7 +2,6 @@
 use Rattle.scopes.proofs.TableLaws.{scopes_on, scopes_ways}
 use native.Mathlib.Omega.{arith}
 use borrow.Author.Rules.{rules}
-use Prim.Native.Nat.{◌-◌}
 use Rattle.meanings.proofs.tables.note_scopes.Goals as goal
 
 pub loop-row-init : goal.loop-row-init
