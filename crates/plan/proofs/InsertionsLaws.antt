@@ -1,5 +1,5 @@
 -- Step B's ways through the code: each law is one unfolding of a twin, with the facts in the form in which the code gives them.
-use Rattle.std.specs.Prelude.{Option, Some, None, Result, Ok, Err}
+use Rattle.std.specs.Prelude.{is_some, Option, Some, None, Result, Ok, Err}
 use Rattle.std.proofs.Common.{◌≡◌, ℕ, suc, ◌+◌, ◌-◌, ◌/◌, ◌%◌, ◌<◌, ◌≤◌, Bool, true, false, not, List, [], ◌∷◌, length, get_or, set, replicate, sym, refl, ap, ◌∙◌, arith, rules}
 use borrow.Author.Tests.{not-true, not-false}
 use Rattle.kit.proofs.Laws.{yes!, no!, tests, left_suc, down}
@@ -12,13 +12,11 @@ use Rattle.rows.specs.declared.row.Index.TheVariants.{Number, Name}
 use Rattle.rows.specs.declared.row.Row.{Row}
 use Rattle.rows.specs.declared.row.Row.TheVariants.{Field, Decl, Ref, Open}
 use Rattle.form.specs.Part.{field_rows}
-use Rattle.refusal.specs.declared.Refusal.{Refusal}
-use Rattle.refusal.specs.declared.Told.{Told}
 use Rattle.refusal.specs.Refusals.{refusal_at, untold, of_space}
 use Rattle.names.specs.Table.{Slot, space_of, decl_slot, alias_slot, numbered_slot, first_of, scope_at, between, find_in, met_from, pushed}
 use Rattle.late.specs.Late.{late_in, before_around}
 use Rattle.plan.specs.Views.{if_decl, if_ref, field_code}
-use Rattle.plan.specs.Enter.{row_number, is_found}
+use Rattle.plan.specs.Enter.{row_number}
 use Rattle.plan.specs.Insertions.{Tables, Step, after32, bump_t, with_counts_t, declare_with, declare_t, insert_with, insert_alias_t, insert_then, plan_paths_t, plan_done_t, late_here_t, late_out_t, plan_outer_t, met_t, plan_name_t, plan_index_t, plan_ref_t, step_then, stops, plan_operands_t, declare_then, plan_decls_t, field_code_t, plan_insertions_t, plan_field_t, moved_t, plan_next_t, plan_fields_t, plan_seen_t, plan_scope_t}
 use Rattle.plan.specs.declared.insertions.PlanState.{PlanState}
 use Rattle.plan.specs.declared.insertions.Reference.{Reference}
@@ -94,7 +92,7 @@ module _ (names : List Slot) (scopes : List (List ℕ)) (counts : List ℕ) (p :
     outer_done e q ns cs w = no! _ (sym u ∙ f) (yes! _ (sym t ∙ not-false b e) (rw (← w)))
 
 module _ (entered names : List Slot) (scopes : List (List ℕ)) (counts : List ℕ) (p : PlanState) (r : Reference) where
-  module _ (name : ℕ) (b : Bool) (t : b ≡ is_found (find_in (between 0 p.entered entered) r.space name)) where
+  module _ (name : ℕ) (b : Bool) (t : b ≡ is_some (find_in (between 0 p.entered entered) r.space name)) where
     module _ (e : b ≡ true) (l : Bool) (u : l ≡ late_here_t names p r.space name) where
       pub name_here : l ≡ false → (Ok p & names & counts) ≡ plan_name_t entered names scopes counts p r name
       unfolding plan_name_t
@@ -143,7 +141,7 @@ module _ {a : Result PlanState Refused} {ns : List Slot} {cs : List ℕ} {W : St
   unfolding step_then
   then_done m e = rw (← w, m) e
 
-  then_stop : {x : Refusal} {y : Told} → a ≡ Err (record { refusal = x; told = y }) → (a & ns & cs) ≡ step_then W f stops
+  then_stop : {why : Refused} → a ≡ Err why → (Err why & ns & cs) ≡ step_then W f stops
   unfolding step_then
   then_stop m = rw (← w, m)
 
@@ -174,9 +172,9 @@ module _ (field : List ℕ) (entered names : List Slot) (scopes : List (List ℕ
       unfolding if_ref
       operands_turn next m = then_done (rw made at w) _ m refl ∙ (rw is at turn)
 
-      pub operands_stop : (x : Refusal) (y : Told) → a ≡ Err (record { refusal = x; told = y }) → (a & ns & cs) ≡ T
+      pub operands_stop : (why : Refused) → a ≡ Err why → (a & ns & cs) ≡ T
       unfolding if_ref
-      operands_stop x y m = then_stop (rw made at w) _ m ∙ (rw is at turn)
+      operands_stop why m = rw m (then_stop (rw made at w) _ m ∙ (rw is at turn))
 
 -- ---- plan_decls
 
@@ -222,9 +220,9 @@ module _ (field : List ℕ) (entered names : List Slot) (scopes : List (List ℕ
     insertions_all e X x = no! _ (sym (rw got at t) ∙ e) x
 
   module _ (a : Result PlanState Refused) (ns : List Slot) (cs : List ℕ) (w : (a & ns & cs) ≡ plan_insertions_t field entered names scopes counts p) where
-    pub field_stop : (x : Refusal) (y : Told) → a ≡ Err (record { refusal = x; told = y }) → (a & ns & cs) ≡ plan_field_t field entered names scopes counts p
+    pub field_stop : (why : Refused) → a ≡ Err why → (Err why & ns & cs) ≡ plan_field_t field entered names scopes counts p
     unfolding plan_field_t
-    field_stop x y m = then_stop w _ m
+    field_stop why m = then_stop w _ m
 
     pub field_done : (q : PlanState) → a ≡ Ok q → (used : ℕ) (ns₂ : List Slot) (cs₂ : List ℕ) → (used & ns₂ & cs₂) ≡ plan_decls_t field ns cs q.at q.used 1 (length field / 16 - 1) → (Ok (record { at = q.at; entered = q.entered; depth = q.depth; used = used; fresh = q.fresh; first = q.first; before = q.before; early = q.early }) & ns₂ & cs₂) ≡ plan_field_t field entered names scopes counts p
     unfolding plan_field_t declare_then
@@ -237,9 +235,9 @@ module _ (rows ends : List ℕ) (entered names : List Slot) (scopes : List (List
   unfolding plan_next_t
   next_done q m next v q₂ u = rw (u, v, is) (then_done (rw is at w) _ m refl)
 
-  pub next_stop : (x : Refusal) (y : Told) → a ≡ Err (record { refusal = x; told = y }) → (a & ns & cs) ≡ plan_next_t rows ends entered names scopes counts p
+  pub next_stop : (why : Refused) → a ≡ Err why → (Err why & ns & cs) ≡ plan_next_t rows ends entered names scopes counts p
   unfolding plan_next_t
-  next_stop x y m = then_stop (rw is at w) _ m
+  next_stop why m = then_stop (rw is at w) _ m
 
 -- ---- plan_fields, plan_scope
 
@@ -267,8 +265,8 @@ module _ (rows ends : List ℕ) (entered names : List Slot) (scopes : List (List
       pub fields_turn : (q : PlanState) → a ≡ Ok q → plan_fields_t rows ends entered ns scopes cs q (turns - 1) ≡ T
       fields_turn q m = then_done w _ m refl ∙ step
 
-      pub fields_stop : (x : Refusal) (y : Told) → a ≡ Err (record { refusal = x; told = y }) → (a & ns & cs) ≡ T
-      fields_stop x y m = then_stop w _ m ∙ step
+      pub fields_stop : (why : Refused) → a ≡ Err why → (Err why & ns & cs) ≡ T
+      fields_stop why m = then_stop w _ m ∙ step
 
 pub scope_whole : (rows ends : List ℕ) (entered names : List Slot) (scopes : List (List ℕ)) (p : PlanState) (a : Result PlanState Refused) (ns : List Slot) (cs : List ℕ) → (a & ns & cs) ≡ plan_fields_t rows ends entered names scopes (replicate 13 0) p (length rows / 16) → (a & ns) ≡ plan_scope_t rows ends entered names scopes p
 unfolding plan_scope_t plan_seen_t

@@ -1,5 +1,5 @@
 -- Step B as the code takes it: the slots of what is inserted before each field, and of its DECLs.
-use Rattle.std.specs.Prelude.{ℕ, zero, suc, ◌+◌, ◌-◌, ◌/◌, ◌%◌, Bool, false, List, length, replicate, ◌==◌, nat_le, nat_lt, slice_index, slice_index_or, slice_set, Option, Some, None, Result, Ok, Err}
+use Rattle.std.specs.Prelude.{ℕ, zero, suc, ◌+◌, ◌-◌, ◌/◌, ◌%◌, Bool, false, List, length, replicate, ◌==◌, nat_le, nat_lt, slice_index, slice_index_or, slice_set, is_some, Option, Some, None, Result, Ok, Err}
 use Rattle.kit.specs.Pick.{pick}
 use Rattle.kit.specs.Out.{Out, ◌&◌}
 use Rattle.rules.specs.Tools.{is_in}
@@ -8,13 +8,11 @@ use Rattle.rows.specs.RowAt.{row_at, code_at}
 use Rattle.rows.specs.declared.row.Index.{Index}
 use Rattle.rows.specs.declared.row.Index.TheVariants.{Number, Name}
 use Rattle.form.specs.Part.{field_rows}
-use Rattle.refusal.specs.declared.Refusal.{Refusal}
-use Rattle.refusal.specs.declared.Told.{Told}
 use Rattle.refusal.specs.Refusals.{refusal_at, untold, of_space}
 use Rattle.names.specs.Table.{Slot, space_of, decl_slot, alias_slot, numbered_slot, first_of, scope_at, between, find_in, met_from, pushed}
 use Rattle.late.specs.Late.{late_in, before_around}
 use Rattle.plan.specs.Views.{if_decl, if_ref, field_code}
-use Rattle.plan.specs.Enter.{row_number, is_found}
+use Rattle.plan.specs.Enter.{row_number}
 use Rattle.plan.specs.declared.insertions.PlanState.{PlanState}
 use Rattle.plan.specs.declared.insertions.Reference.{Reference}
 use Rattle.names.specs.declared.Met.{Met}
@@ -103,7 +101,7 @@ met_t (Some met) names scopes counts p r name =
 -- a walked name: one of this scope needs nothing, one of a scope further out an outer alias; too late, it is refusal 13
 unfoldable pub plan_name_t : (entered names : List Slot) (scopes : List (List ℕ)) → List ℕ → PlanState → Reference → (name : ℕ) → Step
 plan_name_t entered names scopes counts p r name =
-    pick (is_found (find_in (between 0 p.entered entered) r.space name))
+    pick (is_some (find_in (between 0 p.entered entered) r.space name))
     (pick (late_here_t names p r.space name) (Err (record { refusal = refusal_at 13 r.z; told = untold }) & names & counts) (Ok p & names & counts))
     (met_t (met_from names scopes p.depth p.depth r.space name) names scopes counts p r name)
 
@@ -122,13 +120,13 @@ plan_ref_t entered names scopes counts p r =
     (plan_index_t r.at entered names scopes counts p r)
 
 -- goes on after a part of step B, by `f` if it is done and by `g` if it refused
-unfoldable pub step_then : {A : Type 0} → Step → (List Slot → List ℕ → PlanState → A) → (Refusal → Told → List Slot → List ℕ → A) → A
+unfoldable pub step_then : {A : Type 0} → Step → (List Slot → List ℕ → PlanState → A) → (Refused → List Slot → List ℕ → A) → A
 step_then (Ok p & names & counts) f g = f names counts p
-step_then (Err refused & names & counts) f g = g refused.refusal refused.told names counts
+step_then (Err refused & names & counts) f g = g refused names counts
 
 -- a refusal ends the step
-abbrev pub stops : Refusal → Told → List Slot → List ℕ → Step
-stops why told names counts = Err (record { refusal = why; told = told }) & names & counts
+abbrev pub stops : Refused → List Slot → List ℕ → Step
+stops refused names counts = Err refused & names & counts
 
 -- the rows from i on, of which `left` are left; `row` is the input row of the field
 unfoldable pub plan_operands_t : (field : List ℕ) (entered names : List Slot) (scopes : List (List ℕ)) → List ℕ → PlanState → (row i left : ℕ) → Step
@@ -162,7 +160,7 @@ field_code_t field = field_code (row_at field 0)
 abbrev pub rows_after : List ℕ → ℕ
 rows_after field = length field / 16 - 1
 
--- what a field makes the scope insert: nothing where its operands are here_only_lem
+-- what a field makes the scope insert: nothing where its operands are here-only
 unfoldable pub plan_insertions_t : (field : List ℕ) (entered names : List Slot) (scopes : List (List ℕ)) → List ℕ → PlanState → Step
 plan_insertions_t field entered names scopes counts p =
     pick (here_only (field_code_t field)) (Ok p & names & counts)

@@ -1,5 +1,5 @@
 -- `plan::enter::enter_field` meets its contract.
-use Rattle.std.proofs.Common.{◌-◌, rules}
+use Rattle.std.proofs.Common.{rules}
 use Rattle.plan.proofs.Grows.{grows}
 use Rattle.plan.proofs.EnterLaws.{ways, enter_turn}
 use Rattle.plan.proofs.enter.enter_field.Goals as goal

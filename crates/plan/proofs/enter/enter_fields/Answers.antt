@@ -1,5 +1,5 @@
 -- `plan::enter::enter_fields` meets its contract.
-use Rattle.std.proofs.Common.{◌-◌, rules}
+use Rattle.std.proofs.Common.{rules}
 use Rattle.plan.proofs.Grows.{grows}
 use Rattle.plan.proofs.EnterLaws.{ways}
 use Rattle.plan.proofs.enter.enter_fields.Goals as goal
@@ -22,8 +22,8 @@ row_number-next-requires c = search grows
 pub loop-turns-preserved : goal.loop-turns-preserved
 loop-turns-preserved c = (search ways, search grows, search rules, search rules)
 
-pub returns-in-Err : goal.returns-in-Err
-returns-in-Err c = (search ways, search grows)
+pub returns-in_err-count : goal.returns-in_err-count
+returns-in_err-count c = (search ways, search grows)
 
 pub returns : goal.returns
 returns c = (search ways, search grows)

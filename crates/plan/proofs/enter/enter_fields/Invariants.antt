@@ -1,5 +1,5 @@
 -- `plan::enter::enter_fields` meets its contract.
-use Rattle.std.proofs.Common.{◌≡◌, ◌-◌, ◌/◌, length}
+use Rattle.std.proofs.Common.{◌≡◌, ◌/◌, length}
 use Rattle.index.specs.Indexed.{Holds}
 use Rattle.plan.specs.Enter.{enter_fields_t}
 use Rattle.plan.proofs.enter.enter_fields.Given as goal

@@ -1,5 +1,5 @@
 -- `plan::insertions::declare` meets its contract.
-use Rattle.std.proofs.Common.{◌-◌, rules}
+use Rattle.std.proofs.Common.{rules}
 use Rattle.plan.proofs.Grows.{grows}
 use Rattle.plan.proofs.InsertionsLaws.{ways}
 use Rattle.plan.proofs.insertions.declare.Goals as goal

@@ -1,5 +1,4 @@
 -- `plan::insertions::insert` meets its contract.
-use Rattle.std.proofs.Common.{◌-◌}
 use Rattle.plan.proofs.Grows.{grows}
 use Rattle.plan.proofs.InsertionsLaws.{ways}
 use Rattle.plan.proofs.insertions.insert.Goals as goal

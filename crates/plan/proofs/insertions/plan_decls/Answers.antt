@@ -1,5 +1,5 @@
 -- `plan::insertions::plan_decls` meets its contract.
-use Rattle.std.proofs.Common.{◌-◌, rules}
+use Rattle.std.proofs.Common.{rules}
 use Rattle.plan.proofs.Grows.{grows}
 use Rattle.plan.proofs.InsertionsLaws.{ways, decls_turn}
 use Rattle.plan.proofs.insertions.plan_decls.Goals as goal

@@ -1,5 +1,5 @@
 -- `plan::insertions::plan_fields` meets its contract.
-use Rattle.std.proofs.Common.{◌≡◌, ◌-◌, ◌/◌, length}
+use Rattle.std.proofs.Common.{◌≡◌, ◌/◌, length}
 use Rattle.plan.specs.Serves.{Grown}
 use Rattle.plan.specs.Insertions.{plan_fields_t}
 use Rattle.plan.proofs.insertions.plan_fields.Given as goal

@@ -1,5 +1,5 @@
 -- `plan::insertions::plan_operands` meets its contract.
-use Rattle.std.proofs.Common.{◌-◌, rules}
+use Rattle.std.proofs.Common.{rules}
 use Rattle.plan.proofs.Grows.{grows}
 use Rattle.plan.proofs.InsertionsLaws.{operands_turn, operands_other, operands_stop, operands_open, operands_end}
 use Rattle.plan.proofs.insertions.plan_operands.Goals as goal

@@ -1,5 +1,5 @@
 -- `plan::insertions::plan_paths` meets its contract.
-use Rattle.std.proofs.Common.{◌-◌, rules}
+use Rattle.std.proofs.Common.{rules}
 use Rattle.plan.proofs.Grows.{grows}
 use Rattle.plan.proofs.InsertionsLaws.{ways, paths_turn}
 use Rattle.plan.proofs.insertions.plan_paths.Goals as goal

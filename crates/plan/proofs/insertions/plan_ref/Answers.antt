@@ -1,5 +1,4 @@
 -- `plan::insertions::plan_ref` meets its contract.
-use Rattle.std.proofs.Common.{◌-◌}
 use Rattle.plan.proofs.Grows.{grows}
 use Rattle.plan.proofs.InsertionsLaws.{ways}
 use Rattle.plan.proofs.insertions.plan_ref.Goals as goal

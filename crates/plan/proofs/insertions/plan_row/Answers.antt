@@ -1,5 +1,4 @@
 -- `plan::insertions::plan_row` meets its contract.
-use Rattle.std.proofs.Common.{◌-◌}
 use Rattle.plan.proofs.Grows.{grows}
 use Rattle.plan.proofs.PlanRow.{row_way}
 use Rattle.plan.proofs.insertions.plan_row.Goals as goal

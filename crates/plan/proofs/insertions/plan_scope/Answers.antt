@@ -1,5 +1,4 @@
 -- `plan::insertions::plan_scope` meets its contract.
-use Rattle.std.proofs.Common.{◌-◌}
 use Rattle.plan.proofs.Grows.{grows}
 use Rattle.plan.proofs.InsertionsLaws.{ways}
 use Rattle.plan.proofs.insertions.plan_scope.Goals as goal
