@@ -3,7 +3,6 @@ use Rattle.std.specs.Prelude.{Option, Some, None}
 use mathlib.Core.Path.{◌≡◌, refl, ◌∙◌}
 use mathlib.Core.Bool.{Bool, true, false, ◌&&◌, ◌||◌}
 use mathlib.Core.List.{List}
-use native.Mathlib.Omega.{arith}
 use Prim.Native.Nat.{ℕ}
 use borrow.Author.Rules.{rules}
 use lib.Dec.{eqb, leb, ltb}
@@ -49,9 +48,9 @@ module _ (form : List ℕ) (row c : ℕ) (code : c ≡ code_at form row) where
 
 module _ (out : List ℕ) (scope : ℕ) (n : Number) where
   module _ (f : Option Found) (got : f ≡ find_in out scope n.space Inserted) where
-    pub pushed_at : (row number : ℕ) → f ≡ Some (record { row = row; number = number }) → leb number n.number ≡ is_pushed out scope n
+    pub pushed_at : (found : Found) → f ≡ Some found → leb found.number n.number ≡ is_pushed out scope n
     unfolding is_pushed reaches
-    pushed_at row number q = rw (← got, q)
+    pushed_at found q = rw (← got, q)
 
     pub pushed_not : f ≡ None → false ≡ is_pushed out scope n
     unfolding is_pushed reaches
@@ -63,29 +62,29 @@ module _ (out : List ℕ) (scope : ℕ) (n : Number) where
     gets_stays h = no! _ (rw (← pushed) h) refl
 
     module _ (h : b ≡ true) (f : Option Found) (got : f ≡ find_in out scope n.space (Numbered n.number)) where
-      pub gets_moved : (row number : ℕ) → f ≡ Some (record { row = row; number = number }) → Some (Moved n.z n.space meant row) ≡ gets_entry out scope n meant
+      pub gets_moved : (found : Found) → f ≡ Some found → Some (Moved n.z n.space meant found.row) ≡ gets_entry out scope n meant
       unfolding gets_entry gets
-      gets_moved row number q = yes! _ (rw (← pushed) h) (rw (← got, q))
+      gets_moved found q = yes! _ (rw (← pushed) h) (rw (← got, q))
 
-      pub gets_nothing : f ≡ None → None ≡ gets_entry out scope n meant
+      pub gets_nothing : f ≡ None → (X : Option Entry) → X ≡ None → X ≡ gets_entry out scope n meant
       unfolding gets_entry gets
-      gets_nothing q = yes! _ (rw (← pushed) h) (rw (← got, q))
+      gets_nothing q X x = yes! _ (rw (← pushed) h) (x ∙ rw (← got, q))
 
 module _ (out : List ℕ) (at away : ℕ) (n : Number) (meant s : ℕ) (around : s ≡ scope_of out at) (o : Option Outer) (got : o ≡ scope_outward out s (Out away)) where
-  pub output_at : (scope far : ℕ) → o ≡ Some (record { scope = scope; out = far }) → (X : Option Entry) → X ≡ gets_entry out scope n meant → X ≡ output_entry out at away n meant
+  pub output_at : (outer : Outer) → o ≡ Some outer → (X : Option Entry) → X ≡ gets_entry out outer.scope n meant → X ≡ output_entry out at away n meant
   unfolding output_entry gets_in
-  output_at scope far q X x = x ∙ rw (← around, ← got, q)
+  output_at outer q X x = x ∙ rw (← around, ← got, q)
 
-  pub output_nowhere : o ≡ None → None ≡ output_entry out at away n meant
+  pub output_nowhere : o ≡ None → (X : Option Entry) → X ≡ None → X ≡ output_entry out at away n meant
   unfolding output_entry gets_in
-  output_nowhere q = rw (← around, ← got, q)
+  output_nowhere q X x = x ∙ rw (← around, ← got, q)
 
 -- ---- in the input
 
 module _ (form : List ℕ) (scope away : ℕ) (n : Number) (out : List ℕ) (at : ℕ) (f : Option Found) (got : f ≡ find_in form scope n.space (Numbered n.number)) where
-  pub counted_at : (row number : ℕ) → f ≡ Some (record { row = row; number = number }) → (X : Option Entry) → X ≡ output_entry out at away n row → X ≡ counted_entry form scope away n out at
+  pub counted_at : (found : Found) → f ≡ Some found → (X : Option Entry) → X ≡ output_entry out at away n found.row → X ≡ counted_entry form scope away n out at
   unfolding counted_entry meant_by
-  counted_at row number q X x = x ∙ rw (← got, q)
+  counted_at found q X x = x ∙ rw (← got, q)
 
   pub counted_apart : f ≡ None → Some (Apart n.z n.space n.number) ≡ counted_entry form scope away n out at
   unfolding counted_entry meant_by
@@ -97,12 +96,12 @@ module _ (form : List ℕ) (row : ℕ) (out : List ℕ) (at : ℕ) (b : Bool) (w
   entry_none h = no! _ (rw (← written) h) refl
 
   module _ (h : b ≡ true) (s : ℕ) (around : s ≡ scope_of form row) (w : Wanted) (wanted : w ≡ scope_wanted form row) (o : Option Outer) (got : o ≡ scope_outward form s w) where
-    pub entry_at_lem : (scope away : ℕ) → o ≡ Some (record { scope = scope; out = away }) → (n : Number) → n ≡ number_at form row → (X : Option Entry) → X ≡ counted_entry form scope away n out at → X ≡ entry_at form row out at
+    pub entry_at_lem : (outer : Outer) → o ≡ Some outer → (n : Number) → n ≡ number_at form row → (X : Option Entry) → X ≡ counted_entry form outer.scope outer.out n out at → X ≡ entry_at form row out at
     unfolding entry_at counted_in
-    entry_at_lem scope away q n hn X x = yes! _ (rw (← written) h) (x ∙ rw (← around, ← wanted, ← got, q, hn))
+    entry_at_lem outer q n hn X x = yes! _ (rw (← written) h) (x ∙ rw (← around, ← wanted, ← got, q, hn))
 
-    pub entry_nowhere : o ≡ None → None ≡ entry_at form row out at
+    pub entry_nowhere : o ≡ None → (X : Option Entry) → X ≡ None → X ≡ entry_at form row out at
     unfolding entry_at counted_in
-    entry_nowhere q = yes! _ (rw (← written) h) (rw (← around, ← wanted, ← got, q))
+    entry_nowhere q X x = yes! _ (rw (← written) h) (x ∙ rw (← around, ← wanted, ← got, q))
 
 pub ruleset ways = (written_is, number_outer, number_ref, wanted_outer, wanted_own, pushed_at, pushed_not, gets_stays, gets_moved, gets_nothing, output_at, output_nowhere, counted_at, counted_apart, entry_none, entry_at_lem, entry_nowhere, rules)

@@ -94,29 +94,24 @@ fn is_pushed(out: &[u8], scope: u16, n: Number) -> bool
 fn gets_entry(out: &[u8], scope: u16, n: Number, meant: u16) -> Option<Entry>
     ensures { result ≡ gets_entry out.now scope n meant }
 {
-    if is_pushed(out, scope, n) {
-        match find(out, scope, n.space, Key::Number(n.number)) {
-            Some(Found { row, .. }) => Some(Entry::Moved {
-                z: n.z,
-                space: n.space,
-                meant,
-                gets: row,
-            }),
-            None => None,
-        }
-    } else {
-        None
+    if !is_pushed(out, scope, n) {
+        return None;
     }
+    let Found { row, .. } = find(out, scope, n.space, Key::Number(n.number))?;
+    Some(Entry::Moved {
+        z: n.z,
+        space: n.space,
+        meant,
+        gets: row,
+    })
 }
 
 // The same, this many scopes out from a row of the output.
 fn output_entry(out: &[u8], at: u16, away: u32, n: Number, meant: u16) -> Option<Entry>
     ensures { result ≡ output_entry out.now at away n meant }
 {
-    match scope_outward(out, scope_of(out, at), Wanted::Out(away)) {
-        Some(Outer { scope, .. }) => gets_entry(out, scope, n, meant),
-        None => None,
-    }
+    let Outer { scope, .. } = scope_outward(out, scope_of(out, at), Wanted::Out(away))?;
+    gets_entry(out, scope, n, meant)
 }
 
 // A number in its scope of the input, which is this many scopes out.
@@ -145,14 +140,13 @@ fn counted_entry(
 pub fn entry_at(form: &[u8], row: u16, out: &[u8], at: u16) -> Option<Entry>
     ensures { result ≡ entry_at form.now row out.now at }
 {
-    if is_written(form, row) {
-        match scope_outward(form, scope_of(form, row), scope_wanted(form, row)) {
-            Some(Outer { scope, out: away }) => {
-                counted_entry(form, scope, away, number_at(form, row), out, at)
-            }
-            None => None,
-        }
-    } else {
-        None
+    if !is_written(form, row) {
+        return None;
     }
+    let Outer { scope, out: away } = scope_outward(
+        form,
+        scope_of(form, row),
+        scope_wanted(form, row),
+    )?;
+    counted_entry(form, scope, away, number_at(form, row), out, at)
 }

@@ -39,7 +39,7 @@ use Rattle.reading_laws.specs.Operands.{Used, operand_used}
 use Rattle.reading_laws.specs.Said.{said, sought}
 use Rattle.reading_laws.specs.Meant.{Rows, use_there, around}
 use Rattle.readings.specs.declared.Meaning.{Meaning}
-use Rattle.scopes.specs.declared.Outer.{Outer}
+use Rattle.scopes.specs.declared.Outer.{Outer as OuterScope}
 
 -- what the tree says of a name in a scope that is `out` out: the declaration of the number that is found
 unfoldable pub said_number : Floor → (out space : ℕ) → Option ℕ → CodeOption Meaning
@@ -196,7 +196,7 @@ module _ (form : List ℕ) where
   -- in the scope that is this many out
   name_out_lem : (fs : List Floor) (d space name : ℕ) → eqb name 0 ≡ false → Chain form fs → DeclsAre form fs → in_outer form (scope_outward form (first_row fs) (Out d)) space (Name name) ≡ said_name (get_elem? fs d) d space name
   unfolding said_name in_outer
-  name_out_lem fs d space name is_name C D = ap (λ (o : CodeOption Outer). in_outer form o space (Name name)) outward ∙ go (get_elem? fs d) refl
+  name_out_lem fs d space name is_name C D = ap (λ (o : CodeOption OuterScope). in_outer form o space (Name name)) outward ∙ go (get_elem? fs d) refl
     where
       same : d ≡ 0 + d
       same = omega arith
@@ -205,10 +205,10 @@ module _ (form : List ℕ) where
       outward = scope_outward_lem form (Out d) fs C ∙ ap (λ (k : ℕ). first_wanted form (Out k) 0 fs) same
 
       go : (o : Option Floor) → get_elem? fs d ≡ o → in_outer form (first_wanted form (Out (0 + d)) 0 fs) space (Name name) ≡ said_name o d space name
-      go none e = ap (λ (o : CodeOption Outer). in_outer form o space (Name name)) (count_past form fs d 0 e)
+      go none e = ap (λ (o : CodeOption OuterScope). in_outer form o space (Name name)) (count_past form fs d 0 e)
       go (some f) e =
           let S = stands_at form fs d f C e in
-          ap (λ (o : CodeOption Outer). in_outer form o space (Name name)) (count_out form fs d 0 f e ∙ ap (λ (k : ℕ). Some (record { scope = f.row; out = k })) (sym same)) ∙ name_in_lem fs d f S.0 d space name is_name D e S.1
+          ap (λ (o : CodeOption OuterScope). in_outer form o space (Name name)) (count_out form fs d 0 f e ∙ ap (λ (k : ℕ). Some (record { scope = f.row; out = k })) (sym same)) ∙ name_in_lem fs d f S.0 d space name is_name D e S.1
 
 -- ---- the theorems
 

@@ -2,11 +2,11 @@
 use Rattle.numbers.proofs.Ways.{ways}
 use Rattle.numbers.proofs.entry_at.Goals as goal
 
-pub returns-in-Some : goal.returns-in-Some
-returns-in-Some c = search ways
+pub returns-then-not-is_written : goal.returns-then-not-is_written
+returns-then-not-is_written c = search ways
 
-pub returns-in-None : goal.returns-in-None
-returns-in-None c = search ways
+pub returns-in_err-scope : goal.returns-in_err-scope
+returns-in_err-scope c = search ways
 
-pub returns-else-is_written : goal.returns-else-is_written
-returns-else-is_written c = search ways
+pub returns : goal.returns
+returns c = search (ways, c.in_ok-scope.was)

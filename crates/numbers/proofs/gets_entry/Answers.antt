@@ -2,11 +2,11 @@
 use Rattle.numbers.proofs.Ways.{ways}
 use Rattle.numbers.proofs.gets_entry.Goals as goal
 
-pub returns-in-Some : goal.returns-in-Some
-returns-in-Some c = search ways
+pub returns-then-not-is_pushed : goal.returns-then-not-is_pushed
+returns-then-not-is_pushed c = search ways
 
-pub returns-in-None : goal.returns-in-None
-returns-in-None c = search ways
+pub returns-in_err-row : goal.returns-in_err-row
+returns-in_err-row c = search ways
 
-pub returns-else-is_pushed : goal.returns-else-is_pushed
-returns-else-is_pushed c = search ways
+pub returns : goal.returns
+returns c = search (ways, c.in_ok-row.was)

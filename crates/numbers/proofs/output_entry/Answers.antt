@@ -2,8 +2,8 @@
 use Rattle.numbers.proofs.Ways.{ways}
 use Rattle.numbers.proofs.output_entry.Goals as goal
 
-pub returns-in-Some : goal.returns-in-Some
-returns-in-Some c = search ways
+pub returns-in_err-scope : goal.returns-in_err-scope
+returns-in_err-scope c = search ways
 
-pub returns-in-None : goal.returns-in-None
-returns-in-None c = search ways
+pub returns : goal.returns
+returns c = search (ways, c.in_ok-scope.was)
