@@ -1,27 +1,28 @@
 -- The ways through a conversion: what each refusal and each acceptance of the code is in the rules.
-use Rattle.std.specs.Prelude.{Result, Ok, Err, ⊤, ℕ}
+use Rattle.std.specs.Prelude.{Result, Ok, Err, IsErrAnd}
+use Rattle.std.proofs.lemmas.Result.{err_from_is_err_and}
 use mathlib.Core.Path.{◌≡◌, refl, ap, sym, ◌∙◌}
-use mathlib.Core.Bool.{Bool, true, false, ◌&&◌, ◌||◌, not}
+use mathlib.Core.Bool.{Bool, true, false, ◌&&◌}
 use mathlib.Core.Option.{Option, none, some}
-use mathlib.Core.List.{List, [], ◌++◌}
+use mathlib.Core.List.{List, []}
 use native.Mathlib.Omega.{arith}
 use Prim.Native.Nat.{ℕ, zero, suc, ◌+◌, ◌*◌, ◌-◌, ◌/◌, ◌%◌, ◌≤◌, ◌<◌}
-use lib.Dec.{eqb, leb, ltb}
-use lib.ListN.{length, take, drop, length-append, length-drop}
+use lib.Dec.{eqb, ltb}
+use lib.ListN.{length, take, drop, length-drop}
 use lib.Seq.{take_all, sets, sets-eq}
 use borrow.Author.Rules.{rules}
-use borrow.Author.Tests.{lt-ltb, le-ltb, le-leb, eq-eqb, ne_eqb}
+use borrow.Author.Tests.{lt-ltb, le-leb, eq-eqb, ne_eqb}
 use mir.Syntax.{w32, w64}
 use mir.Val.{Fits}
 use Rattle.kit.specs.Pick.{pick}
 use Rattle.kit.proofs.Laws.{sets_append}
-use Rattle.rules.specs.Tools.{when◌then◌else◌, between, only, ◌or_else◌}
-use Rattle.rules.specs.Versions.{Version, Setting, top_name, all}
+use Rattle.rules.specs.Tools.{when◌then◌else◌, only, ◌or_else◌}
+use Rattle.rules.specs.Versions.{Version, Setting, all}
 use Rattle.rules.specs.Tree as tree
 use Rattle.rules.specs.Tree.{Scope}
 use Rattle.rules.specs.Begins.{Right}
 use Rattle.rules.specs.Reader.{read}
-use Rattle.rules.specs.Answer.{AnswerOf, refused, accepted, map_answer, setting_of, row_count, rows_of, rows_in, header_bytes}
+use Rattle.rules.specs.Answer.{AnswerOf, refused, accepted, map_answer, setting_of, row_count, rows_in, header_bytes}
 use Rattle.rules.specs.Laws.ToolLaws.{false_not}
 use Rattle.rules.proofs.Laws.Read.ReadRight.{read_right}
 use Rattle.rules.proofs.Laws.Read.BeginsWritten.{rows_length}
@@ -37,14 +38,13 @@ use Rattle.limits.specs.Held.{setting_in, limits_of, setting}
 use Rattle.limits.proofs.Laws.{stand_for, few_rows}
 use Rattle.reader.specs.ReadTo.{answer_of, read_to}
 use Rattle.whole_form.specs.Asked.{asked_of}
-use Rattle.whole_form.specs.Whole.{form_of}
+use Rattle.whole_form.specs.Whole.{form_of, read_t}
 use Rattle.whole_form.proofs.Laws.{among, plain_at, unsized, asked_for, asked_wrong, asked_count, whole_read, refused_read}
 use Rattle.convert.specs.Meaning.{meaning, Says}
 use Rattle.convert.specs.Run.{refused_t, place_of_t, lacks_t, Sized, Sound}
-use Rattle.form.specs.declared.header.BadHeader.TheVariants as asked
-use Rattle.reader.specs.declared.BadRows.TheVariants as rows_read
+use Rattle.form.specs.Header.{refusal_of}
+use Rattle.form.specs.declared.header.BadHeader.TheVariants.{Wrong, Count}
 use Rattle.form.specs.declared.header.BadHeader.{BadHeader}
-use Rattle.reader.specs.declared.BadRows.{BadRows}
 use Rattle.whole_form.specs.declared.asked.Asked.{Asked}
 
 -- ---- answers
@@ -105,7 +105,7 @@ module _ (from : ℕ) (form : List ℕ) (rows : ℕ) (S : Sized from form rows) 
   behind = take_all (length form - header) (drop header form) (omega (arith, length-drop header form)) ∙ ap (λ n. drop n form) is
 
   module _ (to : ℕ) (l : Limits) (e : l ≡ limits_of (setting to)) where
-    pub rows_read_lem : (r : Result ⊤ BadRows) → r ≡ read_to l (take (length form - header) (drop header form)) → r ≡ answer_of (read (setting to).rules (setting to).version.scopes (rows_in (setting from) form))
+    pub rows_read_lem : (r : Result ℕ Refusal) → r ≡ read_t (read_to l (take (length form - header) (drop header form))) rows → r ≡ read_t (answer_of (read (setting to).rules (setting to).version.scopes (rows_in (setting from) form))) rows
     unfolding read_to
     rows_read_lem r q =
         let long = S.long in
@@ -126,14 +126,6 @@ module _ (from : ℕ) (form : List ℕ) (rows : ℕ) (S : Sized from form rows) 
 pub ruleset rows_ways = (rows_read_lem, rows_put, rules)
 
 -- ---- convert_to
-
-scopes_bad : (s t : Setting) (form : List ℕ) (p place : ℕ) → place ≡ p → within_scopes s t form (tree.bad p) ≡ refused 4 place []
-unfolding within_scopes
-scopes_bad s t form p place e = rw e
-
-scopes_deep : (s t : Setting) (form : List ℕ) (p place : ℕ) → place ≡ p → within_scopes s t form (tree.deep p) ≡ refused 5 place []
-unfolding within_scopes
-scopes_deep s t form p place e = rw e
 
 pub to_fits : (from : ℕ) (form : List ℕ) (rows : ℕ) → Sound from form rows → Fits w32 rows
 to_fits from form rows S = let few = S.sized.few in let most = few_rows from in omega arith
@@ -169,38 +161,34 @@ module _ (from : ℕ) (form : List ℕ) (rows : ℕ) (S : Sound from form rows) 
   answer y p =
       limited all all_coherent s form S.tree (among from) S.reads t (among to) same (length out) few_to (omega (arith, count)) ∙ ap (within_scopes s t form) p
 
-  module _ (r : Result ⊤ BadRows) (e : r ≡ answer_of x) where
-    pub to_broken : (row : ℕ) (v : Result ℕ Refusal) → r ≡ Err (rows_read.Broken row) → v ≡ refused_t 4 (row % 4294967296) → Said v out
-    to_broken row v q w = go x refl (sym q ∙ e)
-      where
-        go : (y : tree.RowsRead) → x ≡ y → Err (rows_read.Broken row) ≡ answer_of y → Said v out
-        go (tree.bad p) i z = unfold answer_of in
-            let at : row ≡ p = cc in
-            let in_range = ((read_right t.rules t.version.scopes (rows_in s form) (tree.bad p)).0 i).in_range in
-            let place : row % 4294967296 ≡ p = omega (arith, many, low) in
-            rw w (says_refused _ 4 (row % 4294967296) out (answer (tree.bad p) i ∙ scopes_bad s t form p (row % 4294967296) place))
-        go (tree.deep p) i z = unfold answer_of in (let no_way : ◌≡◌ {A = ℕ} 0 1 = cc in absurd (omega arith))
-        go (tree.form y) i z = unfold answer_of in (let no_way : ◌≡◌ {A = ℕ} 0 1 = cc in absurd (omega arith))
+  module _ (r : Result ℕ Refusal) (e : r ≡ read_t (answer_of x) rows) where
+    -- its place has four bytes
+    place_of : (y : tree.RowsRead) → x ≡ y → Right t.rules t.version.scopes (rows_in s form) y
+    place_of y i = (read_right t.rules t.version.scopes (rows_in s form) y).0 i
 
-    pub to_deep : (row : ℕ) (v : Result ℕ Refusal) → r ≡ Err (rows_read.Deep row) → v ≡ refused_t 5 (row % 4294967296) → Said v out
-    to_deep row v q w = go x refl (sym q ∙ e)
+    pub to_refused : (why : Refusal) → r ≡ Err why → (v : Result ℕ Refusal) → IsErrAnd v (λ refusal. refusal ≡ why) → Said v out
+    unfolding read_t answer_of within_scopes
+    to_refused why q v w = let p = err_from_is_err_and v w in rw (p.1, p.2) (go x refl (sym q ∙ e))
       where
-        go : (y : tree.RowsRead) → x ≡ y → Err (rows_read.Deep row) ≡ answer_of y → Said v out
-        go (tree.bad p) i z = unfold answer_of in (let no_way : ◌≡◌ {A = ℕ} 0 1 = cc in absurd (omega arith))
-        go (tree.deep p) i z = unfold answer_of in
-            let at : row ≡ p = cc in
-            let in_range = ((read_right t.rules t.version.scopes (rows_in s form) (tree.deep p)).0 i).in_range in
-            let place : row % 4294967296 ≡ p = omega (arith, many, low) in
-            rw w (says_refused _ 5 (row % 4294967296) out (answer (tree.deep p) i ∙ scopes_deep s t form p (row % 4294967296) place))
-        go (tree.form y) i z = unfold answer_of in (let no_way : ◌≡◌ {A = ℕ} 0 1 = cc in absurd (omega arith))
+        go : (y : tree.RowsRead) → x ≡ y → Err why ≡ read_t (answer_of y) rows → Said (Err why) out
+        go (tree.bad p) i z =
+            let at : why ≡ record { number = 4; place = p % 4294967296 } = cc in
+            let place : p % 4294967296 ≡ p = omega (arith, many, low, (place_of (tree.bad p) i).in_range) in
+            rw at (says_refused _ 4 (p % 4294967296) out (answer (tree.bad p) i ∙ rw place))
+        go (tree.deep p) i z =
+            let at : why ≡ record { number = 5; place = p % 4294967296 } = cc in
+            let place : p % 4294967296 ≡ p = omega (arith, many, low, (place_of (tree.deep p) i).in_range) in
+            rw at (says_refused _ 5 (p % 4294967296) out (answer (tree.deep p) i ∙ rw place))
+        go (tree.form y) i z = let no_way : ◌≡◌ {A = ℕ} 0 1 = cc in absurd (omega arith)
 
-    accepts : r ≡ Ok tt → converted all t.version.number form (length out) ≡ accepted (recast s t form)
-    accepts q = go x refl (sym q ∙ e)
+    accepts : (n : ℕ) → r ≡ Ok n → converted all t.version.number form (length out) ≡ accepted (recast s t form)
+    unfolding read_t answer_of within_scopes
+    accepts n q = go x refl (sym q ∙ e)
       where
-        go : (y : tree.RowsRead) → x ≡ y → Ok tt ≡ answer_of y → converted all t.version.number form (length out) ≡ accepted (recast s t form)
-        go (tree.bad p) i z = unfold answer_of in (let no_way : ◌≡◌ {A = ℕ} 0 1 = cc in absurd (omega arith))
-        go (tree.deep p) i z = unfold answer_of in (let no_way : ◌≡◌ {A = ℕ} 0 1 = cc in absurd (omega arith))
-        go (tree.form y) i z = answer (tree.form y) i ∙ unfold within_scopes in refl
+        go : (y : tree.RowsRead) → x ≡ y → Ok n ≡ read_t (answer_of y) rows → converted all t.version.number form (length out) ≡ accepted (recast s t form)
+        go (tree.bad p) i z = let no_way : ◌≡◌ {A = ℕ} 0 1 = cc in absurd (omega arith)
+        go (tree.deep p) i z = let no_way : ◌≡◌ {A = ℕ} 0 1 = cc in absurd (omega arith)
+        go (tree.form y) i z = answer (tree.form y) i
 
     -- the header of the converted form says as many rows
     said : rows_said all (recast s t form) ≡ rows
@@ -213,13 +201,13 @@ module _ (from : ℕ) (form : List ℕ) (rows : ℕ) (S : Sound from form rows) 
     long : length (recast s t form) ≡ t.version.header + 16 * rows
     long = let e = recast_length s t (plain_at from) (plain_at to) form few_to (omega (arith, S.sized.long, count)) in omega (arith, count)
 
-    pub to_whole : (new : List ℕ) → r ≡ Ok tt → new ≡ sets out 0 (recast s t form) → Said (Ok rows) new
+    pub to_whole : (n : ℕ) (new : List ℕ) → r ≡ Ok n → new ≡ sets out 0 (recast s t form) → Said (Ok rows) new
     unfolding meaning map_answer buffer_after
-    to_whole new q w =
+    to_whole n new q w =
         let none_before : 0 + length (recast s t form) ≡ length (recast s t form) = omega arith in
-        rw (accepts q) (record { answers = ap accepted (sym said); leaves = w ∙ sets-eq (recast s t form) out 0 (omega (arith, long)) ∙ rw none_before })
+        rw (accepts n q) (record { answers = ap accepted (sym said); leaves = w ∙ sets-eq (recast s t form) out 0 (omega (arith, long)) ∙ rw none_before })
 
-pub ruleset to_ways = (to_fits, to_broken, to_deep, to_whole, rules)
+pub ruleset to_ways = (to_fits, to_refused, to_whole, rules)
 
 -- ---- the place of a version, and whether it has the rules
 
@@ -314,10 +302,11 @@ module _ (version : ℕ) (one : 1 ≤ version) (two : version ≤ 2) (from : ℕ
     room_said = omega (arith, S.counted, header_to_lem)
 
     module _ (f : Result ℕ Refusal) (e : f ≡ form_of (read_form (setting from) form)) where
-      pub sized_refused : (why : Refusal) (a : Result ℕ Refusal) → f ≡ Err why → a ≡ Err why → Says (converted all version form (length out)) out a out
-      sized_refused why a g w =
+      pub sized_refused : (why : Refusal) → f ≡ Err why → (a : Result ℕ Refusal) → IsErrAnd a (λ refusal. refusal ≡ why) → Says (converted all version form (length out)) out a out
+      sized_refused why g a w =
           let is = refused_read (setting from) form why (sym g ∙ e) in
-          rw w (says_refused _ why.number why.place out (refused_alike all all_coherent (setting from) form why.number why.place S.asks is version v asked_version (length out) room_said))
+          let p = err_from_is_err_and a w in
+          rw (p.1, p.2) (says_refused _ why.number why.place out (refused_alike all all_coherent (setting from) form why.number why.place S.asks is version v asked_version (length out) room_said))
 
       pub sized_sound : (n : ℕ) → f ≡ Ok n → Sound from form rows
       sized_sound n g = let r = whole_read (setting from) form n (sym g ∙ e) in record { sized = S; tree = r.0; reads = r.1 }
@@ -364,26 +353,27 @@ module _ (version : ℕ) (form out : List ℕ) where
   version_later a h w = rw w (says_refused _ 1 0 out (no_version (later_version h)))
 
   module _ (k : Result Asked BadHeader) (e : k ≡ asked_of form) where
-    pub asked_none : (a : Result ℕ Refusal) → k ≡ Err asked.Wrong → a ≡ refused_t 1 0 → Told a out
-    asked_none a h w = rw w (says_refused _ 1 0 out is)
-      where
-        is : converted all version form (length out) ≡ refused 1 0 []
-        is = unfold converted converted_for in rw (asked_wrong form (sym h ∙ e))
+    none_is : k ≡ Err Wrong → converted all version form (length out) ≡ refused 1 0 []
+    none_is h = unfold converted converted_for in rw (asked_wrong form (sym h ∙ e))
 
     module _ (one : 1 ≤ version) (two : version ≤ 2) where
-      pub asked_sized : (i rows : ℕ) → k ≡ Ok (record { setting = i; rows = rows }) → Sized i form rows
-      asked_sized i rows h =
-          let g = asked_for form i rows (sym h ∙ e) in
+      pub asked_sized : (asked : Asked) → k ≡ Ok asked → Sized asked.setting form asked.rows
+      asked_sized asked h =
+          let g = asked_for form asked.setting asked.rows (sym h ∙ e) in
           let said = g.said in
           record { known = g.known; asks = g.asks; counted = said.counted; some_rows = said.some_rows; few = said.few; long = said.long }
 
-      pub asked_unsized : (a : Result ℕ Refusal) → k ≡ Err asked.Count → a ≡ refused_t 2 0 → Told a out
-      asked_unsized a h w = rw w (says_refused _ 2 0 out is)
+      unsized_is : k ≡ Err Count → converted all version form (length out) ≡ refused 2 0 []
+      unsized_is h = let g = asked_count form (sym h ∙ e) in counts g.0 g.1 g.2
         where
           counts : (s : Setting) → setting_of all form ≡ some s → unsized s form ≡ true → converted all version form (length out) ≡ refused 2 0 []
           counts s x y = unfold converted converted_for converted_in when◌then◌else◌ in rw (x, version_placed version 0 one two (omega arith), y)
 
-          is : converted all version form (length out) ≡ refused 2 0 []
-          is = let g = asked_count form (sym h ∙ e) in counts g.0 g.1 g.2
+      pub asked_bad : (why : BadHeader) → k ≡ Err why → (a : Result ℕ Refusal) → IsErrAnd a (λ refusal. refusal ≡ refusal_of why) → Told a out
+      asked_bad why h a w = let p = err_from_is_err_and a w in rw (p.1, p.2) (go why h)
+        where
+          go : (bad : BadHeader) → k ≡ Err bad → Told (Err (refusal_of bad)) out
+          go Wrong q = says_refused _ 1 0 out (none_is q)
+          go Count q = says_refused _ 2 0 out (unsized_is q)
 
-pub ruleset ways = (version_none, version_later, asked_none, asked_sized, asked_unsized, rules)
+pub ruleset ways = (version_none, version_later, asked_sized, asked_bad, rules)

@@ -7,17 +7,16 @@ ghost use Rattle.rules.specs.Answer.{map_answer, rows_in};
 ghost use Rattle.converting.specs.Convert.{recast, converted, converted_output, rows_said};
 ghost use Rattle.limits.specs.Held.{setting};
 ghost use Rattle.reader.specs.ReadTo.{answer_of};
+ghost use Rattle.whole_form.specs.Whole.{read_t};
 ghost use Rattle.convert.specs.Meaning.{meaning, Says};
 ghost use Rattle.convert.specs.Run.{refused_t, place_of_t, lacks_t, Sized, Sound};
 
 use copy::copy;
-use form::header::BadHeader;
 use limits::of_input;
-use reader::{BadRows, read_to};
-use refusal::{BROKEN, DEEP, NOT_A_FORM, ROOM, ROW_COUNT, Refusal};
-use whole_form::asked::{Asked, setting_of};
+use refusal::{NOT_A_FORM, ROOM, ROW_COUNT, Refusal};
+use whole_form::asked::setting_of;
 use whole_form::header::{header_at, put_header};
-use whole_form::read::read_input;
+use whole_form::read::{read_input, read_rows};
 
 // A refusal whose number document 01 gives, and its place.
 fn refused(number: u32, place: u32) -> Result<u32, Refusal>
@@ -44,12 +43,12 @@ fn lacks(version: u32, from: usize) -> bool
 }
 
 // What the rows of bytes of the setting at `from` are by the limits of the setting at `to`.
-fn read_as(form: &[u8], from: usize, rows: usize, to: usize) -> Result<(), BadRows>
+fn read_as(form: &[u8], from: usize, rows: usize, to: usize) -> Result<usize, Refusal>
     requires { Sized from form.now rows }
-    ensures { result ≡ answer_of (read (setting to).rules (setting to).version.scopes (rows_in (setting from) form.now)) }
+    ensures { result ≡ read_t (answer_of (read (setting to).rules (setting to).version.scopes (rows_in (setting from) form.now))) rows }
 {
     let header = header_at(from);
-    read_to(&form[header..], of_input(to))
+    read_rows(&form[header..], of_input(to), rows)
 }
 
 // Writes them behind the header of the setting at `to`.
@@ -74,14 +73,9 @@ fn convert_to(
     requires to_value { ((setting to).rules.number ≡ (setting from).rules.number) × (rows ≤ (setting to).version.rows) × ((setting to).version.header + 16 * rows ≤ length out.old) }
     ensures { Says (converted all (setting to).version.number form.now (length out.old)) out.old result out.new }
 {
-    match read_as(form, from, rows, to) {
-        Err(BadRows::Broken(row)) => refused(BROKEN, (row % 4294967296) as u32),
-        Err(BadRows::Deep(row)) => refused(DEEP, (row % 4294967296) as u32),
-        Ok(()) => {
-            put_form(form, from, rows, to, out);
-            Ok(rows as u32)
-        }
-    }
+    read_as(form, from, rows, to)?;
+    put_form(form, from, rows, to, out);
+    Ok(rows as u32)
 }
 
 // A form, by the version asked for: refusal 1 if that version lacks the form's rule set, 2 if the form has more rows than it allows.
@@ -123,10 +117,8 @@ fn convert_sized(
     if out.len() < header + 16 * rows {
         return refused(ROOM, 0);
     }
-    match read_input(form, from) {
-        Err(refusal) => Err(refusal),
-        Ok(_) => convert_form(form, from, rows, version, out),
-    }
+    read_input(form, from)?;
+    convert_form(form, from, rows, version, out)
 }
 
 // Writes the form to the front of `out`, as a form of the version with this number. A refusal leaves `out` as it was.
@@ -139,9 +131,6 @@ pub fn convert(form: &[u8], version: u32, out: &mut [u8]) -> Result<u32, Refusal
     if 2 < version {
         return refused(NOT_A_FORM, 0);
     }
-    match setting_of(form) {
-        Err(BadHeader::Wrong) => refused(NOT_A_FORM, 0),
-        Err(BadHeader::Count) => refused(ROW_COUNT, 0),
-        Ok(Asked { setting, rows }) => convert_sized(form, setting, rows, version, out),
-    }
+    let asked = setting_of(form)?;
+    convert_sized(form, asked.setting, asked.rows, version, out)
 }
