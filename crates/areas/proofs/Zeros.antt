@@ -2,7 +2,6 @@
 use mathlib.Core.Path.{◌≡◌, refl, sym, ap, ◌∙◌}
 use mathlib.Core.List.{List, [], ◌∷◌, ◌++◌}
 use native.Mathlib.Omega.{arith}
-use native.Mathlib.Nat.{sub-zero}
 use native.Mathlib.Numerals.{add-one}
 use Prim.Native.Nat.{ℕ, zero, suc, ◌+◌, ◌≤◌, ◌<◌}
 use lib.ListN.{length, set, take, drop, replicate}
@@ -11,7 +10,6 @@ use borrow.Author.Rules.{rules}
 use Rattle.clearing.specs.Cleared.{cleared}
 use Rattle.clearing.specs.Laws.{cleared_all, cleared_front}
 use Rattle.kit.proofs.Laws.{take_next_set}
-use Rattle.stores.specs.Zeros.{zero_from}
 
 copies_snoc : {A : Type 0} (n : ℕ) (z : A) → replicate n z ++ (z ∷ []) ≡ replicate (suc n) z
 copies_snoc zero z = refl
@@ -31,17 +29,3 @@ pub ruleset ways = (zero_turn, zero_end, rules)
 -- ---- the front of an area
 
 pub ruleset fronts = (cleared_all, cleared_front, rules)
-
--- the same for bytes
-module _ (size : ℕ) (l l' : List ℕ) where
-  zeros : (m : List ℕ) → zero_from m 0 ≡ replicate (length m) 0
-  unfolding zero_from
-  zeros m = rw sub-zero
-
-  pub bytes_all : length l < size → l' ≡ zero_from l 0 → l' ≡ cleared 0 size l
-  bytes_all h e = cleared_all 0 size l l' h (e ∙ zeros l)
-
-  pub bytes_front : l' ≡ zero_from (take size l) 0 → l' ++ drop size l ≡ cleared 0 size l
-  bytes_front e = cleared_front 0 size l l' (e ∙ zeros (take size l))
-
-pub ruleset bytes_fronts = (bytes_all, bytes_front, rules)

@@ -9,7 +9,6 @@ use lib.Seq.{sets, take_all, append_snoc}
 use borrow.Author.Rules.{rules}
 use Rattle.kit.proofs.Laws.{left_suc, take_next_set}
 use Rattle.rules.specs.Rows.{bytes}
-use Rattle.stores.specs.Zeros.{zero_from, zeroing}
 
 -- ---- a word
 
@@ -53,22 +52,3 @@ module _ (l : List ℕ) (i v : ℕ) where
   word_whole = let two : i + 2 ≡ suc (suc i) = omega arith in let three : i + 3 ≡ suc (suc (suc i)) = omega arith in rw (word_is, add-one, two, three)
 
 pub ruleset word_ways = (word_past, word_one, word_two, word_three, word_whole, rules)
-
--- ---- zeros
-
-pub zero_turn : (s T : List ℕ) (i n : ℕ) → zeroing s i (n - i) ≡ T → length s ≡ n → i < length s → zeroing (set s i 0) (i + 1) (n - (i + 1)) ≡ T
-unfolding zeroing
-zero_turn s T i n inv len h = rw (left_suc i n (omega arith)) at inv
-
-zeroing_is : (l : List ℕ) (i left : ℕ) → left ≡ length l - i → zeroing l i left ≡ zero_from l i
-unfolding zeroing zero_from
-zeroing_is l i zero e = rw (← e, append-nil, take_all i l (omega arith))
-zeroing_is l i (suc left) e =
-    let h : i < length l = omega arith in
-    zeroing_is (set l i 0) (i + 1) left (simp length-set (omega arith)) ∙ rw (length-set, left_suc i (length l) h, take_next_set l i 0 h, append_snoc)
-
-pub zero_end : (s s₀ : List ℕ) (i from : ℕ) → zeroing s i (length s₀ - i) ≡ zeroing s₀ from (length s₀ - from) → length s ≡ length s₀ → length s ≤ i → s ≡ zero_from s₀ from
-unfolding zeroing
-zero_end s s₀ i from inv len h = let e : length s₀ - i ≡ 0 = omega arith in (rw e at inv) ∙ zeroing_is s₀ from (length s₀ - from) refl
-
-pub ruleset zero_ways = (zero_turn, zero_end, rules)

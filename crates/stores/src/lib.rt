@@ -30,12 +30,11 @@ pub fn put_word(list: &mut [u8], i: usize, v: usize)
 }
 
 // Zeroes from a byte on.
+#[tactic(auto, unfolding(crate::specs::Zeros::zero_from))]
 pub fn zero_from(list: &mut [u8], from: usize)
     ensures { list.new ≡ zero_from list.old from }
 {
-    let mut i = from;
-    while i < list.len() {
-        list[i] = 0;
-        i += 1;
+    if from < list.len() {
+        list[from..].fill(0);
     }
 }
