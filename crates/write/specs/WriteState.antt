@@ -2,8 +2,6 @@
 use Rattle.std.specs.Prelude.{List, ℕ, ◌+◌, ltb, length, Result, Ok, Err}
 use Rattle.kit.specs.Pick.{pick}
 use Rattle.kit.specs.Out.{Out, ◌&◌}
-use Rattle.refusal.specs.declared.Refusal.{Refusal}
-use Rattle.refusal.specs.declared.Told.{Told}
 use Rattle.names.specs.Table.{Slot}
 use Rattle.write.specs.declared.alias.WriteState.{WriteState}
 use Rattle.refusal.specs.declared.Refused.{Refused}
@@ -62,13 +60,13 @@ abbrev pub Wrote : Type 0
 Wrote = Out (Result WriteState Refused) (List ℕ)
 
 -- goes on after something is written, by `f` if it is and by `g` if it is refused
-unfoldable pub wrote_then : {A : Type 0} → Wrote → (WriteState → List ℕ → A) → (Refusal → Told → List ℕ → A) → A
+unfoldable pub wrote_then : {A : Type 0} → Wrote → (WriteState → List ℕ → A) → (Refused → List ℕ → A) → A
 wrote_then (Ok s & out) f g = f s out
-wrote_then (Err refused & out) f g = g refused.refusal refused.told out
+wrote_then (Err refused & out) f g = g refused out
 
 -- a refusal ends the step
-abbrev pub stops : Refusal → Told → List ℕ → Wrote
-stops why told out = Err (record { refusal = why; told = told }) & out
+abbrev pub stops : Refused → List ℕ → Wrote
+stops refused out = Err refused & out
 
 -- on with what a row's writing leaves: the next output row, and the output
 unfoldable pub put_then : {A : Type 0} → Out ℕ (List ℕ) → (ℕ → List ℕ → A) → A

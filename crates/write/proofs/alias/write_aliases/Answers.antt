@@ -1,5 +1,4 @@
 -- `write::alias::write_aliases` meets its contract.
-use Prim.Native.Nat.{◌-◌}
 use Rattle.write.proofs.LawsAlias.{ways, aliases_turn, aliases_other}
 use borrow.Author.Rules.{rules}
 use Rattle.write.proofs.alias.write_aliases.Goals as goal

@@ -1,5 +1,4 @@
 -- `write::alias::write_chain` meets its contract.
-use Prim.Native.Nat.{◌-◌}
 use Rattle.write.proofs.LawsAlias.{ways, chain_turn}
 use borrow.Author.Rules.{rules}
 use Rattle.write.proofs.alias.write_chain.Goals as goal

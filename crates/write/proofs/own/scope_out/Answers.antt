@@ -2,8 +2,8 @@
 use Rattle.write.proofs.LawsOwn.{ways}
 use Rattle.write.proofs.own.scope_out.Goals as goal
 
-pub returns-in-Some : goal.returns-in-Some
-returns-in-Some c = search ways
+pub returns : goal.returns
+returns c = search ways
 
-pub returns-in-None : goal.returns-in-None
-returns-in-None c = search ways
+pub returns-in_default : goal.returns-in_default
+returns-in_default c = search ways

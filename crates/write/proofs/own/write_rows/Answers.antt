@@ -1,6 +1,5 @@
 -- `write::own::write_rows` meets its contract.
 use mathlib.Core.Path.{ap}
-use Prim.Native.Nat.{◌-◌}
 use borrow.Author.Rules.{rules}
 use Rattle.write.proofs.LawsOwn.{ways, own_turn}
 use Rattle.write.proofs.LawsWithin.{seen_done, seen_same, stopped}
