@@ -1,19 +1,19 @@
 -- What the code answers and leaves is what crate `renaming` says.
-use Rattle.std.specs.Prelude.{Result, Ok, Err, ℕ}
+use Rattle.std.specs.Prelude.{Result, Ok, Err, IsErrAnd}
+use Rattle.std.proofs.lemmas.Result.{err_from_is_err_and}
 use mathlib.Core.Path.{◌≡◌, refl, sym, ap, ap₂, ◌∙◌, subst}
 use mathlib.Core.Bool.{Bool, true, false, ◌&&◌, ◌||◌, not}
 use mathlib.Core.Option.{Option, none, some}
 use mathlib.Core.List.{List, [], ◌∷◌, ◌++◌, append_assoc, append-nil, map}
 use native.Mathlib.Omega.{arith}
-use Prim.Native.Nat.{ℕ, zero, suc, ◌+◌, ◌*◌, ◌/◌, ◌%◌, ◌≤◌, ◌<◌}
+use Prim.Native.Nat.{ℕ, suc, ◌+◌, ◌*◌, ◌/◌, ◌%◌, ◌≤◌, ◌<◌}
 use lib.Dec.{eqb, leb, ltb}
 use lib.ListN.{length, take, drop, length-append, length-drop, length-map}
 use lib.Seq.{length-take-le, take-length, take_at, drop-drop, drop-length, sets, length-sets, sets-eq}
-use borrow.Author.Rules.{rules}
 use borrow.Author.Tests.{eqb-true, leb-true, ltb-false}
 use Rattle.kit.specs.Out.{◌&◌}
 use Rattle.kit.specs.Pick.{pick}
-use Rattle.kit.proofs.Laws.{yes!, tests}
+use Rattle.kit.proofs.Laws.{tests}
 use Rattle.rules.specs.Tools.{when◌then◌else◌, between, only, ◌or_else◌}
 use Rattle.rules.specs.Versions.{Setting, version1, today, top_name, base}
 use Rattle.rules.specs.Rows as rules
@@ -24,7 +24,7 @@ use Rattle.rules.specs.Reader.{read}
 use Rattle.rules.specs.Answer.{AnswerOf, refused, accepted, map_answer, has_header, setting_of, row_count, rows_of, rows_in}
 use Rattle.rules.proofs.Laws.Read.ReadRight.{read_right}
 use Rattle.rules.proofs.Laws.Read.BeginsWritten.{rows_length}
-use Rattle.renaming.specs.Renaming.{renamed_index, renamed_row, renamed_part, renamed_rows, renamed, renamed_in, renamed_for, renamed_bytes, names_of, firsts, place_of}
+use Rattle.renaming.specs.Renaming.{renamed_row, renamed_part, renamed_rows, renamed, renamed_in, renamed_for, renamed_bytes, place_of}
 use Rattle.renaming.specs.Anonymous.{key_in, after_reading, anonymous_in, anonymous_for, anonymous, anonymous_after, anonymous_output, over, key_after}
 use Rattle.form.specs.Header.{header_in, header_for, header_of}
 use Rattle.reader.specs.ReadTo.{answer_of, read_of}
@@ -32,7 +32,7 @@ use Rattle.rows.specs.RowAt.{as_index, taken}
 use Rattle.put.specs.Put.{rule_index, rule_row, bytes_of, row_bytes, put_row}
 use Rattle.anonymise.specs.Meaning.{meaning}
 use Rattle.anonymise.specs.Renamed.{input_row, key_of, renamed_row_t, left_by, row_written, rows_written}
-use Rattle.anonymise.specs.Run.{Ran, all_written, fill_names_t, before, read_then, run_t}
+use Rattle.anonymise.specs.Run.{fault_of_header, Ran, all_written, fill_names_t, before, read_then, run_t}
 use Rattle.anonymise.specs.declared.run.Fault.TheVariants.{Header, RowCount, Room}
 use Rattle.form.specs.declared.header.BadHeader.TheVariants.{Wrong, Count}
 use Rattle.anonymise.specs.declared.run.Fault.{Fault}
@@ -220,7 +220,7 @@ module _ (l out key : List ℕ) (asks : setting_of base l ≡ some one) (right :
   run_says = rw right (go (ltb (length out) (length l)) refl)
     where
       go : (b : Bool) → ltb (length out) (length l) ≡ b
-          → Says l out key (when b then refused 3 0 [] else after_reading (read today 32 (rows_in one l)) (key_in one l)) (pick b ((Err Room) & out & key) (read_then (read_of (drop 8 l)) l out key))
+          → Says l out key (when b then refused 3 0 [] else after_reading (read today 32 (rows_in one l)) (key_in one l)) (pick b (Err Room & out & key) (read_then (read_of (drop 8 l)) l out key))
       go true e = (refl, refl, refl)
       go false e =
           let roomy = ltb-false (length out) (length l) e in
@@ -272,41 +272,17 @@ module _ (l out key : List ℕ) (h : Result ℕ BadHeader) (w : h ≡ header_of 
       go : (m : ℕ) → Told l (Ok m) → length l ≤ 16376
       go m (rows s r) = omega (arith, (sizes l r).0, (sizes l r).1)
 
-  promised_run : (m : ℕ) → h ≡ Ok m → (a : Result ℕ Fault) (o k : List ℕ) → (a & o & k) ≡ run_t l out key → Promised l out key a o k
+  pub promised_bad : (why : BadHeader) → h ≡ Err why → (a : Result ℕ Fault) → IsErrAnd a (λ fault. fault ≡ fault_of_header why) → Promised l out key a out key
+  promised_bad why e a s = let p = err_from_is_err_and a s in rw (p.1, p.2) (go why e)
+    where
+      go : (bad : BadHeader) → h ≡ Err bad → Promised l out key (Err (fault_of_header bad)) out key
+      go Wrong q = promised_wrong q
+      go Count q = promised_count q
+
+  pub promised_run : (m : ℕ) → h ≡ Ok m → (a : Result ℕ Fault) (o k : List ℕ) → (a & o & k) ≡ run_t l out key → Promised l out key a o k
   promised_run m e a o k q = go m (as_told (Ok m) e)
     where
       go : (m : ℕ) → Told l (Ok m) → Promised l out key a o k
       go m (rows s r) =
           promised l out key (anonymous_in one l (length out)) (answer_is l out key s r) a o k
           (subst (Says l out key (anonymous_in one l (length out))) (sym q) (run_says l out key s r))
-
-  -- each part by itself, as the contract has it
-  pub answers_wrong : h ≡ Err Wrong → meaning (Err Header) ≡ map_answer length (anonymous base l (length out))
-  answers_wrong e = (promised_wrong e).0
-
-  pub leaves_wrong : h ≡ Err Wrong → out ≡ anonymous_output base l out
-  leaves_wrong e = (promised_wrong e).1
-
-  pub key_wrong : h ≡ Err Wrong → key ≡ key_after (anonymous base l (length out)) key
-  key_wrong e = (promised_wrong e).2
-
-  pub answers_count : h ≡ Err Count → meaning (Err RowCount) ≡ map_answer length (anonymous base l (length out))
-  answers_count e = (promised_count e).0
-
-  pub leaves_count : h ≡ Err Count → out ≡ anonymous_output base l out
-  leaves_count e = (promised_count e).1
-
-  pub key_count : h ≡ Err Count → key ≡ key_after (anonymous base l (length out)) key
-  key_count e = (promised_count e).2
-
-  module _ (m : ℕ) (e : h ≡ Ok m) (a : Result ℕ Fault) (o k : List ℕ) (q : (a & o & k) ≡ run_t l out key) where
-    pub answers_run : meaning a ≡ map_answer length (anonymous base l (length out))
-    answers_run = (promised_run m e a o k q).0
-
-    pub leaves_run : o ≡ anonymous_output base l out
-    leaves_run = (promised_run m e a o k q).1
-
-    pub key_run : k ≡ key_after (anonymous base l (length out)) key
-    key_run = (promised_run m e a o k q).2
-
-pub ruleset agrees = (answers_wrong, leaves_wrong, key_wrong, answers_count, leaves_count, key_count, long_enough, short_enough, answers_run, leaves_run, key_run, rules)

@@ -1,20 +1,19 @@
 -- All rows: their names entered, and then written with numbers for names. One law for each way through the code.
-use mathlib.Core.Path.{◌≡◌, refl, sym, ap, ap₂, ◌∙◌, subst}
+use mathlib.Core.Path.{◌≡◌, refl, sym, ap, ap₂, ◌∙◌}
 use mathlib.Core.Bool.{Bool, true, false}
 use mathlib.Core.Option.{Option, none, some}
 use mathlib.Core.Logic.{◌⊎◌, inl, inr}
-use mathlib.Core.List.{List, [], ◌∷◌, ◌++◌, append-nil, append_assoc, map}
+use mathlib.Core.List.{List, [], ◌∷◌, ◌++◌, map}
 use native.Mathlib.Nat.{sub-zero}
 use native.Mathlib.Numerals.{add-one}
 use native.Mathlib.Omega.{arith}
 use Prim.Native.Nat.{ℕ, zero, suc, ◌+◌, ◌-◌, ◌*◌, ◌/◌, ◌≤◌, ◌<◌}
-use lib.Dec.{eqb, ltb}
-use lib.ListN.{length, get_or, take, drop, set, replicate, length-append, length-take, length-drop, length-replicate, length-map}
-use lib.Seq.{length-take-le, take_all, take-take, take-suc, drop-cons, set_at, append_snoc, get_or-take, drop-drop, take_at, drop_at, drop-length}
+use lib.Dec.{eqb}
+use lib.ListN.{length, get_or, take, drop, set, length-append, length-map}
+use lib.Seq.{length-take-le, take_all, take-take, take-suc, drop-cons, set_at, append_snoc, get_or-take, drop-drop}
 use borrow.Author.Rules.{rules}
-use Rattle.kit.specs.Out.{Out, ◌&◌}
-use Rattle.kit.specs.Pick.{pick}
-use Rattle.kit.proofs.Laws.{yes!, no!, tests, left_suc, lt_or_le}
+use Rattle.kit.specs.Out.{◌&◌}
+use Rattle.kit.proofs.Laws.{yes!, tests, left_suc, lt_or_le}
 use Rattle.rules.specs.Rows as rules
 use Rattle.rules.specs.Rows.{decode_row}
 use Rattle.rules.specs.Tools.{when◌then◌else◌}
@@ -23,18 +22,15 @@ use Rattle.rules.specs.Answer.{rows_of}
 use Rattle.renaming.specs.Renaming.{name_in, row_names, names_of, firsts, place_of, renamed}
 use Rattle.renaming.specs.Anonymous.{over}
 use Rattle.names.specs.Table.{Slot, empty_slot, name_of}
-use Rattle.index.specs.Indexed.{Holds}
-use Rattle.index.proofs.Storey.{holds_none}
 use Rattle.rows.specs.RowAt.{as_index, taken}
 use Rattle.rows.specs.declared.row.Index.{Index}
 use Rattle.rows.specs.declared.row.Index.TheVariants.{Number, Name}
 use Rattle.rows.specs.declared.row.Row.{Row}
 use Rattle.rows.specs.declared.row.Row.TheVariants.{Field, Decl, Ref, Path, Outer, Case, Open, Close, Export, Broken}
 use Rattle.put.specs.Put.{put_row}
-use Rattle.anonymise.specs.Seen.{slots_from, seen_in, Knows, Enters}
+use Rattle.anonymise.specs.Seen.{seen_in, Knows, Enters}
 use Rattle.anonymise.specs.Renamed.{input_row, index_names_t, row_names_t, key_of, renamed_row_t, left_by, row_written, rows_written}
-use Rattle.anonymise.specs.Run.{all_written}
-use Rattle.anonymise.proofs.Names.{firsts_append, seen_long}
+use Rattle.anonymise.proofs.Names.{firsts_append}
 
 -- ---- the names of all rows
 

@@ -1,14 +1,14 @@
 -- The tables start empty, the part of the output that is filled, and the run: one law for each way through the code.
-use Rattle.std.specs.Prelude.{Result, Ok, Err, ⊤, ℕ}
+use Rattle.std.specs.Prelude.{Result, Ok, Err, IsErrAnd, ⊤}
+use Rattle.std.proofs.lemmas.Result.{err_from_is_err_and}
 use mathlib.Core.Path.{◌≡◌, refl, sym, ap, ◌∙◌, subst}
 use mathlib.Core.List.{List, [], ◌++◌, append-nil}
 use native.Mathlib.Omega.{arith}
-use Prim.Native.Nat.{ℕ, ◌+◌, ◌-◌, ◌/◌, ◌%◌, ◌≤◌, ◌<◌}
+use Prim.Native.Nat.{ℕ, ◌+◌, ◌-◌, ◌/◌, ◌≤◌, ◌<◌}
 use lib.ListN.{length, take, drop, replicate, length-append, length-drop, length-replicate}
 use lib.Seq.{length-take-le, take_all, drop_at, drop-length}
 use borrow.Author.Rules.{rules}
 use Rattle.kit.specs.Out.{◌&◌}
-use Rattle.kit.specs.Pick.{pick}
 use Rattle.kit.proofs.Laws.{yes!, no!, tests}
 use Rattle.renaming.specs.Anonymous.{over}
 use Rattle.names.specs.Table.{Slot, empty_slot}
@@ -17,11 +17,10 @@ use Rattle.index.proofs.Storey.{holds_none}
 use Rattle.reader.specs.ReadTo.{read_of}
 use Rattle.anonymise.specs.Seen.{slots_from, seen_in, Knows}
 use Rattle.anonymise.specs.Renamed.{key_of, rows_written}
-use Rattle.anonymise.specs.Run.{all_written, fill_names_t, before, read_then, run_t}
+use Rattle.anonymise.specs.Run.{fault_of_rows, all_written, fill_names_t, before, read_then, run_t}
 use Rattle.anonymise.proofs.Names.{seen_long}
 use Rattle.anonymise.proofs.Rows.{over_is}
-use Rattle.anonymise.specs.declared.run.Fault.TheVariants.{Room, Broken, Deep}
-use Rattle.reader.specs.declared.BadRows.TheVariants as rows_read
+use Rattle.anonymise.specs.declared.run.Fault.TheVariants.{Room}
 use Rattle.anonymise.specs.declared.run.Fault.{Fault}
 use Rattle.reader.specs.declared.BadRows.{BadRows}
 
@@ -98,13 +97,9 @@ module _ (form out key : List ℕ) where
     reads : r ≡ read_of (drop 8 form)
     reads = rw all_behind at w
 
-    pub run_broken : (row : ℕ) → r ≡ Err (rows_read.Broken row) → Err (Broken (row % 4294967296)) & out & key ≡ run_t form out key
+    pub run_bad : (why : BadRows) → r ≡ Err why → (v : Result ℕ Fault) → IsErrAnd v (λ fault. fault ≡ fault_of_rows why) → v & out & key ≡ run_t form out key
     unfolding run_t read_then
-    run_broken row e = no! _ (omega tests) (rw (← reads, e))
-
-    pub run_deep : (row : ℕ) → r ≡ Err (rows_read.Deep row) → Err (Deep (row % 4294967296)) & out & key ≡ run_t form out key
-    unfolding run_t read_then
-    run_deep row e = no! _ (omega tests) (rw (← reads, e))
+    run_bad why e v s = let p = err_from_is_err_and v s in rw (p.1, p.2) (no! _ (omega tests) (rw (← reads, e)))
 
     pub run_whole : (l key' : List ℕ) (a : Result ℕ Fault) → r ≡ Ok tt → a & l & key' ≡ fill_names_t form (take (length form) out) key → a & (l ++ drop (length form) out) & key' ≡ run_t form out key
     unfolding run_t read_then before
@@ -113,4 +108,4 @@ module _ (form out key : List ℕ) where
 pub front_long : (form out : List ℕ) → length form ≤ length out → length (take (length form) out) ≡ length form
 front_long form out h = length-take-le (length form) out h
 
-pub ruleset runs = (knows_start, form_count, form_few, form_room, form_written, form_key, few_rows, fill_done, run_short, run_broken, run_deep, run_whole, front_long, rules)
+pub ruleset runs = (knows_start, form_count, form_few, form_room, form_written, form_key, few_rows, fill_done, run_short, run_bad, run_whole, front_long, rules)

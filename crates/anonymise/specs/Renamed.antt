@@ -1,5 +1,5 @@
 -- Rows as the code takes them, with other names, and written one behind the other.
-use Rattle.std.specs.Prelude.{List, [], ◌∷◌, ◌++◌, ℕ, zero, suc, ◌+◌, ◌/◌, length}
+use Rattle.std.specs.Prelude.{List, [], ◌++◌, ℕ, zero, suc, ◌+◌, ◌/◌, length}
 use Rattle.kit.specs.Out.{Out, ◌&◌}
 use Rattle.rules.specs.Versions.{top_name}
 use Rattle.rules.specs.Answer.{rows_of}

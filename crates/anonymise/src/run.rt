@@ -7,7 +7,7 @@ ghost use Rattle.renaming.specs.Anonymous.{anonymous, anonymous_output, over, ke
 ghost use Rattle.anonymise.specs.Meaning.{meaning};
 ghost use Rattle.anonymise.specs.Seen.{seen_in, Knows};
 ghost use Rattle.anonymise.specs.Renamed.{key_of, row_written, rows_written};
-ghost use Rattle.anonymise.specs.Run.{all_written, fill_names_t, run_t};
+ghost use Rattle.anonymise.specs.Run.{fault_of_header, fault_of_rows, all_written, fill_names_t, run_t};
 
 use crate::numbers::{enter_row, input_row, renamed_row};
 use fixed::HEADER;
@@ -25,6 +25,29 @@ pub enum Fault {
     Broken(u32),
     // The OPEN of one scope too many.
     Deep(u32),
+}
+
+impl From<BadHeader> for Fault {
+    ghost from_gives = { λ bad fault. fault ≡ fault_of_header bad };
+
+    fn from(bad: BadHeader) -> Fault {
+        match bad {
+            BadHeader::Wrong => Fault::Header,
+            BadHeader::Count => Fault::RowCount,
+        }
+    }
+}
+
+// A row's number as the answer has it, in four bytes.
+impl From<BadRows> for Fault {
+    ghost from_gives = { λ bad fault. fault ≡ fault_of_rows bad };
+
+    fn from(bad: BadRows) -> Fault {
+        match bad {
+            BadRows::Broken(row) => Fault::Broken((row % 4294967296) as u32),
+            BadRows::Deep(row) => Fault::Deep((row % 4294967296) as u32),
+        }
+    }
 }
 
 // Enters the names of all rows, and answers how many there are.
@@ -123,11 +146,8 @@ fn run(form: &[u8], out: &mut [u8], key: &mut [u32]) -> Result<u32, Fault>
     if out.len() < size {
         return Err(Fault::Room);
     }
-    match read(&form[HEADER..]) {
-        Err(BadRows::Broken(row)) => Err(Fault::Broken((row % 4294967296) as u32)),
-        Err(BadRows::Deep(row)) => Err(Fault::Deep((row % 4294967296) as u32)),
-        Ok(()) => fill(form, &mut out[..size], key),
-    }
+    read(&form[HEADER..])?;
+    fill(form, &mut out[..size], key)
 }
 
 // Writes the form with 1, 2, 3, and so on for its names, in the order in which they first stand, and into `key` the name
@@ -135,9 +155,6 @@ fn run(form: &[u8], out: &mut [u8], key: &mut [u32]) -> Result<u32, Fault>
 pub fn anonymise(form: &[u8], out: &mut [u8], key: &mut [u32]) -> Result<u32, Fault>
     ensures { (meaning result ≡ map_answer length (anonymous base form.now (length out.old))) × (out.new ≡ anonymous_output base form.now out.old) × (key.new ≡ key_after (anonymous base form.now (length out.old)) key.old) }
 {
-    match header_of(form) {
-        Err(BadHeader::Wrong) => Err(Fault::Header),
-        Err(BadHeader::Count) => Err(Fault::RowCount),
-        Ok(_) => run(form, out, key),
-    }
+    header_of(form)?;
+    run(form, out, key)
 }

@@ -1,15 +1,13 @@
 -- `anonymise::run::anonymise` meets its contract.
-use Rattle.anonymise.proofs.Agrees.{agrees}
+use borrow.Author.Rules.{rules}
+use Rattle.anonymise.proofs.Agrees.{long_enough, short_enough, promised_bad, promised_run}
 use Rattle.anonymise.proofs.run.anonymise.Goals as goal
 
+pub returns-in_err-header_of : goal.returns-in_err-header_of
+returns-in_err-header_of c = promised_bad _ _ _ _ c.header_of.ensures _ c.in_err-header_of.was _ c.from_residual.ensures.1
+
 pub run-requires : goal.run-requires
-run-requires c = search agrees
+run-requires c = search (long_enough, short_enough, rules, c.in_ok-header_of.was)
 
-pub returns-in-Err-Wrong : goal.returns-in-Err-Wrong
-returns-in-Err-Wrong c = search agrees
-
-pub returns-in-Err-Count : goal.returns-in-Err-Count
-returns-in-Err-Count c = search agrees
-
-pub returns-in-Ok : goal.returns-in-Ok
-returns-in-Ok c = search agrees
+pub returns : goal.returns
+returns c = promised_run _ _ _ _ c.header_of.ensures _ c.in_ok-header_of.was _ _ _ c.run.ensures

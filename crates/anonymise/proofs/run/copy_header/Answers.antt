@@ -1,5 +1,4 @@
 -- `anonymise::run::copy_header` meets its contract.
-use Prim.Native.Nat.{◌-◌}
 use borrow.Author.Rules.{rules}
 use Rattle.anonymise.proofs.Rows.{ways}
 use Rattle.anonymise.proofs.run.copy_header.Goals as goal

@@ -1,5 +1,4 @@
 -- `anonymise::run::enter_rows` meets its contract.
-use Prim.Native.Nat.{◌-◌}
 use borrow.Author.Rules.{rules}
 use Rattle.anonymise.proofs.Rows.{ways}
 use Rattle.anonymise.proofs.run.enter_rows.Goals as goal

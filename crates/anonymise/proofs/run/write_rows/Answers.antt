@@ -1,5 +1,4 @@
 -- `anonymise::run::write_rows` meets its contract.
-use Prim.Native.Nat.{◌-◌}
 use native.Mathlib.Omega.{arith}
 use borrow.Author.Rules.{rules}
 use Rattle.anonymise.proofs.Rows.{rows_start, rows_turn, rows_end}
