@@ -1,18 +1,18 @@
 -- The ways through the code.
 use Rattle.std.specs.Prelude.{Option, Some, None}
-use mathlib.Core.Path.{◌≡◌, refl, sym, ap, ap₂, ◌∙◌}
+use mathlib.Core.Path.{◌≡◌, refl, sym, ap, ◌∙◌}
 use mathlib.Core.Bool.{Bool, true, false, ◌||◌}
 use mathlib.Core.List.{List, [], ◌∷◌, ◌++◌, append-nil, append_assoc}
 use native.Mathlib.Omega.{arith}
 use native.Mathlib.Nat.{add-zero}
-use Prim.Native.Nat.{ℕ, zero, suc, ◌+◌, ◌*◌, ◌-◌, ◌≤◌, ◌<◌}
+use Prim.Native.Nat.{ℕ, ◌+◌, ◌*◌, ◌-◌, ◌≤◌, ◌<◌}
 use borrow.Author.Rules.{rules}
 use lib.Dec.{eqb}
 use lib.ListN.{length, length-append}
 use lib.Seq.{sets}
 use Rattle.kit.specs.Pick.{pick}
 use Rattle.kit.specs.Out.{Out, ◌&◌}
-use Rattle.kit.proofs.Laws.{yes!, no!, tests, left_suc, sets_append}
+use Rattle.kit.proofs.Laws.{yes!, no!, left_suc, sets_append}
 use Rattle.rules.specs.Rows.{bytes}
 use Rattle.stores.proofs.Laws.{length_word}
 use Rattle.row_parts.specs.Parts.{code_at, rows_in}
@@ -77,15 +77,15 @@ apart_put l l₁ l₂ l₃ at z space number e₁ e₂ e₃ =
     rw (append-nil, e₃, e₂, e₁, q, p, sets_append, sets_append)
 
 module _ (s : Listed) (moved apart l : List ℕ) (e : Option Entry) where
-  pub noted_moved : (z space meant gets : ℕ) → e ≡ Some (Moved z space meant gets) → l ≡ sets moved (16 * s.moved) (moved_bytes (moved_number z space meant gets ∷ []))
+  pub noted_moved : (x : Entry) → e ≡ Some x → (z space meant gets : ℕ) → x ≡ Moved z space meant gets → l ≡ sets moved (16 * s.moved) (moved_bytes (moved_number z space meant gets ∷ []))
       → (listed (s.moved + 1) s.apart & l & apart) ≡ noted s moved apart (e ∷ [])
   unfolding noted moved_of apart_of apart_bytes
-  noted_moved z space meant gets q h = rw (h, q, add-zero)
+  noted_moved x q z space meant gets r h = rw (h, q, r, add-zero)
 
-  pub noted_apart : (z space number : ℕ) → e ≡ Some (Apart z space number) → l ≡ sets apart (12 * s.apart) (apart_bytes (no_item z space number ∷ []))
+  pub noted_apart : (x : Entry) → e ≡ Some x → (z space number : ℕ) → x ≡ Apart z space number → l ≡ sets apart (12 * s.apart) (apart_bytes (no_item z space number ∷ []))
       → (listed s.moved (s.apart + 1) & moved & l) ≡ noted s moved apart (e ∷ [])
   unfolding noted moved_of apart_of moved_bytes
-  noted_apart z space number q h = rw (h, q, add-zero)
+  noted_apart x q z space number r h = rw (h, q, r, add-zero)
 
 pub noted_nothing : (s : Listed) (moved apart : List ℕ) (e : Option Entry) → e ≡ None → (s & moved & apart) ≡ noted s moved apart (e ∷ [])
 unfolding noted moved_of apart_of moved_bytes apart_bytes

@@ -82,29 +82,29 @@ fn put(entry: Option<Entry>, moved: &mut [u8], apart: &mut [u8], s: Listed) -> L
     ensures apart_after { (result & moved.new & apart.new) ≡ noted s moved.old apart.old (entry ∷ []) }
     ensures moved_bound { (result.moved ≤ s.moved + 1) × (result.apart ≤ s.apart + 1) }
 {
+    let Some(entry) = entry else {
+        return s;
+    };
     match entry {
-        Some(
-            Entry::Moved {
-                z,
-                space,
-                meant,
-                gets,
-            },
-        ) => {
+        Entry::Moved {
+            z,
+            space,
+            meant,
+            gets,
+        } => {
             put_moved(moved, s.moved, z, space, meant, gets);
             Listed {
                 moved: s.moved + 1,
                 apart: s.apart,
             }
         }
-        Some(Entry::Apart { z, space, number }) => {
+        Entry::Apart { z, space, number } => {
             put_apart(apart, s.apart, z, space, number);
             Listed {
                 moved: s.moved,
                 apart: s.apart + 1,
             }
         }
-        None => s,
     }
 }
 

@@ -1,5 +1,4 @@
 -- `moved_list::behind_next` meets its contract. The invariant: from here it answers what it does from the start.
-use Prim.Native.Nat.{◌-◌}
 use Rattle.moved_list.proofs.Ways.{behind_ways}
 use Rattle.moved_list.proofs.behind_next.Goals as goal
 

@@ -1,5 +1,4 @@
 -- `moved_list::list_numbers` meets its contract. The invariant: with the entries of the rows that are left the lists are the whole ones.
-use Prim.Native.Nat.{◌-◌}
 use borrow.Author.Rules.{rules}
 use Rattle.moved_list.proofs.Ways.{list_ways, list_turn}
 use Rattle.moved_list.proofs.list_numbers.Goals as goal
