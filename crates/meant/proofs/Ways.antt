@@ -1,6 +1,6 @@
 -- The ways through the code: each law is one unfolding of a definition, with the facts in the form in which the code gives them.
-use Rattle.std.specs.Prelude.{Option, Some, None}
-use mathlib.Core.Path.{◌≡◌, refl, sym, ap, ◌∙◌}
+use Rattle.std.specs.Prelude.{Option, Some, None, is_some}
+use mathlib.Core.Path.{◌≡◌, refl, sym, ◌∙◌}
 use mathlib.Core.Bool.{Bool, true, false}
 use mathlib.Core.List.{List, []}
 use native.Mathlib.Omega.{arith}
@@ -11,7 +11,6 @@ use lib.Dec.{eqb}
 use lib.ListN.{length, get_or, take, drop, length-drop}
 use lib.Seq.{take_all}
 use Rattle.kit.proofs.Laws.{yes!, no!, tests}
-use Rattle.kit.specs.Pick.{pick}
 use Rattle.row_parts.specs.Parts.{code_at, b_at, e_at, x_at, y_at}
 use Rattle.scopes.specs.Scopes.{scope_of, find_in, scope_outward}
 use Rattle.scopes.specs.declared.Key.TheVariants.{Name}
@@ -20,7 +19,7 @@ use Rattle.scopes.specs.declared.Wanted.TheVariants.{Out, Named, Declaring}
 use Rattle.readings.specs.Meaning.{reading_of, meaning_of}
 use Rattle.readings.specs.declared.Reading.{Reading}
 use Rattle.readings.specs.declared.Reading.TheVariants.{Outward, LookedUp, Counting}
-use Rattle.meant.specs.Names.{in_member, root_found, member_found, in_root, scope_meant, or_root, walked_meant_t, by_reading, ref_meant_t, outer_wanted_t, is_there, has_scope, is_root_t, meant_behind_t, in_outer_t, index_meant_t, name_meant_t}
+use Rattle.meant.specs.Names.{in_member, root_found, member_found, in_root, scope_meant, or_root, walked_meant_t, by_reading, ref_meant_t, outer_wanted_t, has_scope, is_root_t, meant_behind_t, in_outer_t, index_meant_t, name_meant_t}
 use Rattle.meant.specs.Part.{part_of, meant_t, row_part, chosen}
 use Rattle.meant.specs.declared.Declared.TheVariants.{Member, Prelude}
 use Rattle.meant.specs.declared.Declared.{Declared}
@@ -31,39 +30,39 @@ use Rattle.scopes.specs.declared.Outer.{Outer}
 -- ---- in_member, in_root, in_scope_lem
 
 module _ (m : Option Meaning) where
-  pub member_at : (row number out name : ℕ) → m ≡ Some (record { row = row; number = number; out = out; name = name }) → Some (Member row) ≡ in_member m
+  pub member_at : (found : Meaning) → m ≡ Some found → Some (Member found.row) ≡ in_member m
   unfolding in_member
-  member_at row number out name e = rw e
+  member_at found e = rw e
 
-  pub member_nowhere : m ≡ None → None ≡ in_member m
+  pub member_nowhere : m ≡ None → (d : Option Declared) → d ≡ None → d ≡ in_member m
   unfolding in_member
-  member_nowhere e = rw e
+  member_nowhere e d h = h ∙ rw e
 
 module _ (form : List ℕ) (space name : ℕ) (f : Option Found) where
-  pub root_found_lem : (row number : ℕ) → f ≡ find_in form 1 space (Name name) → f ≡ Some (record { row = row; number = number }) → Some (Prelude row) ≡ in_root form space name
+  pub root_found_lem : (found : Found) → f ≡ find_in form 1 space (Name name) → f ≡ Some found → Some (Prelude found.row) ≡ in_root form space name
   unfolding in_root root_found
-  root_found_lem row number got e = rw (← got, e)
+  root_found_lem found got e = rw (← got, e)
 
-  pub root_not : f ≡ find_in form 1 space (Name name) → f ≡ None → None ≡ in_root form space name
+  pub root_not : f ≡ find_in form 1 space (Name name) → f ≡ None → (d : Option Declared) → d ≡ None → d ≡ in_root form space name
   unfolding in_root root_found
-  root_not got e = rw (← got, e)
+  root_not got e d h = h ∙ rw (← got, e)
 
-  pub scope_found : (scope row number : ℕ) → f ≡ find_in form scope space (Name name) → f ≡ Some (record { row = row; number = number }) → Some (Member row) ≡ scope_meant form scope space name
+  pub scope_found : (scope : ℕ) (found : Found) → f ≡ find_in form scope space (Name name) → f ≡ Some found → Some (Member found.row) ≡ scope_meant form scope space name
   unfolding scope_meant member_found
-  scope_found scope row number got e = rw (← got, e)
+  scope_found scope found got e = rw (← got, e)
 
-  pub scope_not : (scope : ℕ) → f ≡ find_in form scope space (Name name) → f ≡ None → None ≡ scope_meant form scope space name
+  pub scope_not : (scope : ℕ) → f ≡ find_in form scope space (Name name) → f ≡ None → (d : Option Declared) → d ≡ None → d ≡ scope_meant form scope space name
   unfolding scope_meant member_found
-  scope_not scope got e = rw (← got, e)
+  scope_not scope got e d h = h ∙ rw (← got, e)
 
 pub ruleset found_ways = (member_at, member_nowhere, root_found_lem, root_not, scope_found, scope_not, rules)
 
 -- ---- walked, ref_meant
 
 module _ (prelude member : List ℕ) (r : ℕ) (m : Option Meaning) (got : m ≡ meaning_of member r) where
-  pub walked_at_lem : (row number out name : ℕ) → m ≡ Some (record { row = row; number = number; out = out; name = name }) → Some (Member row) ≡ walked_meant_t prelude member r
+  pub walked_at_lem : (found : Meaning) → m ≡ Some found → Some (Member found.row) ≡ walked_meant_t prelude member r
   unfolding walked_meant_t or_root
-  walked_at_lem row number out name e = rw (← got, e)
+  walked_at_lem found e = rw (← got, e)
 
   pub walked_root : (b x : ℕ) (d : Option Declared) → m ≡ None → b ≡ b_at member r → x ≡ x_at member r → d ≡ in_root prelude b x → d ≡ walked_meant_t prelude member r
   unfolding walked_meant_t or_root
@@ -96,13 +95,9 @@ module _ (e x : ℕ) where
   wanted_out h = no! _ (ne_eqb _ _ h) refl
 
 module _ (member : List ℕ) (r s : ℕ) (wanted : Wanted) (o : Option Outer) where
-  pub scope_there : (scope out : ℕ) → s ≡ scope_of member r → o ≡ scope_outward member s wanted → o ≡ Some (record { scope = scope; out = out }) → true ≡ has_scope member r wanted
+  pub scope_found_lem : s ≡ scope_of member r → o ≡ scope_outward member s wanted → is_some o ≡ has_scope member r wanted
   unfolding has_scope
-  scope_there scope out f got e = rw (← f, ← got, e)
-
-  pub scope_nowhere : s ≡ scope_of member r → o ≡ scope_outward member s wanted → o ≡ None → false ≡ has_scope member r wanted
-  unfolding has_scope
-  scope_nowhere f got e = rw (← f, ← got, e)
+  scope_found_lem f got = rw (← f, ← got)
 
 module _ (prelude member : List ℕ) (r : ℕ) (wanted : Wanted) where
   pub root_none : (count : ℕ) → wanted ≡ Out count → count ≡ 0 → false ≡ is_root_t prelude member r wanted
@@ -131,7 +126,7 @@ module _ (prelude member : List ℕ) (r : ℕ) (wanted : Wanted) where
   unfolding meant_behind_t
   behind_not t got e = no! _ (sym got ∙ e) refl
 
-pub ruleset root_ways = (wanted_named, wanted_out, scope_there, scope_nowhere, root_none, root_out, root_named, root_declaring, behind_root, behind_not, rules)
+pub ruleset root_ways = (wanted_named, wanted_out, scope_found_lem, root_none, root_out, root_named, root_declaring, behind_root, behind_not, rules)
 
 module _ (prelude member : List ℕ) (r e x : ℕ) (is-e : e ≡ e_at member r) (is_x : x ≡ x_at member r) (wanted : Wanted) (is-w : wanted ≡ outer_wanted_t e x) (s : ℕ) (is-s : s ≡ scope_of member r) (o : Option Outer) (got : o ≡ scope_outward member s wanted) where
   abbrev W : Wanted
@@ -143,9 +138,9 @@ module _ (prelude member : List ℕ) (r e x : ℕ) (is-e : e ≡ e_at member r) 
   there : o ≡ scope_outward member (scope_of member r) W
   there = got ∙ rw (is-s, same)
 
-  pub index_scope : (scope out b y : ℕ) (d : Option Declared) → o ≡ Some (record { scope = scope; out = out }) → b ≡ b_at member r → y ≡ y_at member r → d ≡ scope_meant member scope b y → d ≡ index_meant_t prelude member r
+  pub index_scope : (outer : Outer) (b y : ℕ) (d : Option Declared) → o ≡ Some outer → b ≡ b_at member r → y ≡ y_at member r → d ≡ scope_meant member outer.scope b y → d ≡ index_meant_t prelude member r
   unfolding index_meant_t in_outer_t
-  index_scope scope out b y d q f g h = h ∙ rw (← there, q, f, g)
+  index_scope outer b y d q f g h = h ∙ rw (← there, q, f, g)
 
   pub index_behind : (d : Option Declared) → o ≡ None → d ≡ meant_behind_t prelude member r wanted → d ≡ index_meant_t prelude member r
   unfolding index_meant_t in_outer_t
@@ -208,13 +203,13 @@ module _ (form P : List ℕ) (is-p : P ≡ part_of form) (row a : ℕ) (is-a : a
       no! _ (lt-leb _ _ g) refl
 
 module _ (prelude member : List ℕ) (r : ℕ) (m : Option Declared) (got : m ≡ meant_t prelude member r) where
-  pub meant_member : (row : ℕ) (p : List ℕ) → m ≡ Some (Member row) → p ≡ row_part member row → p ≡ chosen (meant_t prelude member r) prelude member
+  pub meant_member : (x : Declared) (row : ℕ) (p : List ℕ) → m ≡ Some x → x ≡ Member row → p ≡ row_part member row → p ≡ chosen (meant_t prelude member r) prelude member
   unfolding chosen
-  meant_member row p e f = f ∙ rw (← got, e)
+  meant_member x row p e g f = f ∙ rw (← got, e, g)
 
-  pub meant_prelude : (row : ℕ) (p : List ℕ) → m ≡ Some (Prelude row) → p ≡ row_part prelude row → p ≡ chosen (meant_t prelude member r) prelude member
+  pub meant_prelude : (x : Declared) (row : ℕ) (p : List ℕ) → m ≡ Some x → x ≡ Prelude row → p ≡ row_part prelude row → p ≡ chosen (meant_t prelude member r) prelude member
   unfolding chosen
-  meant_prelude row p e f = f ∙ rw (← got, e)
+  meant_prelude x row p e g f = f ∙ rw (← got, e, g)
 
   pub meant_nowhere : m ≡ None → [] ≡ chosen (meant_t prelude member r) prelude member
   unfolding chosen

@@ -1,5 +1,5 @@
 -- What a name of a member means, by the rows of the member and of the prelude in whose root it lies.
-use Rattle.std.specs.Prelude.{Bool, true, false, List, ℕ, ◌-◌, ◌%◌, eqb, ltb, Option, Some, None}
+use Rattle.std.specs.Prelude.{Bool, false, List, ℕ, ◌-◌, ◌%◌, eqb, ltb, Option, Some, None, is_some}
 use Rattle.kit.specs.Pick.{pick}
 use Rattle.meant.specs.declared.Declared.TheVariants.{Member, Prelude}
 use Rattle.row_parts.specs.Parts.{code_at, b_at, e_at, x_at, y_at}
@@ -64,14 +64,9 @@ ref_meant_t prelude member row = by_reading (reading_of member row) prelude memb
 unfoldable pub outer_wanted_t : (e x : ℕ) → Wanted
 outer_wanted_t e x = pick (eqb (e % 2) 1) (Named x) (Out x)
 
--- was a scope found?
-abbrev pub is_there : Option Outer → Bool
-is_there (Some outer) = true
-is_there None = false
-
 -- whether there is such a scope of the member around a row
 unfoldable pub has_scope : (member : List ℕ) (row : ℕ) → Wanted → Bool
-has_scope member row wanted = is_there (scope_outward member (scope_of member row) wanted)
+has_scope member row wanted = is_some (scope_outward member (scope_of member row) wanted)
 
 -- is the prelude's root, which lies behind all scopes of the member, the scope that is asked for?
 unfoldable pub is_root_t : (prelude member : List ℕ) (row : ℕ) → Wanted → Bool

@@ -5,7 +5,7 @@
 #![tactic(auto)]
 
 ghost use Rattle.std.specs.Prelude.{◌≡◌};
-ghost use Rattle.meant.specs.Names.{in_member, in_root, walked_meant_t, is_there, has_scope, is_root_t, outer_wanted_t, scope_meant, meant_behind_t, index_meant_t, ref_meant_t, name_meant_t};
+ghost use Rattle.meant.specs.Names.{in_member, in_root, walked_meant_t, has_scope, is_root_t, outer_wanted_t, scope_meant, meant_behind_t, index_meant_t, ref_meant_t, name_meant_t};
 ghost use Rattle.meant.specs.Part.{part_of, row_part, chosen, meant_t};
 
 use fixed::bytes_of;
@@ -30,20 +30,16 @@ const ROOT: u16 = 1;
 fn in_member(meaning: Option<Meaning>) -> Option<Declared>
     ensures { result ≡ in_member meaning }
 {
-    match meaning {
-        Some(Meaning { row, .. }) => Some(Declared::Member(row)),
-        None => None,
-    }
+    let Meaning { row, .. } = meaning?;
+    Some(Declared::Member(row))
 }
 
 // What a name means in the prelude's root.
 fn in_root(prelude: &[u8], space: u8, name: u32) -> Option<Declared>
     ensures { result ≡ in_root prelude.now space name }
 {
-    match find(prelude, ROOT, space, Key::Name(name)) {
-        Some(Found { row, .. }) => Some(Declared::Prelude(row)),
-        None => None,
-    }
+    let Found { row, .. } = find(prelude, ROOT, space, Key::Name(name))?;
+    Some(Declared::Prelude(row))
 }
 
 // ---- references
@@ -86,10 +82,7 @@ fn outer_wanted(e: u32, x: u32) -> Wanted
 fn has_scope(member: &[u8], row: u16, wanted: Wanted) -> bool
     ensures { result ≡ has_scope member.now row wanted }
 {
-    match scope_outward(member, scope_of(member, row), wanted) {
-        Some(_) => true,
-        None => false,
-    }
+    scope_outward(member, scope_of(member, row), wanted).is_some()
 }
 
 // Whether the scope behind all of the member's is the one asked for: the prelude's root has that name, or is just this many out.
@@ -112,10 +105,8 @@ fn is_root(prelude: &[u8], member: &[u8], row: u16, wanted: Wanted) -> bool
 fn in_scope(member: &[u8], scope: u16, space: u8, name: u32) -> Option<Declared>
     ensures { result ≡ scope_meant member.now scope space name }
 {
-    match find(member, scope, space, Key::Name(name)) {
-        Some(Found { row, .. }) => Some(Declared::Member(row)),
-        None => None,
-    }
+    let Found { row, .. } = find(member, scope, space, Key::Name(name))?;
+    Some(Declared::Member(row))
 }
 
 // A named index where no scope of the member is the one asked for.
@@ -198,9 +189,11 @@ fn row_part(form: &[u8], row: u16) -> &[u8]
 pub fn meant<'a>(prelude: &'a [u8], member: &'a [u8], row: u16) -> &'a [u8]
     ensures { result.now ≡ chosen (meant_t prelude.now member.now row) prelude.now member.now }
 {
-    match meant_at(prelude, member, row) {
-        Some(Declared::Member(decl)) => row_part(member, decl),
-        Some(Declared::Prelude(decl)) => row_part(prelude, decl),
-        None => &member[0..0],
+    let Some(declared) = meant_at(prelude, member, row) else {
+        return &member[0..0];
+    };
+    match declared {
+        Declared::Member(decl) => row_part(member, decl),
+        Declared::Prelude(decl) => row_part(prelude, decl),
     }
 }

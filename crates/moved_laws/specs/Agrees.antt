@@ -1,8 +1,7 @@
 -- On the rows of an input and of its output the entries, as the code makes them, are those of the rules' two lists.
-use Rattle.std.specs.Prelude.{◌≡◌, ℕ, suc, ◌+◌, ◌<◌}
+use Rattle.std.specs.Prelude.{◌≡◌, ℕ, ◌+◌, ◌<◌}
 use Rattle.std.proofs.Math.Path.{refl, ap}
 use Rattle.std.proofs.Common.{sym, ◌∙◌, subst}
-use Rattle.std.proofs.Math.Option.{some}
 use mathlib.Core.List.{List, [], ◌∷◌, ◌++◌, append-nil}
 use native.Mathlib.Omega.{arith}
 use Rattle.std.proofs.Math.ListN.{length, length-append}
@@ -13,8 +12,8 @@ use Rattle.rules.specs.Rules.{ok, resolve}
 use Rattle.rules.specs.Readings
 use Rattle.rules.specs.Readings.{fields_of}
 use Rattle.rules.specs.Laws.Meaning.Names.{LowScope}
-use Rattle.places.specs.PlaceRows.{Floor, floor}
-use Rattle.moving.specs.Moved.{places_in, places_of, places, MovedNumber, NoItem, moved_at, apart_at, collect, moved, apart}
+use Rattle.places.specs.PlaceRows.{floor}
+use Rattle.moving.specs.Moved.{places_in, places, moved_at, apart_at, collect, moved, apart}
 use Rattle.moving.proofs.Laws.RowOrder.{all_fields}
 use Rattle.row_parts.specs.Parts.{rows_in}
 use Rattle.scopes.specs.Scopes.{scope_of, scope_above}
@@ -22,7 +21,7 @@ use Rattle.moved_list.specs.Listing.{behind_next, entries_from, entries_in, move
 use Rattle.reading_laws.specs.Stand.{Is, At, code_part, behind_length, at_left, at_right}
 use Rattle.reading_laws.specs.Even.{up_open}
 use Rattle.reading_laws.specs.Meant.{Rows}
-use Rattle.moved_laws.specs.Pairs.{PairedFields, run_pairs}
+use Rattle.moved_laws.specs.Pairs.{run_pairs}
 use Rattle.moved_laws.specs.Span.{Span, span_append, bound_row, next_is}
 use Rattle.moved_laws.specs.Walk.{span_is, Here, Gone, fields_go}
 

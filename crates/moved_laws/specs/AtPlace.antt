@@ -1,5 +1,5 @@
 -- What is listed of an operand's row is what the rules list of its place.
-use Rattle.std.specs.Prelude.{◌≡◌, Bool, true, false, ◌&&◌, ◌||◌, not, ℕ, zero, suc, ◌+◌, eqb, leb, ltb, length, Option as CodeOption, Some, None}
+use Rattle.std.specs.Prelude.{◌≡◌, Bool, true, false, ◌&&◌, ◌||◌, not, ℕ, suc, ◌+◌, eqb, leb, ltb, length, Option as CodeOption, Some, None}
 use Rattle.std.proofs.Math.Path.{refl, ap, sym, subst}
 use Rattle.std.proofs.Common.{◌∙◌}
 use Rattle.std.proofs.Math.Option.{Option, none, some, map}
@@ -8,15 +8,14 @@ use native.Mathlib.Omega.{arith}
 use Rattle.std.proofs.Math.ListN.{get_elem?}
 use Rattle.kit.specs.Pick.{pick}
 use Rattle.kit.proofs.Laws.{yes!, no!, tests}
-use Rattle.rules.specs.Tools.{when◌then◌else◌, only, ◌then◌, is_just}
+use Rattle.rules.specs.Tools.{when◌then◌else◌, only, ◌then◌}
 use Rattle.rules.specs.Versions.{RuleSet}
-use Rattle.rules.specs.Rows.{Index, Num, Id, encode, flag, number, Ref, Outer, Case}
-use Rattle.rules.specs.Tree.{Operand, ref, outer, case, Scope, scope, flatten}
+use Rattle.rules.specs.Rows.{Index, Num, Id, encode, flag, number, Ref, Outer}
+use Rattle.rules.specs.Tree.{Operand, ref, outer, case, Scope}
 use Rattle.rules.specs.Rules.{ok, resolve}
 use Rattle.rules.specs.Readings
 use Rattle.rules.specs.Readings.{Place, Level, use_at, counted, place}
-use Rattle.rules.specs.Laws.ToolLaws.{All, done, ◌&◌, then_some, leb_le, leb_lt}
-use Rattle.rules.specs.Laws.Results.{some_same, no_option}
+use Rattle.rules.specs.Laws.ToolLaws.{done, then_some, leb_le, leb_lt}
 use Rattle.rules.specs.Laws.Meaning.Names.{LowScope, low_scope}
 use Rattle.rules.proofs.Laws.Output.Kept.{AliasesFields, kept}
 use Rattle.places.specs.PlaceRows.{Floor, floor, floors, floors_at, Located, counted_row, row_of_operand}
@@ -36,7 +35,7 @@ use Rattle.numbers.specs.declared.Number.{Number}
 use Rattle.numbers.specs.Entries.{is_written, numbered, number_at, scope_wanted, is_pushed, gets, gets_entry, gets_in, output_entry, meant_by, counted_entry, counted_in as counted_on, entry_at}
 use Rattle.moved_list.specs.Listing.{moved_number, no_item, moved_of, apart_of}
 use Rattle.reading_laws.specs.Stand.{Is, code_part, b_part, e_part, x_part, y_part, z_part}
-use Rattle.reading_laws.specs.Floors.{Stands, Chain, first_row, floors_chain}
+use Rattle.reading_laws.specs.Floors.{Chain, first_row, floors_chain}
 use Rattle.reading_laws.specs.Number.{counted_in_lem, stands_at}
 use Rattle.reading_laws.specs.Outward.{first_wanted, scope_outward_lem, count_out, count_past}
 use Rattle.reading_laws.specs.Operands.{Used}
@@ -45,7 +44,7 @@ use Rattle.moved_laws.specs.InScope.{floors_aliases, none_found, pushed_moves}
 use Rattle.moved_laws.specs.Named.{NamesAre, names_at, named_found, named_nowhere}
 use Rattle.numbers.specs.declared.Entry.TheVariants.{Moved as MovedEntry, Apart}
 use Rattle.numbers.specs.declared.Entry.{Entry}
-use Rattle.scopes.specs.declared.Outer.{Outer}
+use Rattle.scopes.specs.declared.Outer.{Outer as OuterScope}
 
 -- ---- an entry says what the rules list of a place
 
@@ -73,7 +72,7 @@ decided m false e₁ e₂ = rw (e₁, e₂) says_nothing
 
 -- ---- a scope this many scopes out
 
-unfoldable scope_for : Option Floor → (d : ℕ) → CodeOption Outer
+unfoldable scope_for : Option Floor → (d : ℕ) → CodeOption OuterScope
 scope_for none d = None
 scope_for (some f) d = Some (record { scope = f.row; out = d })
 
@@ -97,7 +96,7 @@ module _ (form : List ℕ) (r : ℕ) where
   unfolding entry_at is_written
   not_written e c hc he no_number out at = sym (no! _ (rw (hc, he) no_number) refl)
 
-  entry_of : (out : List ℕ) (at s : ℕ) (wanted : Wanted) (o : CodeOption Outer) (n : Number) → is_written form r ≡ true → scope_of form r ≡ s → scope_wanted form r ≡ wanted → number_at form r ≡ n → scope_outward form s wanted ≡ o
+  entry_of : (out : List ℕ) (at s : ℕ) (wanted : Wanted) (o : CodeOption OuterScope) (n : Number) → is_written form r ≡ true → scope_of form r ≡ s → scope_wanted form r ≡ wanted → number_at form r ≡ n → scope_outward form s wanted ≡ o
       → entry_at form r out at ≡ counted_on form o n out at
   unfolding entry_at
   entry_of out at s wanted o n is around w number reached = sym (yes! _ is refl) ∙ rw (around, w, number, reached)

@@ -1,15 +1,15 @@
 -- A number in a scope of the input and in the same scope of the output, on the rows of both.
-use Rattle.std.specs.Prelude.{◌≡◌, refl, Bool, true, false, ◌||◌, not, ℕ, zero, suc, ◌+◌, leb, None}
+use Rattle.std.specs.Prelude.{◌≡◌, refl, Bool, true, false, ◌||◌, not, ℕ, suc, ◌+◌, None}
 use Rattle.std.proofs.Math.Path.{ap}
 use Rattle.std.proofs.Common.{sym, ◌∙◌, subst}
 use Rattle.std.proofs.Math.Option
-use Rattle.std.proofs.Math.Option.{Option, none, some}
-use mathlib.Core.List.{List, [], ◌∷◌, ◌++◌, map}
+use Rattle.std.proofs.Math.Option.{none, some}
+use mathlib.Core.List.{List, [], ◌∷◌, ◌++◌}
 use native.Mathlib.Omega.{arith}
 use Rattle.std.proofs.Math.ListN.{get_elem?}
 use Rattle.kit.proofs.Laws.{tests}
 use Rattle.rules.specs.Tools.{when◌then◌else◌, ◌then◌}
-use Rattle.rules.specs.Tree.{Declaration, Head, Scope, scope, Fields, end, ◌▸◌, Item, plain, holds, head_of}
+use Rattle.rules.specs.Tree.{Declaration, Scope, scope, Fields, end, ◌▸◌, Item, plain, holds, head_of}
 use Rattle.rules.specs.Rules.{fresh}
 use Rattle.rules.specs.Readings
 use Rattle.rules.specs.Readings.{is_fresh, any_fresh, is_inserted, Spot, original, inserted, Standing, in_original, in_inserted, standings, place, fields_of}

@@ -4,7 +4,7 @@ use Rattle.std.proofs.Math.Path.{refl, ap, subst}
 use Rattle.std.proofs.Common.{sym, ◌∙◌, arith}
 use Rattle.std.proofs.Math.Option.{Option, none, some, map}
 use mathlib.Core.List.{List, [], ◌∷◌, ◌++◌}
-use Prim.Native.Nat.{ℕ, zero, suc, ◌+◌, ◌-◌}
+use Prim.Native.Nat.{ℕ, suc, ◌+◌, ◌-◌}
 use Rattle.std.proofs.Math.Dec.{eqb}
 use Rattle.std.proofs.Math.ListN.{length, get_elem?}
 use Rattle.kit.proofs.Laws.{yes!, no! }
@@ -18,10 +18,10 @@ use Rattle.rules.specs.Laws.Results.{some_same, no_option}
 use Rattle.places.specs.PlaceRows.{Placed, originals_from, Floor, floor, inside_of, floors, floors_at}
 use Rattle.places.specs.Counting.{originals_from_lem, elem_map}
 use Rattle.moving.specs.Moved.{held_scope, names_to, nearest_named}
-use Rattle.row_parts.specs.Parts.{code_at, x_at, rows_in}
+use Rattle.row_parts.specs.Parts.{x_at}
 use Rattle.scopes.specs.declared.Wanted.TheVariants.{Named}
-use Rattle.reading_laws.specs.Stand.{At, x_part, behind, behind_length, at_left, at_right}
-use Rattle.reading_laws.specs.Floors.{Stands, first_row, FieldAt, field_of_lem, held_stands}
+use Rattle.reading_laws.specs.Stand.{At, x_part, behind, behind_length, at_right}
+use Rattle.reading_laws.specs.Floors.{Stands, first_row, field_of_lem, held_stands}
 use Rattle.reading_laws.specs.Outward.{first_wanted}
 
 abbrev name_of : Scope → ℕ

@@ -1,7 +1,7 @@
 -- The fields of an input and of its output, side by side: those of the output are the input's in their order, and inserted ones among them,
 -- which hold no scope.
 use Rattle.std.specs.Prelude.{◌≡◌, refl, Bool, true, false, [], ℕ}
-use Rattle.std.proofs.Common.{ap, sym, ◌∙◌, subst, arith}
+use Rattle.std.proofs.Common.{arith}
 use Rattle.rules.specs.Tools.{when◌then◌else◌}
 use Rattle.rules.specs.Versions.{RuleSet}
 use Rattle.rules.specs.Tree.{Head, Scope, scope, Fields, end, ◌▸◌, Item, plain, holds, head_of}

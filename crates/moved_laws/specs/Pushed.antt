@@ -1,22 +1,20 @@
 -- In a scope: a number moves exactly if an inserted declaration of its space has it or a lower one.
 use Rattle.std.specs.Prelude.{◌≡◌, Bool, ◌&&◌, ◌||◌, not, ◌⊎◌, eqb, leb, Some}
 use Rattle.std.proofs.Math.Path.{refl, ap}
-use Rattle.std.proofs.Common.{sym, ◌∙◌, subst, inl, inr, arith}
+use Rattle.std.proofs.Common.{sym, ◌∙◌, inl, inr, arith}
 use Rattle.std.proofs.Math.Bool.{true, false}
-use Rattle.std.proofs.Math.Option.{Option, none, some}
+use Rattle.std.proofs.Math.Option.{some}
 use mathlib.Core.List.{List, [], ◌∷◌, ◌++◌, map}
 use Prim.Native.Nat.{ℕ, zero, suc, ◌+◌, ◌≤◌, ◌<◌}
 use Rattle.std.proofs.Math.ListN.{get_elem?}
 use Rattle.kit.specs.Pick.{pick}
-use Rattle.kit.proofs.Laws.{yes!, no!, tests}
+use Rattle.kit.proofs.Laws.{tests}
 use Rattle.rules.specs.Tools.{when◌then◌else◌}
 use Rattle.rules.specs.Tree.{Declaration, Head, Fields, end, ◌▸◌, head_of}
-use Rattle.rules.specs.Rules.{fresh}
 use Rattle.rules.specs.Answer.{same_numbers}
-use Rattle.rules.specs.Readings.{is_fresh, any_fresh, is_inserted, Level, Spot, original, inserted, Standing, in_original, in_inserted, standings, place}
-use Rattle.rules.specs.Laws.ToolLaws.{All, done, ◌&◌, all_append, false_not, eqb-false, and-false, leb-true}
+use Rattle.rules.specs.Readings.{is_fresh, Level, Spot, original, inserted, Standing, in_original, standings, place}
+use Rattle.rules.specs.Laws.ToolLaws.{All, done, ◌&◌, and-false}
 use Rattle.rules.specs.Laws.Results.{some_same, no_option}
-use Rattle.rules.proofs.Laws.Output.Kept.{IsAlias, AliasesFields}
 use Rattle.places.specs.PlaceRows.{Located, located_of}
 use Rattle.places.specs.Counting.{standing}
 use Rattle.moving.specs.Moved.{same_place}

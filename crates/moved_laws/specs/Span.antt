@@ -1,28 +1,25 @@
 -- The entries of rows that stand one behind another: of a field's own rows, of its operands.
-use Rattle.std.specs.Prelude.{◌≡◌, refl, Bool, true, false, ◌&&◌, ◌||◌, eqb, ltb, take, Option as CodeOption, None}
+use Rattle.std.specs.Prelude.{◌≡◌, refl, true, false, ◌||◌, eqb, Option as CodeOption, None}
 use Rattle.std.proofs.Math.Path.{ap, sym}
-use Rattle.std.proofs.Common.{ap₂, ◌∙◌, subst, add-one, suc-add, length-append}
+use Rattle.std.proofs.Common.{ap₂, ◌∙◌, subst}
 use Rattle.std.proofs.Math.Option.{Option, none, some}
 use mathlib.Core.List.{List, [], ◌∷◌, ◌++◌, append_assoc}
 use native.Mathlib.Omega.{arith}
-use Prim.Native.Nat.{ℕ, zero, suc, ◌+◌, ◌-◌, ◌≤◌, ◌<◌}
-use Rattle.std.proofs.Math.ListN.{length, get_elem?}
-use Rattle.kit.specs.Pick.{pick}
-use Rattle.kit.proofs.Laws.{yes!, no!, tests, left_suc}
+use Prim.Native.Nat.{ℕ, suc, ◌+◌, ◌≤◌, ◌<◌}
+use Rattle.std.proofs.Math.ListN.{length}
+use Rattle.kit.proofs.Laws.{yes!, no!, left_suc}
 use Rattle.rules.specs.Rows.{Row, Field, encode}
-use Rattle.rules.specs.Tree.{Declaration, Operand, ref, outer, case, decl_rows, path_rows, operand_row, operand_rows, export_rows}
+use Rattle.rules.specs.Tree.{Declaration, Operand, ref, outer, case, decl_rows, path_rows, operand_row, export_rows}
 use Rattle.rules.specs.Laws.ToolLaws.{All, done, ◌&◌}
-use Rattle.rules.specs.Laws.Results.{some_same, no_option}
 use Rattle.places.proofs.RowAt.{operand_row_of}
 use Rattle.moving.specs.Moved.{MovedNumber, NoItem, if_any}
-use Rattle.row_parts.specs.Parts.{code_at, e_at, rows_in}
+use Rattle.row_parts.specs.Parts.{code_at, rows_in}
 use Rattle.numbers.specs.Entries.{is_written, entry_at}
 use Rattle.moved_list.specs.Listing.{behind_from, behind_next, follow, entries_from, moved_of, apart_of}
 use Rattle.moved_list.proofs.Ways.{moved_append, apart_append}
-use Rattle.reading_laws.specs.Stand.{Is, At, code_part, behind, behind_length, at_left, at_right}
+use Rattle.reading_laws.specs.Stand.{Is, At, code_part}
 use Rattle.reading_laws.specs.Even.{code_of, Flat}
 use Rattle.moved_laws.specs.AtPlace.{Says, says_nothing}
-use Rattle.numbers.specs.declared.Entry.TheVariants.{Moved, Apart}
 use Rattle.numbers.specs.declared.Entry.{Entry}
 
 -- ---- rows without numbers

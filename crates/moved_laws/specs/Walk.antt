@@ -1,13 +1,13 @@
 -- The walk through the rows of an input and its output: the entries are those of the operands' places, in their order.
-use Rattle.std.specs.Prelude.{◌≡◌, true, false, take}
+use Rattle.std.specs.Prelude.{◌≡◌, true, false}
 use Rattle.std.proofs.Math.Path.{refl, ap, sym, subst}
-use Rattle.std.proofs.Common.{ap₂, ◌∙◌, add-one}
-use Rattle.std.proofs.Math.Option.{Option, none, some}
+use Rattle.std.proofs.Common.{◌∙◌}
+use Rattle.std.proofs.Math.Option.{Option, some}
 use mathlib.Core.List.{List, [], ◌∷◌, ◌++◌, append_assoc, append-nil}
 use native.Mathlib.Omega.{arith}
-use Prim.Native.Nat.{ℕ, zero, suc, ◌+◌, ◌≤◌, ◌<◌}
+use Prim.Native.Nat.{ℕ, suc, ◌+◌, ◌<◌}
 use Rattle.std.proofs.Math.ListN.{length, get_elem?, length-append}
-use Rattle.rules.specs.Tools.{when◌then◌else◌, ◌then◌}
+use Rattle.rules.specs.Tools.{when◌then◌else◌}
 use Rattle.rules.specs.Versions.{RuleSet}
 use Rattle.rules.specs.Rows.{Row, Field, Open, Close, encode}
 use Rattle.rules.specs.Tree.{Operand, Head, Scope, scope, Fields, end, ◌▸◌, Item, plain, holds, head_of, flatten, fields_rows, item_rows, head_rows, decl_rows, operand_row, operand_rows, export_rows}
@@ -15,24 +15,23 @@ use Rattle.rules.specs.Rules.{ok, resolve}
 use Rattle.rules.specs.Readings
 use Rattle.rules.specs.Readings.{is_inserted, Place, level, fields_of}
 use Rattle.rules.specs.Laws.ToolLaws.{All, done, ◌&◌, all_append, all_map}
-use Rattle.rules.specs.Laws.Results.{some_same, no_option}
 use Rattle.rules.specs.Laws.Meaning.Names.{LowScope}
 use Rattle.places.specs.PlaceRows
 use Rattle.places.specs.PlaceRows.{Placed, originals_from, Floor, floor, floors_at, field_at, operand_row_at}
 use Rattle.places.proofs.RowAt.{decls_length, operand_row_of}
-use Rattle.moving.specs.Moved.{places_at, places_in, places_inside, places_of, MovedNumber, NoItem, moved_at, apart_at, if_any, collect}
+use Rattle.moving.specs.Moved.{places_at, places_in, places_inside, MovedNumber, NoItem, moved_at, apart_at, collect}
 use Rattle.moving.proofs.Laws.Lists.{any_append, collect_append}
 use Rattle.moving.proofs.Laws.RowOrder.{row_is, operand_on, Rest, place_field, rest_inserted, rest_original, first_is, held_rest}
 use Rattle.row_parts.specs.Parts.{rows_in}
 use Rattle.scopes.specs.Scopes.{scope_of, scope_above}
 use Rattle.moved_list.specs.Listing.{behind_next}
-use Rattle.reading_laws.specs.Stand.{Is, At, code_part, behind, behind_length, at_left, at_right}
+use Rattle.reading_laws.specs.Stand.{Is, At, code_part, behind_length, at_left, at_right}
 use Rattle.reading_laws.specs.Even.{Flat, Even, head_even, item_even, up_even, up_open}
 use Rattle.reading_laws.specs.Floors.{first_row}
 use Rattle.reading_laws.specs.Meant.{Rows}
-use Rattle.moved_laws.specs.AtPlace.{Says, says_place}
+use Rattle.moved_laws.specs.AtPlace.{says_place}
 use Rattle.moved_laws.specs.Pairs.{PairedFields, ends, comes, stays, PairedItems, plains, hold}
-use Rattle.moved_laws.specs.Span.{Silent, Quiet, Span, no_rows_lem, span_append, quiet_rows, bound_row, listed_row, field_quiet, decls_quiet, export_quiet, operand_flat, operand_rows_lem, next_behind, next_is}
+use Rattle.moved_laws.specs.Span.{Span, no_rows_lem, span_append, quiet_rows, bound_row, listed_row, field_quiet, decls_quiet, export_quiet, operand_flat, operand_rows_lem, next_behind, next_is}
 
 pub span_is : {form out : List ℕ} {row n m at to : ℕ} {ms ms' : List MovedNumber} {ns ns' : List NoItem} → Span form out row n at ms ns to → n ≡ m → ms ≡ ms' → ns ≡ ns' → Span form out row m at ms' ns' to
 span_is S e₁ e₂ e₃ = rw (← e₁, ← e₂, ← e₃) S

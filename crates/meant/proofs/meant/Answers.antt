@@ -2,11 +2,11 @@
 use Rattle.meant.proofs.Ways.{part_ways}
 use Rattle.meant.proofs.meant.Goals as goal
 
-pub returns-in-Some-Member : goal.returns-in-Some-Member
-returns-in-Some-Member c = search part_ways
+pub returns-in_default : goal.returns-in_default
+returns-in_default c = search part_ways
 
-pub returns-in-Some-Prelude : goal.returns-in-Some-Prelude
-returns-in-Some-Prelude c = search part_ways
+pub returns-in-Member : goal.returns-in-Member
+returns-in-Member c = search part_ways
 
-pub returns-in-None : goal.returns-in-None
-returns-in-None c = search part_ways
+pub returns-in-Prelude : goal.returns-in-Prelude
+returns-in-Prelude c = search part_ways
