@@ -1,5 +1,5 @@
 -- The ways through the code: each law is one unfolding of a twin, with the facts in the form in which the code gives them.
-use Rattle.std.specs.Prelude.{Option, Some, None, ℕ}
+use Rattle.std.specs.Prelude.{Option, Some, None, is_some}
 use Rattle.std.proofs.Common.{◌≡◌, ℕ, suc, ◌+◌, ◌-◌, ◌/◌, ◌%◌, ◌<◌, ◌≤◌, Bool, true, false, not, List, [], ◌∷◌, length, get_or, sym, refl, ap, ◌∙◌, arith, rules, ne_eqb}
 use Rattle.kit.specs.Pick.{pick}
 use Rattle.kit.proofs.Laws.{yes!, no!, tests, left_suc, down, past}
@@ -14,8 +14,8 @@ use Rattle.names.specs.Table.{Slot, between, pushed, find_in}
 use Rattle.index.specs.Indexed.{Holds, Covers}
 use Rattle.mark.specs.declared.Place.{Place}
 use Rattle.mark.specs.declared.Marking.{Marking}
-use Rattle.mark.specs.Visits.{place, place_at, visits_behind_t, visit_step_t, Visit, visits_t}
-use Rattle.mark.specs.MarkedRows.{Serves, left_by, slot_of, enter_row_t, enter_then, enter_all, is_found, Step, marking, insert_with, insert_marked_t, serve_t, beside, mark_outer_t, mark_name_t, mark_ref_t, mark_row_t, mark_then, mark_all, Steps, next_of, mark_scope_t, mark_open_t, scopes_then, scopes_t, copies_t, mark_rows_t}
+use Rattle.mark.specs.Visits.{place, place_at, visits_behind_t, visit_step_t, visits_t}
+use Rattle.mark.specs.MarkedRows.{Serves, left_by, slot_of, enter_row_t, enter_then, enter_all, Step, marking, insert_with, insert_marked_t, serve_t, beside, mark_outer_t, mark_name_t, mark_ref_t, mark_row_t, mark_then, mark_all, Steps, next_of, mark_scope_t, mark_open_t, scopes_then, scopes_t, copies_t, mark_rows_t}
 
 -- ---- behind, step
 
@@ -72,12 +72,8 @@ pub ruleset enter_ways = (enter_decl, enter_other, enter_end, enter_close, enter
 
 -- ---- is_own, insert, rename
 
-module _ (table : List Slot) (space name : ℕ) (f : Option ℕ) (got : f ≡ find_in table space name) where
-  pub own_found : (n : ℕ) → f ≡ Some n → true ≡ is_found (find_in table space name)
-  own_found n m = rw (← got, m)
-
-  pub own_nothing : f ≡ None → false ≡ is_found (find_in table space name)
-  own_nothing m = rw (← got, m)
+pub own_found : (table : List Slot) (space name : ℕ) (f : Option ℕ) (b : Bool) → f ≡ find_in table space name → b ≡ is_some f → b ≡ is_some (find_in table space name)
+own_found table space name f b got e = e ∙ ap is_some got
 
 -- the first slots of those that the index serves
 pub own_covered : (m : Marking) (table : List Slot) (index : List ℕ) → Serves m table index → Covers table index m.own
@@ -97,7 +93,7 @@ pub rename_way : (p : Parts) (row alias : ℕ) (marked : List ℕ) (r : ℕ) (l 
 unfolding serve_t left_by
 rename_way p row alias marked r l e = rw (← e)
 
-pub ruleset insert_ways = (own_found, own_nothing, own_covered, all_covered, insert_way, serves_more, rename_way, rules)
+pub ruleset insert_ways = (own_found, own_covered, all_covered, insert_way, serves_more, rename_way, rules)
 
 -- ---- mark_name, mark_ref, mark_row
 
@@ -111,7 +107,7 @@ module _ (p : Parts) (row : ℕ) (m : Marking) (table : List Slot) (marked : Lis
     unfolding mark_outer_t beside
     outer_new g m' t w = rw (← got, g, ← w)
 
-  module _ (b : Bool) (own : b ≡ is_found (find_in (between 0 m.own table) p.b p.x)) where
+  module _ (b : Bool) (own : b ≡ is_some (find_in (between 0 m.own table) p.b p.x)) where
     pub name_own : b ≡ true → (m & table & marked) ≡ mark_name_t p row m table marked
     unfolding mark_name_t
     name_own e = yes! _ (sym own ∙ e) refl

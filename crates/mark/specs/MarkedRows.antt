@@ -1,5 +1,5 @@
 -- The marked rows as the code writes them, scope by scope.
-use Rattle.std.specs.Prelude.{ℕ, zero, suc, ◌+◌, ◌/◌, ◌%◌, ◌≤◌, Bool, true, false, List, [], ◌∷◌, length, ◌==◌, nat_lt, Option, Some, None}
+use Rattle.std.specs.Prelude.{ℕ, zero, suc, ◌+◌, ◌/◌, ◌%◌, ◌≤◌, Bool, List, [], ◌∷◌, length, ◌==◌, nat_lt, Option, Some, None, is_some}
 use Rattle.kit.specs.Pick.{pick}
 use Rattle.kit.specs.Out.{Out, ◌&◌}
 use Rattle.parts.specs.declared.Parts.{Parts}
@@ -40,11 +40,6 @@ enter_all (v ∷ vs) table used = enter_then (enter_row_t v.parts table used) λ
 
 -- ---- what it refers to
 
--- was anything found?
-abbrev pub is_found : Option ℕ → Bool
-is_found (Some n) = true
-is_found None = false
-
 -- what is carried along, the table, and the marked rows
 abbrev pub Step : Type 0
 Step = Out Marking (Out (List Slot) (List ℕ))
@@ -74,7 +69,7 @@ mark_outer_t None p row m table marked = beside (insert_marked_t p m table) mark
 -- a walked name: one that the scope declares stays as it is
 unfoldable pub mark_name_t : Parts → (row : ℕ) → Marking → List Slot → List ℕ → Step
 mark_name_t p row m table marked =
-    pick (is_found (find_in (between 0 m.own table) p.b p.x)) (m & table & marked)
+    pick (is_some (find_in (between 0 m.own table) p.b p.x)) (m & table & marked)
     (mark_outer_t (find_in (between m.own m.used table) p.b p.x) p row m table marked)
 
 -- a REF: with PATHs as many fresh names are passed, without PATHs a number stays and a name is walked

@@ -6,13 +6,13 @@
 // with the alias's name as their number.
 #![tactic(auto)]
 
-ghost use Rattle.std.specs.Prelude.{◌≡◌, ◌/◌, ◌≤◌, length, slice_index};
+ghost use Rattle.std.specs.Prelude.{◌≡◌, ◌/◌, ◌≤◌, is_some, length, slice_index};
 ghost use Rattle.kit.specs.Out.{◌&◌};
 ghost use Rattle.put.specs.Put.{copy_row};
 ghost use Rattle.names.specs.Table.{between, find_in};
 ghost use Rattle.index.specs.Indexed.{Holds, Covers};
 ghost use Rattle.mark.specs.Visits.{visits_behind_t, visit_step_t, place_at, visits_t};
-ghost use Rattle.mark.specs.MarkedRows.{Serves, left_by, is_found, enter_row_t, enter_all, serve_t, insert_marked_t, mark_outer_t, mark_name_t, mark_ref_t, mark_row_t, mark_all, mark_scope_t, mark_open_t, scopes_t, copies_t, mark_rows_t};
+ghost use Rattle.mark.specs.MarkedRows.{Serves, left_by, enter_row_t, enter_all, serve_t, insert_marked_t, mark_outer_t, mark_name_t, mark_ref_t, mark_row_t, mark_all, mark_scope_t, mark_open_t, scopes_t, copies_t, mark_rows_t};
 
 use codes::here_only;
 use fixed::FIRST_FRESH;
@@ -141,12 +141,9 @@ pub struct Marking {
 // Whether the scope declares a name.
 fn is_own(table: &[Slot], index: &[u16], own: usize, space: u32, name: u32) -> bool
     requires { Covers table.now index.now own }
-    ensures { result ≡ is_found (find_in (between 0 own table.now) space name) }
+    ensures { result ≡ is_some (find_in (between 0 own table.now) space name) }
 {
-    match find(table, index, 0, own, space, name) {
-        Some(_) => true,
-        None => false,
-    }
+    find(table, index, 0, own, space, name).is_some()
 }
 
 // The next insertion is the alias of a name that has none yet.
@@ -243,7 +240,7 @@ fn mark_ref(
     mark_name(p, row, marked, table, index, m)
 }
 
-// The row at hand: here_only_lem operands and rows that are no REF are passed over.
+// The row at hand: operands that are looked up here only, and rows that are no REF, are passed over.
 fn mark_row(
     p: Parts,
     at: Place,

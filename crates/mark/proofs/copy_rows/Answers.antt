@@ -1,5 +1,4 @@
 -- `mark::copy_rows` meets its contract.
-use Rattle.std.proofs.Common.{◌-◌}
 use Rattle.mark.proofs.Ways.{copies_ways}
 use Rattle.mark.proofs.copy_rows.Goals as goal
 

@@ -1,5 +1,4 @@
 -- `mark::enter_scope` meets its contract.
-use Rattle.std.proofs.Common.{◌-◌}
 use Rattle.mark.proofs.Ways.{enter_ways}
 use Rattle.mark.proofs.enter_scope.Goals as goal
 

@@ -1,5 +1,5 @@
 -- `mark::enter_scope` meets its contract.
-use Rattle.std.proofs.Common.{◌≡◌, ◌-◌, ◌/◌, length}
+use Rattle.std.proofs.Common.{◌≡◌, ◌/◌, length}
 use Rattle.index.specs.Indexed.{Holds}
 use Rattle.mark.specs.Visits.{place_at, visits_t}
 use Rattle.mark.specs.MarkedRows.{enter_all}

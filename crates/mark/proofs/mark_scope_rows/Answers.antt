@@ -1,5 +1,5 @@
 -- `mark::mark_scope_rows` meets its contract.
-use Rattle.std.proofs.Common.{◌-◌, rules}
+use Rattle.std.proofs.Common.{rules}
 use Rattle.mark.proofs.Ways.{scope_ways, mark_turn}
 use Rattle.mark.proofs.mark_scope_rows.Goals as goal
 

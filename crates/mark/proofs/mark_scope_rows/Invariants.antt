@@ -1,5 +1,5 @@
 -- `mark::mark_scope_rows` meets its contract.
-use Rattle.std.proofs.Common.{◌≡◌, ◌-◌, ◌/◌, length}
+use Rattle.std.proofs.Common.{◌≡◌, ◌/◌, length}
 use Rattle.mark.specs.Visits.{place_at, visits_t}
 use Rattle.mark.specs.MarkedRows.{Serves, mark_all}
 use Rattle.mark.proofs.mark_scope_rows.Given as goal

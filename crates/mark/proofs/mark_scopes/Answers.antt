@@ -1,5 +1,5 @@
 -- `mark::mark_scopes` meets its contract.
-use Rattle.std.proofs.Common.{◌-◌, rules}
+use Rattle.std.proofs.Common.{rules}
 use Rattle.mark.proofs.Ways.{scopes_ways, scopes_turn}
 use Rattle.mark.proofs.mark_scopes.Goals as goal
 
