@@ -4,7 +4,7 @@ use mathlib.Core.Path.{◌≡◌, refl, sym, ap, ◌∙◌}
 use mathlib.Core.Bool.{Bool, true, false}
 use mathlib.Core.List.{List, [], ◌∷◌}
 use native.Mathlib.Omega.{arith}
-use Prim.Native.Nat.{ℕ, zero, suc, ◌+◌, ◌-◌, ◌/◌, ◌≤◌, ◌<◌}
+use Prim.Native.Nat.{ℕ, suc, ◌+◌, ◌-◌, ◌/◌, ◌≤◌, ◌<◌}
 use lib.ListN.{length, set}
 use types.Run.{OneOf}
 use denote.Enum.Declared.{tag_of}
@@ -18,8 +18,6 @@ use Rattle.put.specs.Put.{copy_row}
 use Rattle.rows.specs.declared.row.Row.{Row}
 use Rattle.rows.specs.declared.row.Row.TheVariants.{Open}
 use Rattle.form.specs.Part.{field_rows}
-use Rattle.refusal.specs.declared.Refusal.{Refusal}
-use Rattle.refusal.specs.declared.Told.{Told}
 use Rattle.names.specs.Table.{Slot, name_of, scope_of, innermost_t}
 use Rattle.plan.specs.Enter.{row_number, enter_fields_t}
 use Rattle.plan.specs.Insertions.{field_code_t}
@@ -37,12 +35,12 @@ use Rattle.refusal.specs.declared.Refused.{Refused}
 
 -- ---- on from an answer
 
-module _ {A : Type 0} {a : Result WriteState Refused} {e n : List Slot} {o : List ℕ} {W : Wrote₃} (w : a & e & n & o ≡ W) (k : WriteState → List Slot → List Slot → List ℕ → A) (g : Refusal → Told → List Slot → List Slot → List ℕ → A) where
+module _ {A : Type 0} {a : Result WriteState Refused} {e n : List Slot} {o : List ℕ} {W : Wrote₃} (w : a & e & n & o ≡ W) (k : WriteState → List Slot → List Slot → List ℕ → A) (g : Refused → List Slot → List Slot → List ℕ → A) where
   wrote₃_done : {s : WriteState} {X : A} → a ≡ Ok s → X ≡ k s e n o → X ≡ wrote_then₃ W k g
   unfolding wrote_then₃
   wrote₃_done m q = rw (← w, m) q
 
-  wrote₃_stop : {x : Refusal} {z : Told} {X : A} → a ≡ Err (record { refusal = x; told = z }) → X ≡ g x z e n o → X ≡ wrote_then₃ W k g
+  wrote₃_stop : {why : Refused} {X : A} → a ≡ Err why → X ≡ g why e n o → X ≡ wrote_then₃ W k g
   unfolding wrote_then₃
   wrote₃_stop m q = rw (← w, m) q
 
@@ -67,9 +65,9 @@ module _ (field : List ℕ) (names : List Slot) (here out : List ℕ) (s : Write
   fresh_some h X w = rw (← q) (no! _ (omega tests) w)
 
 module _ (field : List ℕ) (entered names : List Slot) (scopes : List (List ℕ)) (out : List ℕ) (s : WriteState) (here : List ℕ) (h : here ≡ innermost_t scopes s.depth) (a : Result WriteState Refused) (o : List ℕ) (w : a & o ≡ write_fresh_t field names here out s) where
-  pub head_stop : (x : Refusal) (y : Told) → a ≡ Err (record { refusal = x; told = y }) → Err (record { refusal = x; told = y }) & entered & o ≡ write_head_t field entered names scopes out s
+  pub head_stop : (why : Refused) → a ≡ Err why → Err why & entered & o ≡ write_head_t field entered names scopes out s
   unfolding write_head_t
-  head_stop x y m = wrote_stop (rw h at w) _ _ m refl
+  head_stop why m = wrote_stop (rw h at w) _ _ m refl
 
   pub head_on : (t : WriteState) → a ≡ Ok t → (X : Wrote₂) → X ≡ own_t field entered names scopes o (unseen_t t) t.at 0 (length field / 16) → X ≡ write_head_t field entered names scopes out s
   unfolding write_head_t
@@ -78,17 +76,17 @@ module _ (field : List ℕ) (entered names : List Slot) (scopes : List (List ℕ
 -- ---- steps A and B
 
 module _ (rows ends : List ℕ) (entered names : List Slot) (scopes : List (List ℕ)) (s : WriteState) (first : ℕ) (q : first ≡ row_number s.at 1) (a : Result ℕ Refused) (e : List Slot) (w : a & e ≡ enter_fields_t rows ends entered first 0 (length rows / 16)) where
-  pub begin_twice : (x : Refusal) (y : Told) → a ≡ Err (record { refusal = x; told = y }) → Err (record { refusal = x; told = y }) & e & names ≡ begin_scope_t rows ends entered names scopes s
+  pub begin_twice : (why : Refused) → a ≡ Err why → Err why & e & names ≡ begin_scope_t rows ends entered names scopes s
   unfolding begin_scope_t planned_t
-  begin_twice x y m = rw (← q, ← w, m)
+  begin_twice why m = rw (← q, ← w, m)
 
   pub begin_on : (k : ℕ) → a ≡ Ok k → (p : Result PlanState Refused) (n : List Slot) → p & n ≡ plan.plan_scope_t rows ends e names scopes (plan_in s first k) → p & e & n ≡ begin_scope_t rows ends entered names scopes s
   unfolding begin_scope_t planned_t with_tables_t
   begin_on k m p n v = rw (← q, ← w, m, ← q, ← v)
 
   module _ (k : ℕ) (m : a ≡ Ok k) (p : Result PlanState Refused) (n : List Slot) (v : p & n ≡ plan.plan_scope_t rows ends e names scopes (plan_in s first k)) where
-    pub begin_stop : (x : Refusal) (y : Told) → p ≡ Err (record { refusal = x; told = y }) → Err (record { refusal = x; told = y }) & e & n ≡ begin_scope_t rows ends entered names scopes s
-    begin_stop x y l = rw (← l) (begin_on k m p n v)
+    pub begin_stop : (why : Refused) → p ≡ Err why → Err why & e & n ≡ begin_scope_t rows ends entered names scopes s
+    begin_stop why l = rw (← l) (begin_on k m p n v)
 
     pub begin_done : (d : PlanState) → p ≡ Ok d → Ok d & e & n ≡ begin_scope_t rows ends entered names scopes s
     begin_done d l = rw (← l) (begin_on k m p n v)
@@ -130,14 +128,14 @@ module _ (rows ends : List ℕ) where
         unfolding fields_walk_t
         fields_turn t m scopes' k = rw k (yes! _ (omega tests) (wrote₃_done (rw (q, same) at w) _ _ m refl) ∙ (rw (down turns h) at inv))
 
-        pub fields_fail : (x : Refusal) (y : Told) → a ≡ Err (record { refusal = x; told = y }) → a & e & n & o ≡ T
+        pub fields_fail : (why : Refused) → a ≡ Err why → Err why & e & n & o ≡ T
         unfolding fields_walk_t
-        fields_fail x y m = ap (λ b. b & e & n & o) m ∙ yes! _ (omega tests) (wrote₃_stop (rw (q, same) at w) _ _ m refl) ∙ (rw (down turns h) at inv)
+        fields_fail why m = yes! _ (omega tests) (wrote₃_stop (rw (q, same) at w) _ _ m refl) ∙ (rw (down turns h) at inv)
 
   module _ (most : ℕ) (entered names : List Slot) (scopes : List (List ℕ)) (out : List ℕ) (s : WriteState) (field : List ℕ) (p : field ≡ field_rows rows ends s.at) (a : Result WriteState Refused) (e : List Slot) (o : List ℕ) (w : a & e & o ≡ write_head_t field entered names scopes out s) where
-    pub field_stop : (x : Refusal) (y : Told) → a ≡ Err (record { refusal = x; told = y }) → a & e & names & o ≡ field_walk_t rows ends (scope_walk_t rows ends (most - s.depth)) entered names scopes out s
+    pub field_stop : (why : Refused) → a ≡ Err why → Err why & e & names & o ≡ field_walk_t rows ends (scope_walk_t rows ends (most - s.depth)) entered names scopes out s
     unfolding field_walk_t
-    field_stop x y m = ap (λ b. b & e & names & o) m ∙ wrote₂_stop (rw p at w) _ _ m refl
+    field_stop why m = wrote₂_stop (rw p at w) _ _ m refl
 
     module _ (t : WriteState) (m : a ≡ Ok t) (c : ℕ) (g : c ≡ code_at rows t.at) where
       pub field_flat : (c ≡ 7 → ⊥) → Ok t & e & names & o ≡ field_walk_t rows ends (scope_walk_t rows ends (most - s.depth)) entered names scopes out s
@@ -145,9 +143,9 @@ module _ (rows ends : List ℕ) where
       field_flat f = wrote₂_done (rw p at w) _ _ m (no! _ (omega tests) refl)
 
       module _ (f : c ≡ 7) (u : WriteState) (q : u ≡ at_depth_t t s.depth) (b : Result WriteState Refused) (e' n : List Slot) (o' : List ℕ) (v : b & e' & n & o' ≡ scope_walk_t rows ends (most - u.depth) e names scopes o u) where
-        pub field_fail : (x : Refusal) (y : Told) → b ≡ Err (record { refusal = x; told = y }) → b & e' & n & o' ≡ field_walk_t rows ends (scope_walk_t rows ends (most - s.depth)) entered names scopes out s
+        pub field_fail : (why : Refused) → b ≡ Err why → Err why & e' & n & o' ≡ field_walk_t rows ends (scope_walk_t rows ends (most - s.depth)) entered names scopes out s
         unfolding field_walk_t
-        field_fail x y l = ap (λ z. z & e' & n & o') l ∙ wrote₂_done (rw p at w) _ _ m (yes! _ (omega tests) (wrote₃_stop (rw q at v) _ _ l refl))
+        field_fail why l = wrote₂_done (rw p at w) _ _ m (yes! _ (omega tests) (wrote₃_stop (rw q at v) _ _ l refl))
 
         pub field_deep : (x : WriteState) → b ≡ Ok x → (z : WriteState) → z ≡ after_scope_t t x → Ok z & e' & n & o' ≡ field_walk_t rows ends (scope_walk_t rows ends (most - s.depth)) entered names scopes out s
         unfolding field_walk_t
@@ -169,9 +167,9 @@ module _ (rows ends : List ℕ) where
       step : scoped_t rows ends (scope_walk_t rows ends (most - (s.depth + 1))) (p & e & n) scopes out s ≡ scope_walk_t rows ends (most - s.depth) entered names scopes out s
       step = rw w (scope_suc (most - s.depth) (most - (s.depth + 1)) (omega arith))
 
-      pub scope_refused : (x : Refusal) (y : Told) → p ≡ Err (record { refusal = x; told = y }) → Err (record { refusal = x; told = y }) & e & n & out ≡ scope_walk_t rows ends (most - s.depth) entered names scopes out s
+      pub scope_refused : (why : Refused) → p ≡ Err why → Err why & e & n & out ≡ scope_walk_t rows ends (most - s.depth) entered names scopes out s
       unfolding scoped_t
-      scope_refused x y m = rw m at step
+      scope_refused why m = rw m at step
 
       pub scope_on : (d : PlanState) → p ≡ Ok d → (name : ℕ) → name ≡ open_name (row_at rows s.at) → (x : List ℕ) → x ≡ scope_of name s.used d.used s.before → (to : ℕ) (o : List ℕ) → to & o ≡ copy_row rows s.at out s.to → (k : ℕ) → k ≡ row_number s.at 1 → (most' : ℕ) → most' ≡ most → (X : Wrote₃) → X ≡ fields_walk_t rows ends (scope_walk_t rows ends (most' - (s.depth + 1))) e n (set scopes s.depth x) o (record { at = k; to = to; used = d.used; fresh = d.fresh; depth = s.depth + 1; next = s.used; alias = s.used; seen = 0; before = s.used; early = s.early }) (s.depth + 1) (length rows / 16) → X ≡ scope_walk_t rows ends (most - s.depth) entered names scopes out s
       unfolding scoped_t

@@ -1,5 +1,5 @@
 -- A scope goes through its fields, and a field may open a scope: as the code walks.
-use Rattle.std.specs.Prelude.{Bool, List, ℕ, zero, suc, ◌+◌, ◌-◌, ◌/◌, eqb, ltb, length, set, Result, Ok, Err}
+use Rattle.std.specs.Prelude.{Bool, List, ℕ, zero, suc, ◌+◌, ◌/◌, eqb, ltb, length, set, Result, Ok, Err}
 use Rattle.kit.specs.Pick.{pick}
 use Rattle.kit.specs.Out.{Out, ◌&◌}
 use Rattle.rules.specs.Shapes.{here_only}
@@ -8,8 +8,6 @@ use Rattle.put.specs.Put.{copy_row}
 use Rattle.rows.specs.declared.row.Row.{Row}
 use Rattle.rows.specs.declared.row.Row.TheVariants.{Field, Decl, Ref, Path, Outer, Case, Open, Close, Export, Broken}
 use Rattle.form.specs.Part.{field_rows}
-use Rattle.refusal.specs.declared.Refusal.{Refusal}
-use Rattle.refusal.specs.declared.Told.{Told}
 use Rattle.names.specs.Table.{Slot, name_of, scope_of, innermost_t}
 use Rattle.plan.specs.Enter.{row_number, enter_fields_t}
 use Rattle.plan.specs.Insertions.{field_code_t, rows_after}
@@ -27,7 +25,7 @@ Wrote₃ = Out (Result WriteState Refused) (Out (List Slot) (Out (List Slot) (Li
 
 -- ---- a field up to the scope that it may open
 
--- what was inserted before a field: nothing where its operands are here_only_lem
+-- what was inserted before a field: nothing where its operands are here-only
 unfoldable pub write_inserted_t : (field : List ℕ) → List Slot → (here out : List ℕ) → WriteState → Wrote
 write_inserted_t field names here out s =
     pick (here_only (field_code_t field)) (Ok s & out) (write_aliases_t field names here out s s.at 1 (rows_after field))
@@ -42,7 +40,7 @@ unfoldable pub write_head_t : (field : List ℕ) (entered names : List Slot) (sc
 write_head_t field entered names scopes out s =
     wrote_then (write_fresh_t field names (innermost_t scopes s.depth) out s)
     (λ t out'. own_t field entered names scopes out' (unseen_t t) t.at 0 (length field / 16))
-    (λ why told out'. Err (record { refusal = why; told = told }) & entered & out')
+    (λ refused out'. Err refused & entered & out')
 
 -- ---- steps A and B
 
@@ -93,13 +91,13 @@ abbrev pub Inner : Type 0
 Inner = (entered names : List Slot) (scopes : List (List ℕ)) (out : List ℕ) → WriteState → Wrote₃
 
 -- goes on after a part of the walk, by `f` if it is done and by `g` if it refused
-unfoldable pub wrote_then₃ : {A : Type 0} → Wrote₃ → (WriteState → List Slot → List Slot → List ℕ → A) → (Refusal → Told → List Slot → List Slot → List ℕ → A) → A
+unfoldable pub wrote_then₃ : {A : Type 0} → Wrote₃ → (WriteState → List Slot → List Slot → List ℕ → A) → (Refused → List Slot → List Slot → List ℕ → A) → A
 wrote_then₃ (Ok s & entered & names & out) f g = f s entered names out
-wrote_then₃ (Err refused & entered & names & out) f g = g refused.refusal refused.told entered names out
+wrote_then₃ (Err refused & entered & names & out) f g = g refused entered names out
 
 -- a refusal ends the walk
-abbrev pub stops₃ : Refusal → Told → List Slot → List Slot → List ℕ → Wrote₃
-stops₃ why told entered names out = Err (record { refusal = why; told = told }) & entered & names & out
+abbrev pub stops₃ : Refused → List Slot → List Slot → List ℕ → Wrote₃
+stops₃ refused entered names out = Err refused & entered & names & out
 
 -- the CLOSE of a scope, by the rows alone
 abbrev pub close_scope_t : (rows out : List ℕ) → WriteState → Out WriteState (List ℕ)
@@ -116,7 +114,7 @@ module _ (rows ends : List ℕ) where
       (wrote_then₃ (inner entered' names scopes out' (at_depth_t t s.depth))
       (λ u e n o. Ok (after_scope_t t u) & e & n & o) stops₃)
       (Ok t & entered' & names & out'))
-      (λ why told entered' out'. Err (record { refusal = why; told = told }) & entered' & names & out')
+      (λ refused entered' out'. Err refused & entered' & names & out')
 
   -- the CLOSE of a scope
   unfoldable pub closed_t : (out : List ℕ) → WriteState → Out WriteState (List ℕ)

@@ -23,12 +23,12 @@ use names::{NAME, Scope, Slot, innermost, scope_of, slot_at};
 use plan::enter::{enter_fields, row_number};
 use plan::insertions::{PlanState, field_code, plan_scope};
 use put::copy_row;
-use refusal::{Refusal, Refused, Told};
+use refusal::Refused;
 use rows::row::{FIELD, OPEN, Row, code_at, ref_or_open_at};
 use write::alias::{WriteState, write_aliases};
 use write::own::write_own;
 
-// A field's aliases, unless its operands are here_only_lem, and then its own rows.
+// A field's aliases, unless its operands are here-only, and then its own rows.
 fn write_head(
     field: &[u8],
     entered: &mut [Slot],
@@ -42,10 +42,8 @@ fn write_head(
     requires { Within names.now chains.now scopes.now × Holds entered.old known.old 0 }
     ensures { ((result & entered.new & out.new) ≡ write_head_t field.now entered.old names.now scopes.now out.old s) × FreeBy result entered.new known.new }
 {
-    match write_fresh(field, names, chains, innermost(scopes, s.depth), out, s) {
-        Err(Refused { refusal, told }) => Err(Refused { refusal, told }),
-        Ok(t) => write_own(field, entered, known, names, chains, scopes, out, t),
-    }
+    let t = write_fresh(field, names, chains, innermost(scopes, s.depth), out, s)?;
+    write_own(field, entered, known, names, chains, scopes, out, t)
 }
 
 // What step B inserted before a field: nothing, unless the scope's next slot has a fresh name. The field's references are
@@ -67,7 +65,7 @@ fn write_fresh(
     write_inserted(field, names, chains, here, out, s)
 }
 
-// What step B inserted before a field whose operands are not here_only_lem.
+// What step B inserted before a field whose operands are not here-only.
 fn write_inserted(
     field: &[u8],
     names: &[Slot],
@@ -85,8 +83,7 @@ fn write_inserted(
     write_aliases(field, names, chains, here, out, s)
 }
 
-// Steps A and B of the scope whose OPEN is the state's row. Where one answer becomes another, the refusal goes over number by
-// number: moved as two structs it lies across the words of the other case, and keeps both answers in memory.
+// Steps A and B of the scope whose OPEN is the state's row.
 fn begin(
     rows: &[u8],
     ends: &[u32],
@@ -101,37 +98,20 @@ fn begin(
     ensures { ((result & entered.new & names.new) ≡ begin_scope_t rows.now ends.now entered.old names.old scopes.now s) × BegunBy result s entered.new known.new names.new chains.new }
 {
     let first = row_number(s.at, 1) as usize;
-    match enter_fields(rows, ends, entered, known, first) {
-        Err(Refused { refusal, told }) => Err(Refused {
-            refusal: Refusal {
-                number: refusal.number,
-                place: refusal.place,
-            },
-            told: Told {
-                space: told.space,
-                first: told.first,
-            },
-        }),
-        Ok(count) => {
-            let plan = PlanState {
-                at: first,
-                entered: count,
-                depth: s.depth,
-                used: s.used,
-                fresh: s.fresh,
-                first: s.used,
-                before: s.before,
-                early: s.early,
-            };
-            match plan_scope(rows, ends, entered, known, names, chains, scopes, plan) {
-                Err(Refused { refusal, told }) => Err(Refused { refusal, told }),
-                Ok(p) => {
-                    leave(entered, known, 0, count);
-                    Ok(p)
-                }
-            }
-        }
-    }
+    let count = enter_fields(rows, ends, entered, known, first)?;
+    let plan = PlanState {
+        at: first,
+        entered: count,
+        depth: s.depth,
+        used: s.used,
+        fresh: s.fresh,
+        first: s.used,
+        before: s.before,
+        early: s.early,
+    };
+    let p = plan_scope(rows, ends, entered, known, names, chains, scopes, plan)?;
+    leave(entered, known, 0, count);
+    Ok(p)
 }
 
 // The name of the scope whose OPEN is row i; 0, which is no name, for a row of another kind, which is never asked about on a form.
@@ -185,45 +165,28 @@ pub fn scope_walk(
     if scopes.len() <= depth {
         return Ok(s);
     }
-    match begin(rows, ends, entered, known, names, chains, scopes, s) {
-        Err(Refused { refusal, told }) => Err(Refused {
-            refusal: Refusal {
-                number: refusal.number,
-                place: refusal.place,
-            },
-            told: Told {
-                space: told.space,
-                first: told.first,
-            },
-        }),
-        Ok(p) => {
-            let kept = scopes[depth];
-            scopes[depth] = scope_of(scope_name(rows, s.at), s.used, p.used, s.before);
-            let to = copy_row(rows, s.at, out, s.to);
-            let inside = WriteState {
-                at: row_number(s.at, 1) as usize,
-                to,
-                used: p.used,
-                fresh: p.fresh,
-                depth: depth + 1,
-                next: s.used,
-                alias: s.used,
-                seen: 0,
-                before: s.used,
-                early: s.early,
-            };
-            match fields_walk(
-                rows, ends, entered, known, names, chains, scopes, out, inside,
-            ) {
-                Err(Refused { refusal, told }) => Err(Refused { refusal, told }),
-                Ok(t) => {
-                    scopes[depth] = kept;
-                    leave(names, chains, s.used, p.used);
-                    Ok(t)
-                }
-            }
-        }
-    }
+    let p = begin(rows, ends, entered, known, names, chains, scopes, s)?;
+    let kept = scopes[depth];
+    scopes[depth] = scope_of(scope_name(rows, s.at), s.used, p.used, s.before);
+    let to = copy_row(rows, s.at, out, s.to);
+    let inside = WriteState {
+        at: row_number(s.at, 1) as usize,
+        to,
+        used: p.used,
+        fresh: p.fresh,
+        depth: depth + 1,
+        next: s.used,
+        alias: s.used,
+        seen: 0,
+        before: s.used,
+        early: s.early,
+    };
+    let t = fields_walk(
+        rows, ends, entered, known, names, chains, scopes, out, inside,
+    )?;
+    scopes[depth] = kept;
+    leave(names, chains, s.used, p.used);
+    Ok(t)
 }
 
 // Step C of a scope, from its first field to its CLOSE. A scope has no more fields than the form has rows.
@@ -250,7 +213,7 @@ fn fields_walk(
         if code_at(rows, cur.at) != FIELD {
             return Ok(closed(rows, out, cur));
         }
-        let walked = field_walk(
+        cur = field_walk(
             rows,
             ends,
             entered,
@@ -260,13 +223,7 @@ fn fields_walk(
             scopes,
             out,
             begun(cur, depth),
-        );
-        match walked {
-            Ok(t) => {
-                cur = t;
-            }
-            Err(_) => return walked,
-        }
+        )?;
     }
     // Never reached on a form: the CLOSE of the scope ends the loop.
     Ok(cur)
@@ -288,7 +245,7 @@ fn field_walk(
     requires { Served entered.old known.old names.old chains.old s.used × Stacked scopes.old s }
     ensures { ((result & entered.new & names.new & out.new) ≡ field_walk_t rows.now ends.now (scope_walk_t rows.now ends.now (length scopes.old - s.depth)) entered.old names.old scopes.old out.old s) × FieldBy result s entered.new known.new names.new chains.new scopes.old scopes.new }
 {
-    let walked = write_head(
+    let t = write_head(
         field_rows(rows, ends, s.at),
         entered,
         known,
@@ -297,30 +254,22 @@ fn field_walk(
         scopes,
         out,
         s,
-    );
-    match walked {
-        Err(_) => walked,
-        Ok(t) => {
-            if code_at(rows, t.at) != OPEN {
-                return Ok(t);
-            }
-            let inside = scope_walk(
-                rows,
-                ends,
-                entered,
-                known,
-                names,
-                chains,
-                scopes,
-                out,
-                at_depth(t, s.depth),
-            );
-            match inside {
-                Err(_) => inside,
-                Ok(u) => Ok(after_scope(t, u)),
-            }
-        }
+    )?;
+    if code_at(rows, t.at) != OPEN {
+        return Ok(t);
     }
+    let u = scope_walk(
+        rows,
+        ends,
+        entered,
+        known,
+        names,
+        chains,
+        scopes,
+        out,
+        at_depth(t, s.depth),
+    )?;
+    Ok(after_scope(t, u))
 }
 
 // A field begins where `depth` scopes are open: its inserted slots are the scope's next, and none of its cases was seen. The

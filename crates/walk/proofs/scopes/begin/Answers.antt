@@ -15,11 +15,11 @@ plan_scope-requires c = search opens
 pub leave-requires : goal.leave-requires
 leave-requires c = search opens
 
-pub returns-in-Err : goal.returns-in-Err
-returns-in-Err c = (search begins, search opens)
+pub returns-in_err-count : goal.returns-in_err-count
+returns-in_err-count c = (search begins, search opens)
 
-pub returns-in-Err : goal.returns-in-Err
-returns-in-Err c = (search begins, search opens)
+pub returns-in_err-p : goal.returns-in_err-p
+returns-in_err-p c = (search begins, search opens)
 
-pub returns-in-Ok : goal.returns-in-Ok
-returns-in-Ok c = (begin_done _ _ _ _ _ _ _ c.row_number-first.ensures _ _ c.enter_fields.ensures.0 _ c.in-Ok.is _ _ c.plan_scope.ensures.0 _ c.in-Ok.is, begun_by _ _ _ _ _ _ c.args.s _ _ c.in-Ok.is c.plan_scope.ensures.1 c.leave.ensures)
+pub returns : goal.returns
+returns c = (begin_done _ _ _ _ _ _ _ c.row_number-first.ensures _ _ c.enter_fields.ensures.0 _ c.in_ok-count.was _ _ c.plan_scope.ensures.0 _ c.in_ok-p.was, begun_by _ _ _ _ _ _ c.args.s _ _ c.in_ok-p.was c.plan_scope.ensures.1 c.leave.ensures)

@@ -9,8 +9,8 @@ write_fresh-requires c = search opens
 pub write_own-requires : goal.write_own-requires
 write_own-requires c = search opens
 
-pub returns-in-Err : goal.returns-in-Err
-returns-in-Err c = search ways
+pub returns-in_err-t : goal.returns-in_err-t
+returns-in_err-t c = search ways
 
-pub returns-in-Ok : goal.returns-in-Ok
-returns-in-Ok c = search ways
+pub returns : goal.returns
+returns c = search ways
