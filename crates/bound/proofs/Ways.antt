@@ -71,12 +71,12 @@ pub ruleset place_ways = (at_none, at_one, at_several, rules)
 -- ---- what it is bound to
 
 module _ (form : List ℕ) (row name : ℕ) (m : Option Meaning) (got : m ≡ final_meaning form row) where
-  module _ (decl number out reached : ℕ) (at : m ≡ Some (record { row = decl; number = number; out = out; name = reached })) where
-    pub bound_written : reached ≡ name → AsWritten ≡ bound_at form row name
+  module _ (meaning : Meaning) (at : m ≡ Some meaning) where
+    pub bound_written : meaning.name ≡ name → AsWritten ≡ bound_at form row name
     unfolding bound_at bound_to
     bound_written h = rw (← got, at) (yes! _ (omega tests) refl)
 
-    pub bound_elsewhere : (reached ≡ name → ⊥) → Elsewhere decl ≡ bound_at form row name
+    pub bound_elsewhere : (meaning.name ≡ name → ⊥) → Elsewhere meaning.row ≡ bound_at form row name
     unfolding bound_at bound_to
     bound_elsewhere h = rw (← got, at) (no! _ (omega tests) refl)
 

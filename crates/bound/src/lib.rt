@@ -8,7 +8,7 @@
 ghost use Rattle.std.specs.Prelude.{◌≡◌, ◌-◌};
 ghost use Rattle.bound.specs.Bound.{is_reference, next_reference, reference_at, bound_at, binding_of};
 
-use readings::{Meaning, final_meaning};
+use readings::final_meaning;
 use row_parts::{code_at, is_inserted, rows_in, z_at};
 use rows::row::REF;
 
@@ -86,17 +86,11 @@ fn bound_at(form: &[u8], row: u16, name: u32) -> Binding
     ensures { result ≡ bound_at form.now row name }
 {
     match final_meaning(form, row) {
-        Some(
-            Meaning {
-                row: declaration,
-                name: reached,
-                ..
-            },
-        ) => {
-            if reached == name {
+        Some(reached) => {
+            if reached.name == name {
                 Binding::AsWritten
             } else {
-                Binding::Elsewhere(declaration)
+                Binding::Elsewhere(reached.row)
             }
         }
         None => Binding::Elsewhere(0),

@@ -1,5 +1,5 @@
 -- A named index of OUTER: the scope that is asked for, by a count or by its name, is the same on rows as in the trees, the prelude's root included.
-use Rattle.std.specs.Prelude.{◌≡◌, Bool, true, false, List, [], ◌∷◌, ◌++◌, eqb, length, Option as CodeOption, Some, None}
+use Rattle.std.specs.Prelude.{◌≡◌, Bool, true, false, List, [], ◌∷◌, ◌++◌, eqb, length, Option as CodeOption, Some, None, is_some}
 use Rattle.std.proofs.Math.Path.{refl, ap, subst}
 use Rattle.std.proofs.Common.{sym, ◌∙◌}
 use Rattle.std.proofs.Math.Option.{Option, none, some, map}
@@ -35,7 +35,7 @@ use Rattle.reading_laws.specs.Number.{stands_at}
 use Rattle.reading_laws.specs.Outward.{NoneInserted, first_wanted, scope_outward_lem, count_out, count_past}
 use Rattle.reading_laws.specs.Meant.{Rows}
 use Rattle.moved_laws.specs.Named.{NamesAre, named_found, named_nowhere}
-use Rattle.meant.specs.Names.{in_root, scope_meant, outer_wanted_t, is_there, has_scope, is_root_t, meant_behind_t, in_outer_t, index_meant_t}
+use Rattle.meant.specs.Names.{in_root, scope_meant, outer_wanted_t, has_scope, is_root_t, meant_behind_t, in_outer_t, index_meant_t}
 use Rattle.meant_laws.specs.Told.{Told, nothing, found_in_member}
 use Rattle.meant_laws.specs.Declares.{declares, root_declares}
 use Rattle.meant.specs.declared.Declared.{Declared}
@@ -156,17 +156,17 @@ module _ (P M : List ℕ) (s m : Scope) (RP : Rows P s) (low : LowScope s)
       not_first : eqb (suc k) 0 ≡ false
       not_first = omega tests
 
-      asked : (b : Bool) → is_there (scope_outward M (scope_of M r) (Out k)) ≡ b → is_root_t P M r (Out (suc k)) ≡ b
-      asked b q = sym (no! false not_first (sym (ap (λ (j : ℕ). is_there (scope_outward M (scope_of M r) (Out j))) there ∙ q)))
+      asked : (b : Bool) → is_some (scope_outward M (scope_of M r) (Out k)) ≡ b → is_root_t P M r (Out (suc k)) ≡ b
+      asked b q = sym (no! false not_first (sym (ap (λ (j : ℕ). is_some (scope_outward M (scope_of M r) (Out j))) there ∙ q)))
 
       go : (o : Option Floor) → get_elem? fs k ≡ o → Told s m (out (suc k)) (pick (is_root_t P M r (Out (suc k))) (in_root P space name) None)
       go none q =
           let few = past_all fs k q in
-          subst (Told s m (out (suc k))) (no! _ (asked false (ap is_there (past_count k q))) refl) (past_both (suc k) (omega (arith, few)))
+          subst (Told s m (out (suc k))) (no! _ (asked false (ap is_some (past_count k q))) refl) (past_both (suc k) (omega (arith, few)))
       go (some g) q =
           let low = within fs k g q in
           let few = past_all fs (suc k) e in
-          subst (Told s m (out (suc k))) (yes! _ (asked true (ap is_there (counted k g q))) refl) (in_prelude_lem (suc k) (omega (arith, low, few)))
+          subst (Told s m (out (suc k))) (yes! _ (asked true (ap is_some (counted k g q))) refl) (in_prelude_lem (suc k) (omega (arith, low, few)))
 
   -- what the rows give for a scope that is asked for
   abbrev asked_for : Wanted → CodeOption Declared

@@ -19,7 +19,7 @@ pub data Told (s m : Scope) : Option Meant → CodeOption Declared → Type 0 wh
 -- the same of a search in one scope of the form of `t`
 pub data Finds (t : Scope) : Option Place → CodeOption Found → Type 0 where
   no_row : Finds t none None
-  at_row : {d : Place} {row number : ℕ} → row_of_decl t d ≡ some row → Finds t (some d) (Some (record { row = row; number = number }))
+  at_row : {d : Place} {found : Found} → row_of_decl t d ≡ some found.row → Finds t (some d) (Some found)
 
 pub found_in_member : (s m : Scope) (o : Option Place) (f : CodeOption Found) → Finds m o f → Told s m (map in_member o) (member_found f)
 unfolding member_found

@@ -1,5 +1,4 @@
 -- `bound::next_reference` meets its contract. The invariant: from here it answers what it does from the start.
-use Prim.Native.Nat.{◌-◌}
 use Rattle.bound.proofs.Ways.{row_ways}
 use Rattle.bound.proofs.next_reference.Goals as goal
 
