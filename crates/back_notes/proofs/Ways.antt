@@ -1,5 +1,5 @@
 -- Each way through the code finds what its twin finds.
-use Rattle.std.specs.Prelude.{Option, Some, None, ℕ}
+use Rattle.std.specs.Prelude.{Option, ℕ, unwrap_or}
 use mathlib.Core.Path.{◌≡◌, refl, sym, ap, ◌∙◌}
 use mathlib.Core.Bool.{Bool, true, false}
 use mathlib.Core.List.{List, [], ◌∷◌, ◌++◌}
@@ -28,7 +28,7 @@ use Rattle.claim_numbers.specs.Enter.{laid_by}
 use Rattle.claim_numbers.proofs.Ways.{counted_behind}
 use Rattle.back_notes.specs.Note.{Note, note, no_note, Noted, row_at, noted_from, noted_at}
 use Rattle.back_notes.specs.Number.{out_t, note_t, Went, went_t, on_t, number_row_t, notes_t}
-use Rattle.back_notes.specs.Names.{slot_of, entered_t, note_entry_t, slots_t, key_t, value_t, name_of_t, named_t, name_row_t, naming_t, named_from, names_t}
+use Rattle.back_notes.specs.Names.{slot_of, entered_t, note_entry_t, slots_t, key_t, name_of_t, named_t, name_row_t, naming_t, named_from, names_t}
 
 -- ---- notes
 
@@ -221,15 +221,11 @@ unfolding key_t pick
 key_none number h = rw (le-ltb _ _ h)
 
 module _ (ss : List Slot) (p : Parts) (n : Note) (scope key : ℕ) (s : scope ≡ get_or n 1 0) (k : key ≡ key_t p.y) (e : Option ℕ) (l : e ≡ look_t ss scope p.b key) where
-  pub name_value : (v : ℕ) → e ≡ Some v → v ≡ name_of_t ss p n
-  unfolding name_of_t value_t
-  name_value v h = rw (← s, ← k, ← l, h)
+  pub name_is : unwrap_or e 0 ≡ name_of_t ss p n
+  unfolding name_of_t
+  name_is = rw (← s, ← k, ← l)
 
-  pub name_nothing : e ≡ None → 0 ≡ name_of_t ss p n
-  unfolding name_of_t value_t
-  name_nothing h = rw (← s, ← k, ← l, h)
-
-pub ruleset naming = (key_some, key_none, name_value, name_nothing, rules)
+pub ruleset naming = (key_some, key_none, name_is, rules)
 
 module _ (ss : List Slot) (p : Parts) (i : ℕ) (noted : List Note) where
   pub row_none : (p.code ≡ 5 → ⊥) → noted ≡ name_row_t ss p i noted

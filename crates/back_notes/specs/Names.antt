@@ -1,5 +1,5 @@
 -- The other two passes: declarations under their numbers, and the names that OUTERs count to.
-use Rattle.std.specs.Prelude.{List, [], ◌∷◌, map, ℕ, zero, suc, ◌+◌, ◌%◌, ◌/◌, eqb, ltb, length, get_or, set, Option, Some, None}
+use Rattle.std.specs.Prelude.{List, [], ◌∷◌, map, ℕ, zero, suc, ◌+◌, ◌%◌, ◌/◌, eqb, ltb, length, get_or, set, unwrap_or}
 use Rattle.kit.specs.Pick.{pick}
 use Rattle.kit.specs.Out.{Out, ◌&◌}
 use Rattle.parts.specs.declared.Parts.{Parts}
@@ -33,14 +33,9 @@ slots_t room ss (r ∷ rs) = slots_t room (note_entry_t room ss r.parts r.note) 
 unfoldable pub key_t : ℕ → ℕ
 key_t number = pick (ltb number 65535) (number + 1) 0
 
--- the name that was entered, 0 where there is none
-unfoldable pub value_t : Option ℕ → ℕ
-value_t (Some name) = name
-value_t None = 0
-
 -- the name of what an OUTER with this note counts to, 0 where there is nothing
 unfoldable pub name_of_t : List Slot → Parts → Note → ℕ
-name_of_t ss p n = value_t (look_t ss (get_or n 1 0) p.b (key_t p.y))
+name_of_t ss p n = unwrap_or (look_t ss (get_or n 1 0) p.b (key_t p.y)) 0
 
 -- the note of a row with its name
 unfoldable pub named_t : List Slot → Parts → Note → Note

@@ -4,10 +4,9 @@ ghost use Rattle.std.specs.Prelude.{◌≡◌, [], ◌≤◌, length, take};
 ghost use Rattle.std.proofs.lemmas.List.Edits.{sets};
 ghost use Rattle.kit.specs.Out.{◌&◌};
 ghost use Rattle.index.specs.Indexed.{Holds};
-ghost use Rattle.claim_scopes.specs.Entries.{entry_of};
 ghost use Rattle.claim_numbers.specs.Enter.{laid_by};
 ghost use Rattle.back_notes.specs.Note.{noted_at};
-ghost use Rattle.back_notes.specs.Names.{key_t, entered_t, slots_t, value_t, name_of_t, named_t, name_row_t, named_from, names_t};
+ghost use Rattle.back_notes.specs.Names.{key_t, entered_t, slots_t, name_of_t, named_t, name_row_t, named_from, names_t};
 
 use crate::note::{Note, note_at, put_note};
 use claim_scopes::entries::{enter, look_up};
@@ -60,10 +59,7 @@ fn name_of(p: Parts, n: Note, table: &[Slot], index: &[u16], used: usize) -> u32
     ensures { result ≡ name_of_t (take used table.now) p n }
 {
     let scope = n[1] as usize;
-    match look_up(table, index, used, scope, p.b, key(p.y)) {
-        Some(name) => name,
-        None => 0,
-    }
+    look_up(table, index, used, scope, p.b, key(p.y)).unwrap_or(0)
 }
 
 // Notes the name of row i, if it is an OUTER.

@@ -1,5 +1,5 @@
 -- Each way through the code finds what its twin finds.
-use Rattle.std.specs.Prelude.{Option, Some, None, Result, Ok, Err, ⊤, ℕ}
+use Rattle.std.specs.Prelude.{Option, Some, None, Result, Ok, Err, ⊤, ℕ, is_some}
 use mathlib.Core.Path.{◌≡◌, refl, sym, ap, ◌∙◌}
 use mathlib.Core.Bool.{Bool, true, false, ◌&&◌, ◌||◌, not}
 use mathlib.Core.List.{List, [], ◌∷◌}
@@ -21,25 +21,17 @@ use Rattle.claim_scopes.specs.Open.{open_behind_t, open_in, here_t, open_one_t}
 use Rattle.claim_scopes.specs.Entries.{slot_t, look_t, enter_t, laid_t}
 use Rattle.claim_scopes.proofs.Held.{Behind, open_behind, Laid, laid_none, Entered, slot_enters, laid_is}
 use Rattle.index.specs.Indexed.{Holds}
-use Rattle.claim_aliases.specs.Aliases.{is_alias, alias_new_t, is_value, is_known, alias_breaks_t, name_slot, alias_entered_t, alias_at_t, alias_went_t, alias_on_t, Turned, turned_t, over_t, alias_turn_t, HeldBy, alias_names_t, Names, try_aliases_t, laid_by}
+use Rattle.claim_aliases.specs.Aliases.{is_alias, alias_new_t, is_known, alias_breaks_t, name_slot, alias_entered_t, alias_at_t, alias_went_t, alias_on_t, Turned, turned_t, over_t, alias_turn_t, HeldBy, alias_names_t, Names, try_aliases_t, laid_by}
 use Rattle.claim_aliases.specs.declared.Cursor.{Cursor}
 
 -- ---- is_known
 
 module _ (ss : List Slot) (scope : ℕ) (p : Parts) (n : ℕ) (k : n ≡ alias_new_t p.x) (f : Option ℕ) (e : f ≡ look_t ss scope p.b n) where
-  known_is : is_value f ≡ is_known ss scope p
+  pub known_is : is_some f ≡ is_known ss scope p
   unfolding is_known
   known_is = rw (e, k)
 
-  pub known_value : (v : ℕ) → f ≡ Some v → true ≡ is_known ss scope p
-  unfolding is_value
-  known_value v h = rw h at known_is
-
-  pub known_nothing : f ≡ None → false ≡ is_known ss scope p
-  unfolding is_value
-  known_nothing h = rw h at known_is
-
-pub ruleset knowing = (known_value, known_nothing, rules)
+pub ruleset knowing = (known_is, rules)
 
 -- ---- breaks
 

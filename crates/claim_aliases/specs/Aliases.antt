@@ -1,5 +1,5 @@
 -- Condition 3 as the code tries it: the claim's rows one after another.
-use Rattle.std.specs.Prelude.{Bool, true, false, ◌&&◌, ◌||◌, not, List, [], ◌∷◌, ℕ, ◌+◌, ◌-◌, eqb, ltb, take, Option, Some, None, Result, Ok, Err, ⊤}
+use Rattle.std.specs.Prelude.{Bool, true, false, ◌&&◌, ◌||◌, not, List, [], ◌∷◌, ℕ, ◌+◌, ◌-◌, eqb, ltb, take, Option, Some, None, Result, Ok, Err, ⊤, is_some}
 use Rattle.kit.specs.Pick.{pick}
 use Rattle.kit.specs.Out.{Out, ◌&◌}
 use Rattle.parts.specs.declared.Parts.{Parts}
@@ -20,13 +20,9 @@ is_alias code = eqb code 9 || (eqb code 10 || eqb code 11)
 abbrev pub alias_new_t : ℕ → ℕ
 alias_new_t name = name - 2147483647
 
-unfoldable pub is_value : Option ℕ → Bool
-is_value (Some v) = true
-is_value None = false
-
 -- was the name of a DECL entered for its scope and space?
 unfoldable pub is_known : List Slot → (scope : ℕ) → Parts → Bool
-is_known ss scope p = is_value (look_t ss scope p.b (alias_new_t p.x))
+is_known ss scope p = is_some (look_t ss scope p.b (alias_new_t p.x))
 
 -- does the row break the condition?
 unfoldable pub alias_breaks_t : (added : Bool) → List Slot → (scope : ℕ) → Parts → Bool

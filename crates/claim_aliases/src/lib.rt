@@ -51,10 +51,7 @@ fn is_known(table: &[Slot], index: &[u16], used: usize, scope: usize, p: Parts) 
     requires { Holds table.now index.now used }
     ensures { result ≡ is_known (take used table.now) scope p }
 {
-    match look_up(table, index, used, scope, p.b, counted(p.x)) {
-        Some(_) => true,
-        None => false,
-    }
+    look_up(table, index, used, scope, p.b, counted(p.x)).is_some()
 }
 
 // Whether a row breaks the condition: only one of an added field does.
@@ -176,13 +173,11 @@ pub fn try_aliases(claim: &[u8], table: &mut [Slot], index: &mut [u16]) -> Resul
     };
     let mut i = 0;
     while i < n {
-        match go_over(claim, i, table, index, &mut scopes, c) {
-            None => return Err(i),
-            Some(next) => {
-                c = next;
-                i += 1;
-            }
-        }
+        let Some(next) = go_over(claim, i, table, index, &mut scopes, c) else {
+            return Err(i);
+        };
+        c = next;
+        i += 1;
     }
     Ok(())
 }

@@ -67,9 +67,9 @@ module _ (table : List Slot) (index claim input : List ℕ) (first used left : �
         let k : e ≡ through_export_t (take used table) claim s q.x = f ∙ ap (λ (n : ℕ). through_export_t (take n table) claim s q.x) g.is_used in
         rw (k, r, row_behind input first (left - 1)) (rw (down left h) at g.goes)
 
-    pub follows_stop : e ≡ None → None ≡ T
+    pub follows_stop : e ≡ None → (X : Option ℕ) → X ≡ None → X ≡ T
     unfolding or_stop
-    follows_stop z = rw z at followed
+    follows_stop z X x = x ∙ (rw z at followed)
 
     pub follows_on : (n : ℕ) (m : Sought) → e ≡ Some n → m ≡ onward s n → Follows table index claim input first used (left - 1) m T
     unfolding or_stop
@@ -107,13 +107,13 @@ pub met_none : (a b : Option Met) → a ≡ None → false ≡ is_met_t a b
 unfolding is_met_t
 met_none a b h = rw h
 
-pub met_first : (a b : Option Met) (out number : ℕ) → a ≡ Some (record { out = out; number = number }) → b ≡ None → false ≡ is_met_t a b
+pub met_first : (a b : Option Met) (m : Met) → a ≡ Some m → b ≡ None → false ≡ is_met_t a b
 unfolding is_met_t
-met_first a b out number h g = rw (h, g)
+met_first a b m h g = rw (h, g)
 
-pub met_both : (a b : Option Met) (out number o n : ℕ) → a ≡ Some (record { out = out; number = number }) → b ≡ Some (record { out = o; number = n }) → (eqb out o && eqb number n) ≡ is_met_t a b
+pub met_both : (a b : Option Met) (m n : Met) → a ≡ Some m → b ≡ Some n → (eqb m.out n.out && eqb m.number n.number) ≡ is_met_t a b
 unfolding is_met_t
-met_both a b out number o n h g = rw (h, g)
+met_both a b m n h g = rw (h, g)
 
 pub ruleset meeting = (met_none, met_first, met_both, rules)
 
@@ -199,17 +199,11 @@ module _ (scopes : List (List ℕ)) (depth : ℕ) (q : Parts) where
   up_written h = rw (eq-eqb _ _ h)
 
   module _ (h : q.e % 2 ≡ 0 → ⊥) (n : Option ℕ) (f : n ≡ named_from scopes depth depth q.x) where
-    up_is : n ≡ up_t (open_in scopes depth) q
+    pub up_is : n ≡ up_t (open_in scopes depth) q
     unfolding up_t pick
     up_is = rw (ne_eqb _ _ h) (f ∙ all_named_lem scopes depth q.x)
 
-    pub up_named : (up : ℕ) → n ≡ Some up → Some up ≡ up_t (open_in scopes depth) q
-    up_named up z = rw (← z) up_is
-
-    pub up_none : n ≡ None → None ≡ up_t (open_in scopes depth) q
-    up_none z = rw (← z) up_is
-
-pub ruleset upward = (up_written, up_named, up_none, rules)
+pub ruleset upward = (up_written, up_is, rules)
 
 -- the scope so far out
 scope_out : (scopes : List (List ℕ)) (d k : ℕ) → k < d → get_or (open_in scopes d) k no_scope ≡ scope_at scopes (d - 1 - k)

@@ -16,10 +16,7 @@ fn up_of(scopes: &[Scope], depth: usize, q: Parts) -> Option<usize>
     if q.e % 2 == 0 {
         return Some(q.x as usize);
     }
-    match scope_named(scopes, depth, q.x as usize) {
-        Some(up) => Some(up),
-        None => None,
-    }
+    scope_named(scopes, depth, q.x as usize)
 }
 
 // Whether a claimed OUTER leads this far out, and has the index that the input's OUTER has in that scope.

@@ -41,12 +41,7 @@ pub(crate) fn through_paths(
     while 0 < left {
         left -= 1;
         let path = parts_at(input, first + left);
-        match through_export(claim, table, index, s, path.x) {
-            None => return None,
-            Some(number) => {
-                s = instance_in(s, number);
-            }
-        }
+        s = instance_in(s, through_export(claim, table, index, s, path.x)?);
     }
     Some(s.number)
 }

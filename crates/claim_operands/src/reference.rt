@@ -19,12 +19,9 @@ use parts::{Parts, parts_at};
 fn is_met(a: Option<Met>, b: Option<Met>) -> bool
     ensures { result ≡ is_met_t a b }
 {
-    match a {
-        None => false,
-        Some(Met { out, number }) => match b {
-            None => false,
-            Some(Met { out: o, number: n }) => (out == o) & (number == n),
-        },
+    match (a, b) {
+        (Some(a), Some(b)) => (a.out == b.out) & (a.number == b.number),
+        _ => false,
     }
 }
 

@@ -79,17 +79,17 @@ pub ruleset rows_of_alias = (counted_low, counted_high, reached_is, code_none, c
 -- ---- through it
 
 module _ (ss : List Slot) (claim : List ℕ) (s : Sought) (e : Option ℕ) (q : e ≡ reached_t ss s) where
-  pub through_outer_none : e ≡ None → None ≡ through_outer_t ss claim s
+  pub through_outer_none : e ≡ None → (X : Option Met) → X ≡ None → X ≡ through_outer_t ss claim s
   unfolding through_outer_t outer_in
-  through_outer_none h = rw (← q, h)
+  through_outer_none h X x = x ∙ rw (← q, h)
 
   pub through_outer_there : (row : ℕ) (m : Option Met) → e ≡ Some row → m ≡ outer_at claim row → m ≡ through_outer_t ss claim s
   unfolding through_outer_t outer_in
   through_outer_there row m h r = rw (← q, h) r
 
-  pub through_export_none : (name : ℕ) → e ≡ None → None ≡ through_export_t ss claim s name
+  pub through_export_none : (name : ℕ) → e ≡ None → (X : Option ℕ) → X ≡ None → X ≡ through_export_t ss claim s name
   unfolding through_export_t export_in
-  through_export_none name h = rw (← q, h)
+  through_export_none name h X x = x ∙ rw (← q, h)
 
   pub through_export_there : (name row : ℕ) (m : Option ℕ) → e ≡ Some row → m ≡ export_at claim row s.space name → m ≡ through_export_t ss claim s name
   unfolding through_export_t export_in

@@ -104,10 +104,8 @@ pub fn through_outer(claim: &[u8], table: &[Slot], index: &[u16], s: Sought) -> 
     requires { Holds table.now index.now s.used }
     ensures { result ≡ through_outer_t (take s.used table.now) claim.now s }
 {
-    match reached(table, index, s) {
-        Some(row) => outer_at(claim, row),
-        None => None,
-    }
+    let row = reached(table, index, s)?;
+    outer_at(claim, row)
 }
 
 // What is reached through one added alias of this export: the number of its instance.
@@ -121,8 +119,6 @@ pub fn through_export(
     requires { Holds table.now index.now s.used }
     ensures { result ≡ through_export_t (take s.used table.now) claim.now s name }
 {
-    match reached(table, index, s) {
-        Some(row) => export_at(claim, row, s.space, name),
-        None => None,
-    }
+    let row = reached(table, index, s)?;
+    export_at(claim, row, s.space, name)
 }

@@ -24,14 +24,11 @@ pub fn outward(
     while 0 < left {
         left -= 1;
         let scope = scope_at(scopes, left);
-        match look_up(table, index, used, scope[1], space, name) {
-            Some(number) => {
-                return Some(Met {
-                    out: depth - left,
-                    number,
-                });
-            }
-            None => {}
+        if let Some(number) = look_up(table, index, used, scope[1], space, name) {
+            return Some(Met {
+                out: depth - left,
+                number,
+            });
         }
     }
     None

@@ -1,5 +1,5 @@
 -- Each way through the code finds what its twin finds.
-use Rattle.std.specs.Prelude.{Option, Some, None, ℕ}
+use Rattle.std.specs.Prelude.{Option}
 use mathlib.Core.Path.{◌≡◌, refl, sym, ap, ◌∙◌}
 use mathlib.Core.List.{List, [], ◌∷◌}
 use Prim.Native.Nat.{ℕ, zero, suc, ◌+◌, ◌-◌, ◌*◌, ◌%◌, ◌<◌, ◌≤◌}
@@ -15,7 +15,7 @@ use Rattle.names.specs.Table.{Slot, between, find_in, pushed, no_scope, scope_at
 use Rattle.index.specs.Indexed.{Holds, Covers}
 use Rattle.index.proofs.Storey.{covers_all}
 use Rattle.claim_scopes.specs.Open.{open_scope_t, open_behind_t, open_in, here_t}
-use Rattle.claim_scopes.specs.Entries.{entry_key_t, slot_t, entry_of, look_t}
+use Rattle.claim_scopes.specs.Entries.{entry_key_t, slot_t, look_t}
 
 -- ---- behind_row
 
@@ -55,20 +55,11 @@ between_all : (used : ℕ) (table : List Slot) → between 0 used table ≡ take
 unfolding between
 between_all used table = let e : used - 0 ≡ used = omega arith in rw e
 
-module _ (table : List Slot) (used scope space name key : ℕ) (k : key ≡ entry_key_t scope space) (f : Option ℕ) (e : f ≡ find_in (between 0 used table) key name) where
-  look_is : entry_of f ≡ look_t (take used table) scope space name
-  unfolding look_t
-  look_is = rw (e, k, between_all)
+pub look_is : (table : List Slot) (used scope space name key : ℕ) (f : Option ℕ) → key ≡ entry_key_t scope space → f ≡ find_in (between 0 used table) key name → f ≡ look_t (take used table) scope space name
+unfolding look_t
+look_is table used scope space name key f k e = rw (e, k, between_all)
 
-  pub look_value : (v : ℕ) → f ≡ Some v → Some v ≡ look_t (take used table) scope space name
-  unfolding entry_of
-  look_value v h = rw h at look_is
-
-  pub look_nothing : f ≡ None → None ≡ look_t (take used table) scope space name
-  unfolding entry_of
-  look_nothing h = rw h at look_is
-
-pub ruleset looks = (look_value, look_nothing, covers_all, rules)
+pub ruleset looks = (look_is, covers_all, rules)
 
 pub slot_entered : (table table' : List Slot) (used r scope space name value key : ℕ) → key ≡ entry_key_t scope space → (r & table') ≡ pushed table used (key ∷ name ∷ value ∷ 0 ∷ 0 ∷ 0 ∷ []) → (r & table') ≡ pushed table used (slot_t scope space name value)
 unfolding slot_t

@@ -1,5 +1,5 @@
 -- What was entered for the scopes of a claim: slots with a space of a scope, a name or number, and a value.
-use Rattle.std.specs.Prelude.{List, [], ◌∷◌, ◌++◌, ℕ, ◌+◌, ◌*◌, ◌%◌, ltb, length, drop, Option, Some, None}
+use Rattle.std.specs.Prelude.{List, [], ◌∷◌, ◌++◌, ℕ, ◌+◌, ◌*◌, ◌%◌, ltb, length, drop, Option}
 use Rattle.kit.specs.Pick.{pick}
 use Rattle.names.specs.Table.{Slot, find_in}
 
@@ -11,14 +11,9 @@ entry_key_t scope space = scope % 65536 * 257 + space
 unfoldable pub slot_t : (scope space name value : ℕ) → Slot
 slot_t scope space name value = entry_key_t scope space ∷ name ∷ value ∷ 0 ∷ 0 ∷ 0 ∷ []
 
--- what was found, as the value that was entered
-unfoldable pub entry_of : Option ℕ → Option ℕ
-entry_of (Some value) = Some value
-entry_of None = None
-
--- the first of the slots that were entered so
+-- the value of the first of the slots that were entered so
 unfoldable pub look_t : List Slot → (scope space name : ℕ) → Option ℕ
-look_t ss scope space name = entry_of (find_in ss (entry_key_t scope space) name)
+look_t ss scope space name = find_in ss (entry_key_t scope space) name
 
 -- one slot more, where there is room
 unfoldable pub enter_t : (room : ℕ) → List Slot → Slot → List Slot

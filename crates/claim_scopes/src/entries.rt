@@ -32,10 +32,7 @@ pub fn look_up(
     requires { Holds table.now index.now used }
     ensures { result ≡ look_t (take used table.now) scope space name }
 {
-    match find(table, index, 0, used, key(scope, space), name) {
-        Some(value) => Some(value),
-        None => None,
-    }
+    find(table, index, 0, used, key(scope, space), name)
 }
 
 // Enters a value behind the first `used` slots, and answers how many are used then; in a full table nothing is entered.

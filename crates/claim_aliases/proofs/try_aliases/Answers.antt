@@ -10,8 +10,8 @@ loop-i-init c = (search turns, search rules, search rules, search rules)
 pub go_over-requires : goal.go_over-requires
 go_over-requires c = search turns
 
-pub returns-in-Err : goal.returns-in-Err
-returns-in-Err c = search turns
+pub returns-in_default : goal.returns-in_default
+returns-in_default c = search turns
 
 pub loop-i-preserved : goal.loop-i-preserved
 loop-i-preserved c = (search turns, search turns, search rules, search rules)

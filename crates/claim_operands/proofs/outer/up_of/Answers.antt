@@ -5,8 +5,5 @@ use Rattle.claim_operands.proofs.outer.up_of.Goals as goal
 pub returns-then-q-eq0 : goal.returns-then-q-eq0
 returns-then-q-eq0 c = search upward
 
-pub returns-in-Some : goal.returns-in-Some
-returns-in-Some c = search upward
-
-pub returns-in-None : goal.returns-in-None
-returns-in-None c = search upward
+pub returns : goal.returns
+returns c = search upward

@@ -6,8 +6,8 @@ use Rattle.claim_operands.proofs.paths.through_paths.Goals as goal
 pub loop-left-init : goal.loop-left-init
 loop-left-init c = (search following, search rules)
 
-pub returns-in-None : goal.returns-in-None
-returns-in-None c = search following
+pub returns-in_err-through_export : goal.returns-in_err-through_export
+returns-in_err-through_export c = search following
 
 pub loop-left-preserved : goal.loop-left-preserved
 loop-left-preserved c = (search following, search rules)

@@ -2,11 +2,11 @@
 use Rattle.claim_operands.proofs.Ways.{meeting}
 use Rattle.claim_operands.proofs.reference.is_met.Goals as goal
 
-pub returns-in-None : goal.returns-in-None
-returns-in-None c = search meeting
+pub returns-in-Some-Some : goal.returns-in-Some-Some
+returns-in-Some-Some c = search meeting
 
-pub returns-in-None-b : goal.returns-in-None-b
-returns-in-None-b c = search meeting
+pub returns-in_default : goal.returns-in_default
+returns-in_default c = search meeting
 
-pub returns-in-Some-b : goal.returns-in-Some-b
-returns-in-Some-b c = search meeting
+pub returns-in_default-2 : goal.returns-in_default-2
+returns-in_default-2 c = search meeting

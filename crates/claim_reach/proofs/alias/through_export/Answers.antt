@@ -2,8 +2,8 @@
 use Rattle.claim_reach.proofs.Ways.{throughs}
 use Rattle.claim_reach.proofs.alias.through_export.Goals as goal
 
-pub returns-in-Some : goal.returns-in-Some
-returns-in-Some c = search throughs
+pub returns-in_err-row : goal.returns-in_err-row
+returns-in_err-row c = search throughs
 
-pub returns-in-None : goal.returns-in-None
-returns-in-None c = search throughs
+pub returns : goal.returns
+returns c = search (throughs, c.in_ok-row.was)

@@ -5,8 +5,5 @@ use Rattle.claim_scopes.proofs.entries.look_up.Goals as goal
 pub find-requires : goal.find-requires
 find-requires c = search looks
 
-pub returns-in-Some : goal.returns-in-Some
-returns-in-Some c = search looks
-
-pub returns-in-None : goal.returns-in-None
-returns-in-None c = search looks
+pub returns : goal.returns
+returns c = search looks
