@@ -85,8 +85,8 @@ module _ (names : List Slot) (scope : List ℕ) (far : ℕ) (early : Bool) (env 
   sought name (absent asked) same low = go early
     where
       go : (b : Bool) → Err (NotSought asked) ≡ sought_as space (b && false) none
-      go true = ap Err (NotSought same)
-      go false = ap Err (NotSought same)
+      go true = ap (λ s. Err (NotSought s)) same
+      go false = ap (λ s. Err (NotSought s)) same
   sought name (found n row) same low = go early come low
     where
       last : (b : Bool) → pick b (Err Late) (Ok n) ≡ sought_as space b (some n)

@@ -1,5 +1,5 @@
 -- What is inserted before a field for all its operands: the code writes what the rules make of them.
-use Rattle.std.specs.Prelude.{◌≡◌, true, get_or, Ok, Err}
+use Rattle.std.specs.Prelude.{◌≡◌, true, Ok, Err}
 use Rattle.std.proofs.Math.Path.{refl, sym}
 use Rattle.std.proofs.Common.{ap, ◌∙◌}
 use Rattle.std.proofs.Math.Option.{Option, none, some}
@@ -9,7 +9,7 @@ use Rattle.std.proofs.Math.Nat.{add-zero}
 use Prim.Native.Nat.{ℕ, suc, ◌+◌, ◌≤◌, ◌<◌}
 use Rattle.std.proofs.Math.ListN.{length, length-append}
 use Rattle.kit.specs.Out.{◌&◌}
-use Rattle.rules.specs.Rows.{Index, Row, Field, Decl, Ref, Path, Outer, Case, Open, Close, Export}
+use Rattle.rules.specs.Rows.{Row, Field, Decl, Ref, Path, Outer, Case, Open, Close, Export}
 use Rattle.rules.specs.Tree.{Declaration, Operand, ref, outer, case, Head, path_rows, operand_row, operand_rows, export_rows}
 use Rattle.rules.specs.Rules.{table_of, Outside, in_time, late_instance, Result, refused, ok, ◌>>=◌, Env, fresh, Expanded, as_it_is, expand_operand, expand_operands, heads_decls, resolve_inserted, resolve_head}
 use Rattle.rules.specs.Laws.Results.{ok_same, bind_inv, holds_of}
@@ -92,7 +92,7 @@ export_skips (some n) = (tt, tt)
 wrote_same : (w : Wrote) (f g : WriteState → List ℕ → Wrote) → ((t : WriteState) (out : List ℕ) → f t out ≡ g t out) → wrote_then w f stops ≡ wrote_then w g stops
 unfolding wrote_then
 wrote_same (Ok t & out) f g h = h t out
-wrote_same (Err refused & out) f g h = refl
+wrote_same (Err why & out) f g h = refl
 
 -- what is inserted for two lists of fields
 pub inserted_append : (env : Env) (outside : Outside) (xs ys : List Head) → resolve_inserted env outside (xs ++ ys) ≡ (resolve_inserted env outside xs >>= λ xs'. resolve_inserted env outside ys >>= λ ys'. ok (xs' ++ ys'))

@@ -1,5 +1,5 @@
 -- A CASE: the code enters the names of a field's CASEs in the table of entered names, the rules keep them in a list.
-use Rattle.std.specs.Prelude.{◌≡◌, Bool, true, ◌&&◌, ◌||◌, not, List, [], ◌∷◌, ◌++◌, ℕ, ◌+◌, ◌<◌, eqb, length, set, Option, Some, None, Ok, Err}
+use Rattle.std.specs.Prelude.{◌≡◌, Bool, true, ◌&&◌, ◌||◌, not, List, [], ◌∷◌, ◌++◌, ℕ, ◌+◌, ◌<◌, eqb, length, set, Option, Some, None, Ok, Err, is_some}
 use Rattle.std.proofs.Math.Path.{refl}
 use Rattle.std.proofs.Common.{sym, ◌∙◌, arith, eq-eqb, ne_eqb, eqb-true}
 use Rattle.std.proofs.Math.Bool.{false}
@@ -13,7 +13,7 @@ use Rattle.rules.specs.Rules.{number_of, carried_by, case_twice, refused, ok}
 use Rattle.refusal.specs.Refusals.{refusal_at, untold}
 use Rattle.names.specs.Table.{Slot, decl_slot, space_of, name_of, between, find_in}
 use Rattle.names.proofs.Storey.{pushed_room, between_push}
-use Rattle.plan.specs.Enter.{is_found, first_t, twice_t, push_then}
+use Rattle.plan.specs.Enter.{first_t, twice_t, push_then}
 use Rattle.write.specs.declared.alias.WriteState.{WriteState}
 use Rattle.write.specs.WriteState.{case_seen_t, put_then}
 use Rattle.write.specs.Own.{Wrote₂, write_case_t}
@@ -23,25 +23,25 @@ use Rattle.agree.specs.Refusals.Answers.{Says}
 
 -- the first n slots have the names that were seen
 abbrev pub Cases : (entered : List Slot) (n : ℕ) (seen : List ℕ) → Type 0
-Cases entered n seen = (name : ℕ) → is_found (find_in (between 0 n entered) 13 name) ≡ is_in name seen
+Cases entered n seen = (name : ℕ) → is_some (find_in (between 0 n entered) 13 name) ≡ is_in name seen
 
 pub no_cases : (entered : List Slot) → Cases entered 0 []
 unfolding between find_in
 no_cases entered name = refl
 
-found_step : (t u : Bool) (n : ℕ) (a b : Option ℕ) (c : Bool) → is_found b ≡ c || is_found a
-    → is_found (pick t (pick u (Some n) b) b) ≡ c || is_found (pick t (pick u (Some n) a) a)
+found_step : (t u : Bool) (n : ℕ) (a b : Option ℕ) (c : Bool) → is_some b ≡ c || is_some a
+    → is_some (pick t (pick u (Some n) b) b) ≡ c || is_some (pick t (pick u (Some n) a) a)
 unfolding pick
 found_step true true n a b true e = refl
 found_step true true n a b false e = refl
 found_step true false n a b c e = e
 found_step false u n a b c e = e
 
-found_last : (ss : List Slot) (new name : ℕ) → is_found (find_in (ss ++ (decl_slot 13 new 0 ∷ [])) 13 name) ≡ eqb new name || is_found (find_in ss 13 name)
+found_last : (ss : List Slot) (new name : ℕ) → is_some (find_in (ss ++ (decl_slot 13 new 0 ∷ [])) 13 name) ≡ eqb new name || is_some (find_in ss 13 name)
 unfolding find_in pick
 found_last [] new name = go (eqb new name)
   where
-    go : (t : Bool) → is_found (pick t (Some 0) None) ≡ t || false
+    go : (t : Bool) → is_some {T = ℕ} (pick t (Some 0) None) ≡ t || false
     go true = unfold pick in refl
     go false = unfold pick in refl
 found_last (s ∷ ss) new name = found_step (eqb (space_of s) 13) (eqb (name_of s) name) _ (find_in ss 13 name) (find_in (ss ++ (decl_slot 13 new 0 ∷ [])) 13 name) (eqb new name) (found_last ss new name)
@@ -58,7 +58,7 @@ more_cases : (entered : List Slot) (n : ℕ) (seen : List ℕ) (new : ℕ) → n
 more_cases entered n seen new h c name =
     rw (between_push entered n (decl_slot 13 new 0) 0 (omega arith) h) (found_last (between 0 n entered) new name ∙ (rw (c name, eqb_swap new name)))
 
-choose : (t : Bool) (F : Option ℕ) → is_found (pick t None F) ≡ not t && is_found F
+choose : (t : Bool) (F : Option ℕ) → is_some (pick t None F) ≡ not t && is_some F
 unfolding pick
 choose true F = refl
 choose false F = refl

@@ -1,5 +1,5 @@
 -- A field up to the scope that it may open: what is inserted before it, and its own rows.
-use Rattle.std.specs.Prelude.{◌≡◌, Bool, ℕ, zero, suc, ◌+◌, ◌-◌, ◌/◌, ◌≤◌, ◌<◌, get_or, Ok, Err}
+use Rattle.std.specs.Prelude.{◌≡◌, Bool, ℕ, zero, suc, ◌+◌, ◌-◌, ◌/◌, ◌≤◌, ◌<◌, Ok, Err}
 use Rattle.std.proofs.Math.Path.{refl}
 use Rattle.std.proofs.Common.{sym, ap, ◌∙◌, add-zero, length-append, ne_eqb, ltb-true}
 use Rattle.std.proofs.Math.Bool.{true, false}
@@ -47,7 +47,7 @@ pub record FitHead (h : Head) : Type 0 where
 
 -- a step, and then one that has the table of entered names too
 says_into : {A B : Type 0} (r : Result A) (f : A → Result B) (P : A → Wrote → Type 0) (Q : B → Wrote₂ → Type 0) (w : Wrote) (g : WriteState → List ℕ → Wrote₂) (entered : List Slot)
-    → Says r P w → ((a : A) → r ≡ ok a → P a w → Says (f a) Q (wrote_then w g λ n z out. Err (record { refusal = n; told = z }) & entered & out)) → Says (r >>= f) Q (wrote_then w g λ n z out. Err (record { refusal = n; told = z }) & entered & out)
+    → Says r P w → ((a : A) → r ≡ ok a → P a w → Says (f a) Q (wrote_then w g λ why out. Err why & entered & out)) → Says (r >>= f) Q (wrote_then w g λ why out. Err why & entered & out)
 unfolding ◌>>=◌ wrote_then
 says_into (refused n z) f P Q w g entered h k = (entered & h.0, rw h.1)
 says_into (ok a) f P Q w g entered h k = k a refl h

@@ -1,6 +1,6 @@
 -- The number of a reference: the code takes it from the reference's own slots, or finds its name in the scope; the rules find it by the name that step B gave it.
-use Rattle.std.specs.Prelude.{◌≡◌, ◌⊎◌, get_or, Result, Ok, Err}
-use Rattle.std.proofs.Math.Path.{refl, sym, ap}
+use Rattle.std.specs.Prelude.{◌≡◌, ◌⊎◌, Result, Ok, Err}
+use Rattle.std.proofs.Math.Path.{refl, sym}
 use Rattle.std.proofs.Common.{◌∙◌, inl, inr, length-append, lt-ltb}
 use Rattle.std.proofs.Math.Option.{Option, none, some}
 use mathlib.Core.List.{List, [], ◌∷◌, ◌++◌, append_assoc}
@@ -86,7 +86,7 @@ module _ (env : Env) (names : List Slot) (here : List ℕ) (opens : Opens names 
 
   looked_is : (l : Lookup) (alias : ℕ) → OfSpace space l → looked_t (lookup_of l) alias ≡ answered space (numbered l) alias
   unfolding looked_t numbered
-  looked_is (absent asked) alias same = ap Err (record { space = same })
+  looked_is (absent asked) alias same = rw same
   looked_is (found n row) alias same = refl
 
   -- a name that is looked up in the scope

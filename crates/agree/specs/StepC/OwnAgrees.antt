@@ -1,5 +1,5 @@
 -- A field's own rows: the code writes what the rules make of the field.
-use Rattle.std.specs.Prelude.{◌≡◌, Bool, ◌&&◌, not, eqb, get_or, Ok, Err}
+use Rattle.std.specs.Prelude.{◌≡◌, Bool, ◌&&◌, not, eqb, Ok, Err}
 use Rattle.std.proofs.Math.Path.{refl, sym}
 use Rattle.std.proofs.Common.{◌∙◌, length-set}
 use Rattle.std.proofs.Math.Bool.{true, false}
@@ -160,7 +160,7 @@ module _ (env : Env) (outside : Outside) (fz : ℕ) (field : List ℕ) (names : 
   own_same : (w : Wrote₂) (f g : WriteState → List Slot → List ℕ → Wrote₂) → ((t : WriteState) (e : List Slot) (o : List ℕ) → f t e o ≡ g t e o) → wrote_then₂ w f stops₂ ≡ wrote_then₂ w g stops₂
   unfolding wrote_then₂
   own_same (Ok t & e & o) f g h = h t e o
-  own_same (Err refused & e & o) f g h = refl
+  own_same (Err why & e & o) f g h = refl
 
   operand_turn : (o : Operand) (more : List Row) (row i row' : ℕ) (entered : List Slot) (out : List ℕ) (s : WriteState) → place_of (row_at field 0) ≡ fz → row_number s.at i ≡ row' → At field i (operand_row o ++ more)
       → own_t field entered names scopes out s row i (length (operand_row o ++ more))

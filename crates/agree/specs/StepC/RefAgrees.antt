@@ -1,5 +1,5 @@
 -- What is inserted before a field for one reference: the code writes what the rules make of it.
-use Rattle.std.specs.Prelude.{◌≡◌, Bool, ◌&&◌, ◌⊎◌, leb, get_or, Ok}
+use Rattle.std.specs.Prelude.{◌≡◌, Bool, ◌&&◌, ◌⊎◌, leb, Ok}
 use Rattle.std.proofs.Math.Path.{refl, sym, ap}
 use Rattle.std.proofs.Common.{◌∙◌, arith, add-zero, le-leb, lt-ltb}
 use Rattle.std.proofs.Math.Bool.{true, false}

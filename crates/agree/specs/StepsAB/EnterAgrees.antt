@@ -1,5 +1,5 @@
 -- Step A: on the rows of fields, `enter_fields_t` does what the rules' `distinct` says.
-use Rattle.std.specs.Prelude.{◌≡◌, Bool, ◌&&◌, not, get_or, set, Option as CodeOption, Some, None, Result as CodeResult, Ok, Err, ℕ}
+use Rattle.std.specs.Prelude.{◌≡◌, Bool, ◌&&◌, not, get_or, set, Option as CodeOption, Some, None, Result as CodeResult, Ok, Err, ℕ, is_some}
 use Rattle.std.proofs.Math.Path.{refl, sym, ap}
 use Rattle.std.proofs.Common.{◌∙◌, arith, length-set}
 use Rattle.std.proofs.Math.Bool.{true, false}
@@ -25,7 +25,7 @@ use Rattle.refusal.specs.Refusals.{refusal_at, tells}
 use Rattle.names.specs.Table.{Slot, space_of, name_of, number_of as word_of, between, find_in}
 use Rattle.names.proofs.Storey.{pushed_room, between_push}
 use Rattle.plan.specs.Views.{if_decl}
-use Rattle.plan.specs.Enter.{is_found, row_number, first_t, found_then, placed_slot, push_then, enter_field_t, enter_then, enter_fields_t}
+use Rattle.plan.specs.Enter.{row_number, first_t, found_then, placed_slot, push_then, enter_field_t, enter_then, enter_fields_t}
 use Rattle.agree.specs.Tables.Sizes.{most}
 use Rattle.agree.specs.Refusals.Carried.{said_of, told_of}
 use Rattle.agree.specs.Rows.At.{Is, At}
@@ -75,7 +75,7 @@ entered_first (s ∷ ss) (d ∷ ds) space name e =
 entered_first [] (d ∷ ds) space name e = elim e [ ]
 entered_first (s ∷ ss) [] space name e = elim e [ ]
 
-first_known : (o : Option ℕ) (place : ℕ) → is_found (first_in o place) ≡ is_just o
+first_known : (o : Option ℕ) (place : ℕ) → is_some (first_in o place) ≡ is_just o
 first_known none place = refl
 first_known (some n) place = refl
 
@@ -225,5 +225,5 @@ enter_agrees room rows ends fs p entered turns short fits a en t s =
     enter_fields room rows ends short fs p [] entered turns a en t s (omega (arith, b.there)) tt
 
 -- a name is entered where the rules find it
-pub entered_known : (ds : List Declaration) (table : List Slot) → EnteredAs (between 0 (length ds) table) ds → (space name : ℕ) → is_found (find_in (between 0 (length ds) table) space name) ≡ is_just (find ds space name)
+pub entered_known : (ds : List Declaration) (table : List Slot) → EnteredAs (between 0 (length ds) table) ds → (space name : ℕ) → is_some (find_in (between 0 (length ds) table) space name) ≡ is_just (find ds space name)
 entered_known ds table e space name = rw (entered_first _ ds space name e) (first_known (find ds space name) _)

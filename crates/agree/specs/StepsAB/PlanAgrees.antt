@@ -1,5 +1,5 @@
 -- Step B: on the rows of fields, `plan_scope_t` does what the rules' `expand_fields` says.
-use Rattle.std.specs.Prelude.{◌≡◌, Bool, get_or, take, replicate, Result as CodeResult, Ok, Err}
+use Rattle.std.specs.Prelude.{◌≡◌, Bool, get_or, take, replicate, Result as CodeResult, Ok, Err, is_some}
 use Rattle.std.proofs.Math.Path.{refl, sym, ap}
 use Rattle.std.proofs.Common.{◌∙◌, add-zero, arith}
 use Rattle.std.proofs.Math.Bool.{true}
@@ -24,7 +24,6 @@ use Rattle.refusal.specs.declared.Refusal.{Refusal as Said}
 use Rattle.refusal.specs.declared.Told.{Told}
 use Rattle.names.specs.Table.{Slot, between, find_in}
 use Rattle.names.specs.Stands.{count, Stands, Envs, Below}
-use Rattle.plan.specs.Enter.{is_found}
 use Rattle.plan.specs.Insertions.{Step, step_then, stops, plan_field_t, moved_t, plan_fields_t, plan_seen_t, plan_scope_t}
 use Rattle.plan.specs.declared.insertions.PlanState.{PlanState}
 use Rattle.agree.specs.Refusals.Carried.{said_of, told_of}
@@ -67,7 +66,7 @@ PlanIs room first names₀ slots (ok r) o = PlanDone room first names₀ slots (
 
 -- ---- all fields
 
-module _ (room first : ℕ) (names₀ : List Slot) (n depth far : ℕ) (early : Bool) (fits : room ≤ most) (here : List Declaration) (entered : List Slot) (scopes : List (List ℕ)) (known : (space name : ℕ) → is_found (find_in (between 0 n entered) space name) ≡ is_just (find here space name)) (below : Below first scopes depth) (shallow : depth ≤ most) (rows ends : List ℕ) (short : length rows / 16 ≤ most) where
+module _ (room first : ℕ) (names₀ : List Slot) (n depth far : ℕ) (early : Bool) (fits : room ≤ most) (here : List Declaration) (entered : List Slot) (scopes : List (List ℕ)) (known : (space name : ℕ) → is_some (find_in (between 0 n entered) space name) ≡ is_just (find here space name)) (below : Below first scopes depth) (shallow : depth ≤ most) (rows ends : List ℕ) (short : length rows / 16 ≤ most) where
   -- what is carried along, at a field's row
   abbrev P : (at used k : ℕ) → PlanState
   P at used k = plan_of room first names₀ n depth far early at used k
@@ -177,7 +176,7 @@ unfolding between
 no_slots_lem first names = let e : first - first ≡ 0 = omega arith in rw e
 
 -- STEP B: what `plan_scope_t` comes to on the rows of a scope's fields, with the scopes `outside` open and `used` slots in use
-pub plan_agrees : (room : ℕ) (rows ends : List ℕ) (fs : Fields) (p k used n depth far : ℕ) (early : Bool) (here : List Declaration) (outside : Outside) (entered names : List Slot) (scopes : List (List ℕ)) → length rows / 16 ≤ most → room ≤ most → At rows p (fields_rows fs ++ (Close ∷ [])) → Ends fs ends p → Spaces fs → ((space name : ℕ) → is_found (find_in (between 0 n entered) space name) ≡ is_just (find here space name)) → Timed outside.early early names scopes far depth outside.scopes → outside.before.decls ≡ [] → (early ≡ true → LowFields fs) → Envs names scopes depth outside.scopes → Below used scopes depth → depth ≤ most → length names ≡ room → used + own fs ≤ room → k + own fs ≤ most → PlanIs room used names (fields_slots here outside [] k p fs) (expand_fields here outside k fs) (plan_scope_t rows ends entered names scopes (record { at = p; entered = n; depth = depth; used = used; fresh = 2147483648 + k; first = used; before = far; early = early }))
+pub plan_agrees : (room : ℕ) (rows ends : List ℕ) (fs : Fields) (p k used n depth far : ℕ) (early : Bool) (here : List Declaration) (outside : Outside) (entered names : List Slot) (scopes : List (List ℕ)) → length rows / 16 ≤ most → room ≤ most → At rows p (fields_rows fs ++ (Close ∷ [])) → Ends fs ends p → Spaces fs → ((space name : ℕ) → is_some (find_in (between 0 n entered) space name) ≡ is_just (find here space name)) → Timed outside.early early names scopes far depth outside.scopes → outside.before.decls ≡ [] → (early ≡ true → LowFields fs) → Envs names scopes depth outside.scopes → Below used scopes depth → depth ≤ most → length names ≡ room → used + own fs ≤ room → k + own fs ≤ most → PlanIs room used names (fields_slots here outside [] k p fs) (expand_fields here outside k fs) (plan_scope_t rows ends entered names scopes (record { at = p; entered = n; depth = depth; used = used; fresh = 2147483648 + k; first = used; before = far; early = early }))
 unfolding plan_scope_t
 plan_agrees room rows ends fs p k used n depth far early here outside entered names scopes short fits a en sp known timed starts low envs below shallow size b h =
     let w = at_head rows _ Close [] (at_right rows p (fields_rows fs) (Close ∷ []) a) in

@@ -1,5 +1,5 @@
 -- Step B at one field: what `plan_field_t` comes to is what the rules' `expand_head` says, and then its DECLs.
-use Rattle.std.specs.Prelude.{◌≡◌, Bool, Ok, Err}
+use Rattle.std.specs.Prelude.{◌≡◌, Bool, Ok, Err, is_some}
 use Rattle.std.proofs.Math.Path.{refl, ap}
 use Rattle.std.proofs.Common.{sym, ◌∙◌}
 use Rattle.std.proofs.Math.Bool.{true, false}
@@ -27,7 +27,6 @@ use Rattle.names.specs.Table.{Slot, slot_of, between, find_in}
 use Rattle.names.specs.Stands.{count, Envs, Below}
 use Rattle.names.proofs.Storey.{stands_length}
 use Rattle.plan.specs.Views.{if_decl, if_ref, field_code}
-use Rattle.plan.specs.Enter.{is_found}
 use Rattle.plan.specs.Insertions.{Tables, Step, plan_ref_t, step_then, stops, plan_operands_t, declare_then, plan_decls_t, field_code_t, plan_insertions_t, with_used, plan_field_t}
 use Rattle.plan.specs.declared.insertions.PlanState.{PlanState}
 use Rattle.agree.specs.Tables.Sizes.{most}
@@ -95,7 +94,7 @@ others_export (some n) = (refl, tt)
 then_same : (s : Step) (f g : List Slot → List ℕ → PlanState → Step) → ((ns : List Slot) (cs : List ℕ) (q : PlanState) → f ns cs q ≡ g ns cs q) → step_then s f stops ≡ step_then s g stops
 unfolding step_then
 then_same (Ok q & names & counts) f g h = h names counts q
-then_same (Err refused & names & counts) f g h = refl
+then_same (Err why & names & counts) f g h = refl
 
 module _ (field : List ℕ) (entered : List Slot) (scopes : List (List ℕ)) (at : ℕ) where
   -- such rows are passed over one by one
@@ -152,7 +151,7 @@ heads_append (x ∷ xs) ys = rw (heads_append xs ys, append_assoc)
 
 -- ---- the operands of a field
 
-module _ (room first : ℕ) (names₀ : List Slot) (n depth far : ℕ) (early : Bool) (fits : room ≤ most) (here : List Declaration) (outside : Outside) (entered : List Slot) (scopes : List (List ℕ)) (known : (space name : ℕ) → is_found (find_in (between 0 n entered) space name) ≡ is_just (find here space name)) (timed : Timed outside.early early names₀ scopes far depth outside.scopes) (envs : Envs names₀ scopes depth outside.scopes) (below : Below first scopes depth) (shallow : depth ≤ most) (field : List ℕ) (at : ℕ) where
+module _ (room first : ℕ) (names₀ : List Slot) (n depth far : ℕ) (early : Bool) (fits : room ≤ most) (here : List Declaration) (outside : Outside) (entered : List Slot) (scopes : List (List ℕ)) (known : (space name : ℕ) → is_some (find_in (between 0 n entered) space name) ≡ is_just (find here space name)) (timed : Timed outside.early early names₀ scopes far depth outside.scopes) (envs : Envs names₀ scopes depth outside.scopes) (below : Below first scopes depth) (shallow : depth ≤ most) (field : List ℕ) (at : ℕ) where
   abbrev P : (used k : ℕ) → PlanState
   P used k = plan_of room first names₀ n depth far early at used k
 
@@ -313,7 +312,7 @@ declared_went room first names₀ n depth far early k at used before slots o r =
 
 -- ---- one field
 
-module _ (room first : ℕ) (names₀ : List Slot) (n depth far : ℕ) (early : Bool) (fits : room ≤ most) (here : List Declaration) (outside : Outside) (entered : List Slot) (scopes : List (List ℕ)) (known : (space name : ℕ) → is_found (find_in (between 0 n entered) space name) ≡ is_just (find here space name)) (timed : Timed outside.early early names₀ scopes far depth outside.scopes) (envs : Envs names₀ scopes depth outside.scopes) (below : Below first scopes depth) (shallow : depth ≤ most) (field : List ℕ) (at : ℕ) (it : Item) (k : ℕ) (before : List Declaration) (slots : List Slot) (used : ℕ) (names : List Slot) (counts : List ℕ) (tab : Tab room first names₀ before slots used names counts) (knows : early ≡ true → Knows slots outside.before.decls) (low_names : early ≡ true → LowHead (head_of it)) (legal : SpacesHead (head_of it)) (low : at + length (head_rows (head_of it)) < 4294967296) (room_left : first + length before + length (head_rows (head_of it)) ≤ room) (numbers-left : k + length (head_rows (head_of it)) ≤ most) (stands : At field 0 (field_row (head_of it) ∷ (decl_rows (head_of it).decls ++ rest_rows it))) (size : length field / 16 ≡ suc (length (decl_rows (head_of it).decls ++ rest_rows it))) where
+module _ (room first : ℕ) (names₀ : List Slot) (n depth far : ℕ) (early : Bool) (fits : room ≤ most) (here : List Declaration) (outside : Outside) (entered : List Slot) (scopes : List (List ℕ)) (known : (space name : ℕ) → is_some (find_in (between 0 n entered) space name) ≡ is_just (find here space name)) (timed : Timed outside.early early names₀ scopes far depth outside.scopes) (envs : Envs names₀ scopes depth outside.scopes) (below : Below first scopes depth) (shallow : depth ≤ most) (field : List ℕ) (at : ℕ) (it : Item) (k : ℕ) (before : List Declaration) (slots : List Slot) (used : ℕ) (names : List Slot) (counts : List ℕ) (tab : Tab room first names₀ before slots used names counts) (knows : early ≡ true → Knows slots outside.before.decls) (low_names : early ≡ true → LowHead (head_of it)) (legal : SpacesHead (head_of it)) (low : at + length (head_rows (head_of it)) < 4294967296) (room_left : first + length before + length (head_rows (head_of it)) ≤ room) (numbers-left : k + length (head_rows (head_of it)) ≤ most) (stands : At field 0 (field_row (head_of it) ∷ (decl_rows (head_of it).decls ++ rest_rows it))) (size : length field / 16 ≡ suc (length (decl_rows (head_of it).decls ++ rest_rows it))) where
   -- what is inserted, and then the DECLs
   pub field_is : StepIs room first names₀ n depth far early (λ e. (before ++ heads_decls e.inserted) ++ (head_of it).decls) (λ e. (slots ++ head_slots here outside before k at (head_of it)) ++ decl_slots (before ++ heads_decls e.inserted) (at + 1) (head_of it).decls) (λ e. e.k) at (expand_head here outside k (head_of it)) (plan_field_t field entered names scopes counts (plan_of room first names₀ n depth far early at used k))
   unfolding plan_field_t

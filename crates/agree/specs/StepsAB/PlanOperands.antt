@@ -1,5 +1,5 @@
 -- Step B at one operand: what `plan_ref_t` comes to is what the rules' `expand_operand` says.
-use Rattle.std.specs.Prelude.{◌≡◌, Bool, ◌&&◌, ◌||◌, eqb, leb, Ok, Err}
+use Rattle.std.specs.Prelude.{◌≡◌, Bool, ◌&&◌, ◌||◌, eqb, leb, Ok, Err, is_some}
 use Rattle.std.proofs.Math.Path.{refl, sym}
 use Rattle.std.proofs.Common.{ap, ◌∙◌, lt-ltb}
 use Rattle.std.proofs.Math.Bool.{true, false, not}
@@ -27,7 +27,6 @@ use Rattle.names.specs.Table.{Slot, slot_of, first_of, scope_at, between, find_i
 use Rattle.names.specs.Stands.{count, met_of, Envs, Below}
 use Rattle.names.proofs.Storey.{envs_kept, envs_length, outward_walk}
 use Rattle.late.specs.Late.{late_in, before_around}
-use Rattle.plan.specs.Enter.{is_found}
 use Rattle.plan.specs.Insertions.{Step, insert_with, insert_alias_t, insert_then, plan_paths_t, plan_done_t, late_here_t, late_out_t, plan_outer_t, met_t, plan_name_t, plan_index_t, plan_ref_t}
 use Rattle.plan.specs.declared.insertions.PlanState.{PlanState}
 use Rattle.agree.specs.Tables.Sizes.{most}
@@ -101,7 +100,7 @@ module _ (room first : ℕ) (names₀ : List Slot) (n depth far : ℕ) (early : 
 
   -- ---- one operand
 
-  module _ (here : List Declaration) (outside : Outside) (entered : List Slot) (scopes : List (List ℕ)) (known : (space name : ℕ) → is_found (find_in (between 0 n entered) space name) ≡ is_just (find here space name)) (timed : Timed outside.early early names₀ scopes far depth outside.scopes) (envs : Envs names₀ scopes depth outside.scopes) (below : Below first scopes depth) (shallow : depth ≤ most) (row at : ℕ) (before : List Declaration) (slots : List Slot) (used : ℕ) (names : List Slot) (counts : List ℕ) (tab : Tab room first names₀ before slots used names counts) (knows : early ≡ true → Knows slots outside.before.decls) where
+  module _ (here : List Declaration) (outside : Outside) (entered : List Slot) (scopes : List (List ℕ)) (known : (space name : ℕ) → is_some (find_in (between 0 n entered) space name) ≡ is_just (find here space name)) (timed : Timed outside.early early names₀ scopes far depth outside.scopes) (envs : Envs names₀ scopes depth outside.scopes) (below : Below first scopes depth) (shallow : depth ≤ most) (row at : ℕ) (before : List Declaration) (slots : List Slot) (used : ℕ) (names : List Slot) (counts : List ℕ) (tab : Tab room first names₀ before slots used names counts) (knows : early ≡ true → Knows slots outside.before.decls) where
     -- what an operand comes to, where the rules say this
     abbrev OperandIs : Result (Expanded Operand) → Step → Type 0
     OperandIs m o = StepIs room first names₀ n depth far early (λ e. before ++ heads_decls e.inserted) (λ e. slots ++ inserted_slots before row e.inserted) (λ e. e.k) at m o

@@ -1,5 +1,5 @@
 -- Which slots stand before a field: an input's name is found among them where the rules find it among the declarations before the field.
-use Rattle.std.specs.Prelude.{◌≡◌, refl, Bool, true, false, ◌||◌, not, ◌⊎◌, List, [], ◌∷◌, ◌++◌, ℕ, zero, suc, ◌+◌, ◌-◌, ◌≤◌, ◌<◌, eqb, leb, length, set, take, Option as CodeOption, Some, None}
+use Rattle.std.specs.Prelude.{◌≡◌, refl, Bool, true, false, ◌||◌, not, ◌⊎◌, List, [], ◌∷◌, ◌++◌, ℕ, zero, suc, ◌+◌, ◌-◌, ◌≤◌, ◌<◌, eqb, leb, length, set, take, Option as CodeOption, Some, is_some}
 use Rattle.std.proofs.Common.{sym, ap, ◌∙◌, inl, inr, append-nil, append_assoc, add-zero, arith, get_or-set_same, get_or-set_other, ne_eqb}
 use Rattle.std.proofs.Math.Option.{Option, none, some, map}
 use Rattle.std.proofs.Math.Nat.{sub-zero}
@@ -16,8 +16,7 @@ use Rattle.rules.specs.Laws.Results.{some_same, no_option}
 use Rattle.names.specs.Table.{Slot, space_of, name_of, number_of, empty_slot, between, find_in, no_scope, scope_of, first_of, past_of, before_of, scope_at}
 use Rattle.names.specs.Stands.{count, Below}
 use Rattle.names.proofs.Storey.{between_push, between_kept}
-use Rattle.late.specs.Late.{is_absent, late_in, before_around}
-use Rattle.plan.specs.Enter.{is_found}
+use Rattle.late.specs.Late.{late_in, before_around}
 use Rattle.write.specs.Alias.{slot_at}
 use Rattle.agree.specs.Tables.Slots.{decl_slots}
 use Rattle.agree.specs.Tables.Cursor.{Left, left_next}
@@ -26,16 +25,16 @@ use Rattle.agree.specs.Tables.Cursor.{Left, left_next}
 
 -- an input's name is found among the slots where it is declared
 abbrev pub Knows : List Slot → List Declaration → Type 0
-Knows slots ds = (space name : ℕ) → name ≤ top_name → is_found (find_in slots space name) ≡ is_just (find ds space name)
+Knows slots ds = (space name : ℕ) → name ≤ top_name → is_some (find_in slots space name) ≡ is_just (find ds space name)
 
 -- one slot, t and u the tests on its space and its name
-found_turn : (t u : Bool) (n : ℕ) (F G : CodeOption ℕ) (b : Bool) → is_found F ≡ is_found G || b → is_found (pick t (pick u (Some n) F) F) ≡ is_found (pick t (pick u (Some n) G) G) || b
+found_turn : (t u : Bool) (n : ℕ) (F G : CodeOption ℕ) (b : Bool) → is_some F ≡ is_some G || b → is_some (pick t (pick u (Some n) F) F) ≡ is_some (pick t (pick u (Some n) G) G) || b
 unfolding pick
 found_turn true true n F G b h = refl
 found_turn true false n F G b h = h
 found_turn false u n F G b h = h
 
-found_append : (xs ys : List Slot) (space name : ℕ) → is_found (find_in (xs ++ ys) space name) ≡ is_found (find_in xs space name) || is_found (find_in ys space name)
+found_append : (xs ys : List Slot) (space name : ℕ) → is_some (find_in (xs ++ ys) space name) ≡ is_some (find_in xs space name) || is_some (find_in ys space name)
 unfolding find_in
 found_append [] ys space name = refl
 found_append (x ∷ xs) ys space name = found_turn (eqb (space_of x) space) (eqb (name_of x) name) (number_of x) _ _ _ (found_append xs ys space name)
@@ -75,10 +74,10 @@ pub knows_fresh : (slots : List Slot) → All (λ s. 2147483648 ≤ name_of s) s
 unfolding find_in find
 knows_fresh [] a space name l = refl
 knows_fresh (s ∷ slots) (p & a) space name l =
-    ap is_found (past_fresh (eqb (space_of s) space) (eqb (name_of s) name) (number_of s) (find_in slots space name) (ne_eqb (name_of s) name (omega arith))) ∙ knows_fresh slots a space name l
+    ap is_some (past_fresh (eqb (space_of s) space) (eqb (name_of s) name) (number_of s) (find_in slots space name) (ne_eqb (name_of s) name (omega arith))) ∙ knows_fresh slots a space name l
 
 -- the slots of DECLs hold the DECLs
-decl_turn : (t u : Bool) (n : ℕ) (F : CodeOption ℕ) (o : Option ℕ) → is_found F ≡ is_just o → is_found (pick t (pick u (Some n) F) F) ≡ is_just (when t then when u then some 0 else map suc o else o)
+decl_turn : (t u : Bool) (n : ℕ) (F : CodeOption ℕ) (o : Option ℕ) → is_some F ≡ is_just o → is_some (pick t (pick u (Some n) F) F) ≡ is_just (when t then when u then some 0 else map suc o else o)
 unfolding pick when◌then◌else◌
 decl_turn true true n F o h = refl
 decl_turn true false n F o h = h ∙ sym (just_map o)
@@ -241,16 +240,12 @@ below_nth n scopes (suc d) k b h = go (λ l. below_nth n scopes d k b.1 l) (lt_o
 
 -- ---- the code's test
 
-absent_is : (F : CodeOption ℕ) → is_absent F ≡ not (is_found F)
-absent_is (Some n) = refl
-absent_is None = refl
-
 -- none of the slots before the field has the name
 pub late_is : (table : List Slot) (from before to : ℕ) (ds : List Declaration) (space name : ℕ) → before ≤ to → Knows (between from before table) ds → name ≤ top_name → late_in table from before to space name ≡ not (is_just (find ds space name))
 unfolding late_in
 late_is table from before to ds space name h knows l =
     let e : before - (before - to) ≡ before = omega arith in
-    rw e (absent_is (find_in (between from before table) space name) ∙ ap not (knows space name l))
+    rw e (ap not (knows space name l))
 
 -- ---- what the code is asked, and how far the scopes have come
 

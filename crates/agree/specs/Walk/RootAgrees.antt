@@ -83,7 +83,7 @@ pub record Written (out : List ℕ) (rows : List Row) (w : Wrote₃) : Type 0 wh
 -- the refusal with which a walk ended, if it did
 unfoldable pub refusal_of : Wrote₃ → Option (Said × Told)
 refusal_of (Ok s & tables) = none
-refusal_of (Err refused & tables) = some (refused.refusal, refused.told)
+refusal_of (Err why & tables) = some (why.refusal, why.told)
 
 -- and the rules' refusal
 unfoldable pub refused_by : {A : Type 0} → Result A → Option (Said × Told)

@@ -1,5 +1,5 @@
 -- The whole walk: on the rows of a scope the code does what the rules say of the scope. The induction is over the tree.
-use Rattle.std.specs.Prelude.{◌≡◌, true, List, [], ◌∷◌, ◌++◌, map, get_or, set, take, Result as CodeResult}
+use Rattle.std.specs.Prelude.{◌≡◌, true, List, [], ◌∷◌, ◌++◌, map, set, take, Result as CodeResult}
 use Rattle.std.proofs.Math.Path.{refl}
 use Rattle.std.proofs.Common.{sym, ap, ◌∙◌, arith, length-set, take-take, get_or-set_same}
 use Prim.Native.Nat.{ℕ, zero, suc, ◌+◌, ◌/◌, ◌≤◌, ◌<◌}
@@ -9,7 +9,7 @@ use Rattle.rules.specs.Versions.{RuleSet}
 use Rattle.rules.specs.Rows.{Open, Close}
 use Rattle.rules.specs.Tree.{Scope, scope, Fields, end, ◌▸◌, Item, plain, holds, flatten, fields_rows}
 use Rattle.rules.specs.Good.{GoodFields, height, heights}
-use Rattle.rules.specs.Rules.{decls_in, table_of, Outside, opened, Result, refused, ok, ◌>>=◌, Env, fresh, declarations, distinct, expand_fields, prepare, resolve_scope, resolve_fields}
+use Rattle.rules.specs.Rules.{decls_in, table_of, Outside, opened, Result, refused, ok, ◌>>=◌, Env, declarations, distinct, expand_fields, prepare, resolve_scope, resolve_fields}
 use Rattle.rules.specs.Laws.Results.{ok_same, bind_inv, holds_of}
 use Rattle.rules.specs.Laws.Meaning.Names.{LowFields, DeclFields}
 use Rattle.rules.proofs.Laws.Meaning.Runs.{prepared}

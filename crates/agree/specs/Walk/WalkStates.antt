@@ -74,11 +74,11 @@ says_then₃ (refused n z) f P Q w g h k = go h.0 h.1
 says_then₃ (ok a) f P Q w g h k = k a refl h
 
 pub says_field : {A B : Type 0} (r : Result A) (f : A → Result B) (P : A → Wrote₂ → Type 0) (Q : B → Wrote₃ → Type 0) (w : Wrote₂) (g : WriteState → List Slot → List ℕ → Wrote₃) (names : List Slot)
-    → Says r P w → ((a : A) → r ≡ ok a → P a w → Says (f a) Q (wrote_then₂ w g λ n z e o. Err (record { refusal = n; told = z }) & e & names & o)) → Says (r >>= f) Q (wrote_then₂ w g λ n z e o. Err (record { refusal = n; told = z }) & e & names & o)
+    → Says r P w → ((a : A) → r ≡ ok a → P a w → Says (f a) Q (wrote_then₂ w g λ why e o. Err why & e & names & o)) → Says (r >>= f) Q (wrote_then₂ w g λ why e o. Err why & e & names & o)
 unfolding ◌>>=◌ wrote_then₂
 says_field (refused n z) f P Q w g names h k = go h.0 h.1
   where
-    go : (x : Out (List Slot) (List ℕ)) → w ≡ (Err (record { refusal = said_of n z; told = told_of n }) & x) → Says (refused n z) Q (wrote_then₂ w g λ n z e o. Err (record { refusal = n; told = z }) & e & names & o)
+    go : (x : Out (List Slot) (List ℕ)) → w ≡ (Err (record { refusal = said_of n z; told = told_of n }) & x) → Says (refused n z) Q (wrote_then₂ w g λ why e o. Err why & e & names & o)
     go (e & o) q = (e & names & o, rw q)
 says_field (ok a) f P Q w g names h k = k a refl h
 
