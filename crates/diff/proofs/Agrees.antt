@@ -1,8 +1,9 @@
 -- What the code answers and leaves is what the rules say.
-use Rattle.std.specs.Prelude.{Result, Ok, Err, ℕ}
+use Rattle.std.specs.Prelude.{Result, Ok, Err, IsErrAnd}
+use Rattle.std.proofs.lemmas.Result.{err_from_is_err_and}
 use mathlib.Core.Path.{◌≡◌, refl, sym, ap, ◌∙◌}
 use mathlib.Core.Bool.{Bool, true, false}
-use mathlib.Core.Option.{none, some}
+use mathlib.Core.Option.{some}
 use mathlib.Core.List.{List, [], ◌∷◌, append-nil}
 use Prim.Native.Nat.{ℕ, suc, ◌+◌, ◌*◌, ◌/◌, ◌<◌, ◌≤◌}
 use native.Mathlib.Omega.{arith}
@@ -38,7 +39,8 @@ use Rattle.matched.proofs.Ends.{At}
 use Rattle.diff.specs.Meaning.{meaning, bytes_of, Says}
 use Rattle.diff.specs.Run.{list_t, refusing, list_rows_t}
 use Rattle.diff.proofs.Lists.{Held, at_rows, whole_list}
-use Rattle.form.specs.declared.header.BadHeader.TheVariants as asked
+use Rattle.form.specs.Header.{refusal_of}
+use Rattle.form.specs.declared.header.BadHeader.TheVariants.{Wrong, Count}
 use Rattle.form.specs.declared.header.BadHeader.{BadHeader}
 use Rattle.whole_form.specs.declared.asked.Asked.{Asked}
 
@@ -145,8 +147,8 @@ module _ (c : Choice) (i : ℕ) (left right list : List ℕ) (asks : setting_of 
   said = listed all c left right (length list)
 
   module _ (v : Result ℕ Refusal) (e : v ≡ form_of (read_form (as_claimed (setting i)) left)) where
-    pub left_refused : (why : Refusal) → v ≡ Err why → Says said list (Err why) list
-    left_refused why w = says_refused _ why list (is (refused_read (as_claimed (setting i)) left why (sym w ∙ e)))
+    pub left_refused : (why : Refusal) → v ≡ Err why → (a : Result ℕ Refusal) → IsErrAnd a (λ refusal. refusal ≡ why) → Says said list a list
+    left_refused why w a s = let p = err_from_is_err_and a s in rw (p.1, p.2) (says_refused _ why list (is (refused_read (as_claimed (setting i)) left why (sym w ∙ e))))
       where
         is : read_form (as_claimed (setting i)) left ≡ refused why.number why.place [] → said ≡ refused why.number why.place []
         is q = unfold listed compared both_read ◌and_then◌ in rw (asks, q)
@@ -155,8 +157,8 @@ module _ (c : Choice) (i : ℕ) (left right list : List ℕ) (asks : setting_of 
       left_read : (t : Scope) × (read_form (as_claimed (setting i)) left ≡ accepted t)
       left_read = let r = whole_read (as_claimed (setting i)) left n (sym w ∙ e) in (r.0, r.1)
 
-      pub right_refused : (why : Refusal) → v' ≡ Err why → Says said list (Err why) list
-      right_refused why w' = says_refused _ why list (is left_read.0 left_read.1 (refused_read (as_claimed (setting i)) right why (sym w' ∙ e')))
+      pub right_refused : (why : Refusal) → v' ≡ Err why → (a : Result ℕ Refusal) → IsErrAnd a (λ refusal. refusal ≡ why) → Says said list a list
+      right_refused why w' a s = let p = err_from_is_err_and a s in rw (p.1, p.2) (says_refused _ why list (is left_read.0 left_read.1 (refused_read (as_claimed (setting i)) right why (sym w' ∙ e'))))
         where
           is : (t : Scope) → read_form (as_claimed (setting i)) left ≡ accepted t → read_form (as_claimed (setting i)) right ≡ refused why.number why.place [] → said ≡ refused why.number why.place []
           is t p q = unfold listed compared both_read ◌and_then◌ in rw (asks, p, q)
@@ -184,7 +186,7 @@ module _ (c : Choice) (i : ℕ) (left right list : List ℕ) (asks : setting_of 
                 let ran : (a & out) ≡ list_rows_t c (drop H left) (drop H right) list = rw g at q in
                 rw (is_listed s t x y) (rw (ap length is) at (says_list list (list_t c (drop H left) (drop H right)) (differences c s t) is a out (ran ∙ rows_are (drop H left) (drop H right))))
 
-pub ruleset as_ways = (whole_low, whole_some, whole_high, left_refused, right_refused, both_listed, rules)
+pub ruleset as_ways = (whole_low, whole_some, whole_high, both_listed, rules)
 
 -- ---- compare
 
@@ -197,19 +199,23 @@ module _ (c : Choice) (left right list : List ℕ) where
   says a out w = (w.answers, w.leaves)
 
   module _ (k : Result Asked BadHeader) (e : k ≡ claimed_of left) where
-    pub asked_none : (a : Result ℕ Refusal) → k ≡ Err asked.Wrong → a ≡ refusing 1 0 → Told a list
-    asked_none a h w = rw w (says_refused _ _ list is)
-      where
-        is : listed all c left right (length list) ≡ refused 1 0 []
-        is = unfold listed compared both_read ◌and_then◌ in rw (claimed_wrong left (sym h ∙ e))
+    none_is : k ≡ Err Wrong → listed all c left right (length list) ≡ refused 1 0 []
+    none_is h = unfold listed compared both_read ◌and_then◌ in rw (claimed_wrong left (sym h ∙ e))
 
-    pub asked_unsized : (a : Result ℕ Refusal) → k ≡ Err asked.Count → a ≡ refusing 2 0 → Told a list
-    asked_unsized a h w = rw w (says_refused _ _ list (let g = claimed_count left (sym h ∙ e) in is g.0 g.1 (claimed_header g.0 left (found_in all left g.0 all_in_force g.1).has) g.2))
+    unsized_is : k ≡ Err Count → listed all c left right (length list) ≡ refused 2 0 []
+    unsized_is h = let g = claimed_count left (sym h ∙ e) in is g.0 g.1 (claimed_header g.0 left (found_in all left g.0 all_in_force g.1).has) g.2
       where
         is : (s : Setting) → setting_of all left ≡ some s → has_header (as_claimed s) left ≡ true → unsized (as_claimed s) left ≡ true → listed all c left right (length list) ≡ refused 2 0 []
         is s x has y = unfold listed compared both_read read_form when◌then◌else◌ ◌and_then◌ in rw (x, has, y)
 
-pub asked_known : (left : List ℕ) (k : Result Asked BadHeader) → k ≡ claimed_of left → (i rows : ℕ) → k ≡ Ok (record { setting = i; rows = rows }) → setting_of all left ≡ some (setting i)
-asked_known left k e i rows h = (claimed_for left i rows (sym h ∙ e)).asks
+    pub asked_bad : (why : BadHeader) → k ≡ Err why → (a : Result ℕ Refusal) → IsErrAnd a (λ refusal. refusal ≡ refusal_of why) → Told a list
+    asked_bad why h a w = let p = err_from_is_err_and a w in rw (p.1, p.2) (go why h)
+      where
+        go : (bad : BadHeader) → k ≡ Err bad → Told (Err (refusal_of bad)) list
+        go Wrong q = says_refused _ _ list (none_is q)
+        go Count q = says_refused _ _ list (unsized_is q)
 
-pub ruleset ways = (asked_none, asked_unsized, asked_known, rules)
+pub asked_known : (left : List ℕ) (k : Result Asked BadHeader) → k ≡ claimed_of left → (asked : Asked) → k ≡ Ok asked → setting_of all left ≡ some (setting asked.setting)
+asked_known left k e asked h = (claimed_for left asked.setting asked.rows (sym h ∙ e)).asks
+
+pub ruleset ways = (asked_known, rules)

@@ -1,35 +1,33 @@
 -- The list that the code writes, by rows, is the rules' list, by fields.
 use mathlib.Core.Path.{◌≡◌, refl, sym, ap, ap₂, ◌∙◌}
 use mathlib.Core.Bool.{Bool, true, false}
-use mathlib.Core.Option.{Option, some}
+use mathlib.Core.Option.{some}
 use mathlib.Core.List.{List, [], ◌∷◌, ◌++◌, map, append_assoc, append-nil, head-eq_of_cons-eq, tail-eq_of_cons-eq, cons≢nil}
 use Prim.Native.Nat.{ℕ, zero, suc, ◌+◌, ◌-◌, ◌*◌, ◌/◌, ◌<◌, ◌≤◌}
 use native.Mathlib.Omega.{arith}
 use native.Mathlib.Nat.{add-zero}
-use lib.Dec.{eqb, leb, ltb}
+use lib.Dec.{eqb}
 use lib.ListN.{length, get_or, take, drop, length-append}
 use lib.Seq.{get_or-drop, drop-drop, take_at, drop_at}
-use borrow.Author.Tests.{lt-ltb, le-ltb, lt-leb, le-leb, eq-eqb, ne_eqb}
+use borrow.Author.Tests.{lt-leb, le-leb, eq-eqb, ne_eqb}
 use Rattle.kit.specs.Pick.{pick}
 use Rattle.rules.specs.Tools.{when◌then◌else◌}
-use Rattle.rules.specs.Rows.{value, bytes, Raw, raw, raw_at, Row, Field, Open, Close, encode, decode_row, encode_row}
-use Rattle.rules.specs.Tree.{Scope, scope, Fields, Item, plain, holds, head_of, head_rows, flatten, fields_rows, item_rows}
+use Rattle.rules.specs.Rows.{value, bytes, Raw, raw, raw_at, Row, Open, Close, encode, decode_row, encode_row}
+use Rattle.rules.specs.Tree.{Scope, scope, Item, plain, holds, head_of, head_rows, flatten, fields_rows, item_rows}
 use Rattle.rules.specs.Answer.{rows_of, rows_bytes}
 use Rattle.rules.specs.Laws.ToolLaws.{ok_at}
 use Rattle.rules.specs.Laws.RowLaws.{decode_parts}
 use Rattle.read_form.proofs.Laws.OutputLength.{rows_length}
-use Rattle.comparing.specs.Compare.{Choice, same, Pair, alike, differs, opening, left_only, right_only, differing, items, only_left, only_right, rest, field_pairs, open_pair, form_pairs, Entry, entries, differences, kind_number, entry_bytes, list_bytes}
+use Rattle.comparing.specs.Compare.{Choice, same, Pair, alike, differs, opening, left_only, differing, items, only_left, only_right, rest, field_pairs, open_pair, form_pairs, Entry, entries, differences, kind_number, entry_bytes, list_bytes}
 use Rattle.comparing.specs.Laws.FieldsFromRows.{items_rows, fields_items}
 use Rattle.rows.proofs.Laws.{value_four}
-use Rattle.parts.specs.PartsAt.{two, four, parts, parts_in, parts_at}
-use Rattle.parts.specs.declared.Parts.{Parts}
-use Rattle.matched.specs.Counted.{raw_of, same_t}
-use Rattle.matched.specs.Alike.{end_behind, field_end, middle_t}
-use Rattle.matched.specs.declared.fields.Rest.{Rest}
+use Rattle.parts.specs.PartsAt.{two, parts_in, parts_at}
+use Rattle.matched.specs.Counted.{raw_of}
+use Rattle.matched.specs.Alike.{field_end, middle_t}
 use Rattle.matched.proofs.Rows.{same_row}
 use Rattle.matched.proofs.Ends.{At, Stands, item_at, stands_next, item_long_lem, item_end}
 use Rattle.matched.proofs.Agrees.{size, size_cons}
-use Rattle.matched.proofs.Middle.{Left, left_is}
+use Rattle.matched.proofs.Middle.{left_is}
 use Rattle.diff.specs.Written.{entry_t, two_t, fields_t, left_entry, rows_held, right_entry, left_t, right_t, lone_t, code_t, pair_t}
 use Rattle.diff.specs.Run as run
 use Rattle.diff.specs.Run.{pair_bytes, rest_bytes, rest_of, both_bytes, list_t}

@@ -1,5 +1,5 @@
 -- The whole run as the code takes it.
-use Rattle.std.specs.Prelude.{Bool, List, [], ◌++◌, ℕ, ◌-◌, ltb, length, Result, Ok, Err}
+use Rattle.std.specs.Prelude.{Bool, List, ◌++◌, ℕ, ◌-◌, ltb, length, Result, Ok, Err}
 use Rattle.std.proofs.lemmas.List.Edits.{sets}
 use Rattle.kit.specs.Pick.{pick}
 use Rattle.kit.specs.Out.{Out, ◌&◌}

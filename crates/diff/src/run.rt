@@ -14,11 +14,10 @@ ghost use Rattle.diff.specs.Run.{refusing, opening, pair_bytes, rest_bytes, rest
 
 use crate::list::{fields_size, is_pair, put_entry, put_left, put_right};
 use copy::copy;
-use form::header::BadHeader;
 use matched::fields::{Rest, middle};
 use matched::row::same_row;
-use refusal::{NOT_A_FORM, ROOM, ROW_COUNT, Refusal};
-use whole_form::asked::{Asked, claim_of};
+use refusal::{ROOM, Refusal};
+use whole_form::asked::claim_of;
 use whole_form::header::header_at;
 use whole_form::read::read_claim;
 
@@ -141,13 +140,9 @@ fn compare_as(
     requires { setting_of all left.now ≡ some (setting i) }
     ensures { Says (listed all (choice_of choice) left.now right.now (length list.old)) list.old result list.new }
 {
-    match read_claim(left, i) {
-        Err(refusal) => Err(refusal),
-        Ok(_) => match read_claim(right, i) {
-            Err(refusal) => Err(refusal),
-            Ok(_) => list_forms(left, right, header_at(i), choice, list),
-        },
-    }
+    read_claim(left, i)?;
+    read_claim(right, i)?;
+    list_forms(left, right, header_at(i), choice, list)
 }
 
 // Compares two resolved forms: `list` then holds what differs. Bit 0 of the choice ignores places, bit 1 which fresh name it
@@ -155,9 +150,6 @@ fn compare_as(
 pub fn compare(left: &[u8], right: &[u8], choice: u32, list: &mut [u8]) -> Result<u32, Refusal>
     ensures { (meaning result ≡ map_answer bytes_of (listed all (choice_of choice) left.now right.now (length list.old))) × (list.new ≡ list_output all (choice_of choice) left.now right.now list.old) }
 {
-    match claim_of(left) {
-        Err(BadHeader::Wrong) => refused(NOT_A_FORM),
-        Err(BadHeader::Count) => refused(ROW_COUNT),
-        Ok(Asked { setting, .. }) => compare_as(left, right, setting, choice, list),
-    }
+    let asked = claim_of(left)?;
+    compare_as(left, right, asked.setting, choice, list)
 }

@@ -1,5 +1,4 @@
 -- `diff::list::fields_size` meets its contract.
-use Prim.Native.Nat.{◌-◌}
 use borrow.Author.Rules.{rules}
 use Rattle.diff.proofs.Ways.{size_starts, size_stops, size_again, size_done}
 use Rattle.diff.proofs.list.fields_size.Goals as goal

@@ -1,5 +1,4 @@
 -- `diff::list::put_left` meets its contract.
-use Prim.Native.Nat.{◌-◌}
 use borrow.Author.Rules.{rules}
 use Rattle.diff.proofs.Ways.{goes_starts, goes_stops, ends_stops, goes_done, ends_done, left_room, left_again}
 use Rattle.diff.proofs.list.put_left.Goals as goal

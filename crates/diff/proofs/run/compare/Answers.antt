@@ -1,15 +1,13 @@
 -- `diff::run::compare` meets its contract.
-use Rattle.diff.proofs.Agrees.{ways, says}
+use Rattle.diff.proofs.Agrees.{ways, says, asked_bad}
 use Rattle.diff.proofs.run.compare.Goals as goal
 
+pub returns-in_err-asked : goal.returns-in_err-asked
+returns-in_err-asked c =
+    says _ _ _ _ _ _ (asked_bad _ _ _ _ _ c.claim_of.ensures _ c.in_err-asked.was _ c.from_residual.ensures.1)
+
 pub compare_as-requires : goal.compare_as-requires
-compare_as-requires c = search ways
+compare_as-requires c = search (ways, c.in_ok-asked.was)
 
-pub returns-in-Err-Wrong : goal.returns-in-Err-Wrong
-returns-in-Err-Wrong c = says _ _ _ _ _ _ (search ways)
-
-pub returns-in-Err-Count : goal.returns-in-Err-Count
-returns-in-Err-Count c = says _ _ _ _ _ _ (search ways)
-
-pub returns-in-Ok : goal.returns-in-Ok
-returns-in-Ok c = says _ _ _ _ _ _ (search ways)
+pub returns : goal.returns
+returns c = says _ _ _ _ _ _ (search ways)
