@@ -13,7 +13,6 @@ use Rattle.rules.specs.Tools.{when◌then◌else◌, only, ◌then◌, is_in}
 use Rattle.rules.specs.Versions.{RuleSet}
 use Rattle.rules.specs.Rows.{Row, Field, Open, Close, encode}
 use Rattle.rules.specs.Tree.{Declaration, Operand, ref, outer, case, Head, Scope, scope, Fields, end, ◌▸◌, Item, plain, holds, head_of, flatten, fields_rows, item_rows, head_rows, decl_rows, path_rows, operand_row, operand_rows, export_rows}
-use Rattle.rules.specs.Shapes
 use Rattle.rules.specs.Shapes.{Want, Part, one, parts, next, complete}
 use Rattle.rules.specs.Good.{after_operand, after_operands, GoodHead, GoodScope, GoodFields, GoodItem}
 use Rattle.rules.specs.Rules.{fresh}

@@ -1,5 +1,4 @@
 -- `batch_parts::adds_up` meets its contract. The invariant: the lengths that are left add up to what is left exactly if all add up to the total.
-use Prim.Native.Nat.{◌-◌}
 use Rattle.batch_parts.proofs.Ways.{add_ways}
 use Rattle.batch_parts.proofs.adds_up.Goals as goal
 

@@ -1,5 +1,4 @@
 -- `batch_parts::member_at` meets its contract. The invariant: the member is the same one of those that are left.
-use Prim.Native.Nat.{◌-◌}
 use borrow.Author.Rules.{rules}
 use Rattle.batch_parts.proofs.Ways.{member_ways}
 use Rattle.batch_parts.proofs.member_at.Goals as goal

@@ -1,5 +1,4 @@
 -- `slots::all_named` meets its contract. The invariant: what the slots that are left say is what all say.
-use Prim.Native.Nat.{◌-◌}
 use Rattle.slots.proofs.Ways.{sound_ways}
 use Rattle.slots.proofs.all_named.Goals as goal
 

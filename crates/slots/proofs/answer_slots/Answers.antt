@@ -1,5 +1,4 @@
 -- `slots::answer_slots` meets its contract. The invariant: with the answers to the slots that are left it is the whole answer.
-use Prim.Native.Nat.{◌-◌}
 use borrow.Author.Rules.{rules}
 use Rattle.slots.proofs.Ways.{list_ways, answered_turn}
 use Rattle.slots.proofs.answer_slots.Goals as goal
