@@ -1,5 +1,5 @@
 -- In the table of all declarations each scope's are found by their numbers.
-use Rattle.std.specs.Prelude.{◌≡◌, Bool, true, false, ◌⊎◌, ℕ, zero, suc, ◌+◌, ◌*◌, ◌%◌, ◌<◌, ◌≤◌, eqb, ltb, Option as CodeOption, Some, None}
+use Rattle.std.specs.Prelude.{◌≡◌, Bool, true, false, ◌⊎◌, ℕ, zero, suc, ◌+◌, ◌*◌, ◌%◌, ◌<◌, ◌≤◌, eqb, ltb, Option as CodeOption, Some, None, unwrap_or}
 use Rattle.std.proofs.Math.Path.{refl}
 use Rattle.std.proofs.Common.{sym, ap, ◌∙◌, subst, inl, inr, ⊎_elim, eq-eqb, ne_eqb, eqb-true, ltb-false}
 use Rattle.std.proofs.Math.Option.{Option, none, some}
@@ -19,12 +19,12 @@ use Rattle.agree.specs.Fit.Spaces.{SpacesDecls}
 use Rattle.agree.specs.Fit.GoodSpaces.{head_decls}
 use Rattle.names.specs.Table.{Slot, space_of, name_of, number_of, find_in}
 use Rattle.parts.specs.declared.Parts.{Parts}
-use Rattle.claim_scopes.specs.Entries.{entry_key_t, slot_t, entry_of, look_t}
+use Rattle.claim_scopes.specs.Entries.{entry_key_t, slot_t, look_t}
 use Rattle.claim_laws.specs.RowParts.{scope_size, fields_size}
 use Rattle.claim_laws.specs.Keys.{or_found, find_append, find_other, Other, other_first, other_last, Of, Within, wider, key_is, key_within, outside}
 use Rattle.back_notes.specs.Note.{note}
 use Rattle.back_notes.specs.Names
-use Rattle.back_notes.specs.Names.{value_t, name_of_t}
+use Rattle.back_notes.specs.Names.{name_of_t}
 use Rattle.back_laws.specs.Notes.{row_out, inner_rows, item_length, inner_length, more_names, fewer_names, decls_few, own_head}
 use Rattle.back_laws.specs.Entered.{decl_slots, scope_slots, fields_slots, item_slots}
 
@@ -333,19 +333,10 @@ past_names [] m h = refl
 past_names (x ∷ xs) zero h = absurd (omega arith)
 past_names (x ∷ xs) (suc m) h = past_names xs m (omega arith)
 
-unfoldable value_of : CodeOption ℕ → ℕ
-value_of (Some v) = v
-value_of None = 0
-
-value_found : (o : Option ℕ) → value_of (found_of o) ≡ or_zero o
-unfolding value_of found_of or_zero
+value_found : (o : Option ℕ) → unwrap_or (found_of o) 0 ≡ or_zero o
+unfolding found_of or_zero
 value_found none = refl
 value_found (some n) = refl
-
-value_entry : (f : CodeOption ℕ) → value_t (entry_of f) ≡ value_of f
-unfolding value_t entry_of value_of
-value_entry (Some v) = refl
-value_entry None = refl
 
 by_number_lem : (all : List Slot) (k : ℕ) (ds : List Declaration) (space m : ℕ) → Sound all → Stand all k ds → space < 13 → find_in all (entry_key_t k space) (Names.key_t m) ≡ found_of (get_elem? (names_in ds space) m)
 unfolding Names.key_t found_of pick
@@ -360,9 +351,9 @@ by_number_lem all k ds space m S T h = go (ltb m 65535) refl
         rw (past_names (names_in ds space) m (omega arith)) (S.named (entry_key_t k space))
 
 outward : (all : List Slot) (ks : List ℕ) (tables : List (List Declaration)) (space d m : ℕ) → Sound all → Open all ks tables → space < 13
-    → value_of (find_in all (entry_key_t (row_out ks d) space) (Names.key_t m)) ≡ name_out tables space d m
+    → unwrap_or (find_in all (entry_key_t (row_out ks d) space) (Names.key_t m)) 0 ≡ name_out tables space d m
 unfolding row_out name_out ◌then◌
-outward all [] [] space d m S o h = rw (S.low space (Names.key_t m) h) (unfold value_of or_zero in refl)
+outward all [] [] space d m S o h = rw (S.low space (Names.key_t m) h) (unfold or_zero in refl)
 outward all [] (t ∷ ts) space d m S o h = absurd o
 outward all (k ∷ ks) [] space d m S o h = absurd o
 outward all (k ∷ ks) (t ∷ ts) space zero m S o h = rw (by_number_lem all k t space m S o.0 h) (value_found (get_elem? (names_in t space) m))
@@ -371,4 +362,4 @@ outward all (k ∷ ks) (t ∷ ts) space (suc d) m S o h = outward all ks ts spac
 -- THE NAME that is noted of an OUTER is that of the item that it counts to.
 pub outer_named : (all : List Slot) (ks : List ℕ) (tables : List (List Declaration)) (p : Parts) → Sound all → Open all ks tables → p.b < 13 → name_of_t all p (note 0 (row_out ks p.x)) ≡ name_out tables p.b p.x p.y
 unfolding name_of_t look_t
-outer_named all ks tables p S o h = value_entry (find_in all (entry_key_t (row_out ks p.x) p.b) (Names.key_t p.y)) ∙ outward all ks tables p.b p.x p.y S o h
+outer_named all ks tables p S o h = outward all ks tables p.b p.x p.y S o h

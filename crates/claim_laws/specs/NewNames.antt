@@ -1,5 +1,5 @@
 -- Condition 3: on the rows of a claim the code finds the row that the rules name.
-use Rattle.std.specs.Prelude.{◌≡◌, Bool, ◌&&◌, ◌||◌, eqb, leb, ltb, Option as CodeOption, Some, None, Result, Ok, Err, ⊤, ℕ}
+use Rattle.std.specs.Prelude.{◌≡◌, Bool, ◌&&◌, ◌||◌, eqb, leb, ltb, Option as CodeOption, Some, None, Result, Ok, Err, ⊤, ℕ, is_some}
 use Rattle.std.proofs.Math.Path.{refl, sym, ap}
 use Rattle.std.proofs.Common.{ap₂, ◌∙◌, lt-ltb, le-ltb, eq-eqb, ne_eqb, eqb-true}
 use Rattle.std.proofs.Math.Bool.{true, false, not}
@@ -31,8 +31,8 @@ use Rattle.checking.specs.Check.{is_number, has_numbers, not_new, not_number, no
 use Rattle.checking.proofs.Laws.AddedFields.{closed}
 use Rattle.claim_rows.specs.Added.{any_fresh, is_added_t}
 use Rattle.claim_scopes.specs.Open.{open_scope_t, row_in, here_t, open_closed_t, open_one_t}
-use Rattle.claim_scopes.specs.Entries.{entry_key_t, slot_t, entry_of, look_t, enter_t}
-use Rattle.claim_aliases.specs.Aliases.{is_alias, alias_new_t, is_value, is_known, alias_breaks_t, name_slot, alias_names_t, Names, try_aliases_t}
+use Rattle.claim_scopes.specs.Entries.{entry_key_t, slot_t, look_t, enter_t}
+use Rattle.claim_aliases.specs.Aliases.{is_alias, alias_new_t, is_known, alias_breaks_t, name_slot, alias_names_t, Names, try_aliases_t}
 use Rattle.claim_laws.specs.RowParts.{as_parts, all_parts, code_in, NoDecl, behind_field, operands_no_decl, any_fresh_lem, fields_no_decl, scope_no_decl, Inner, inner, inner_behind, scope_size, fields_size, holds_size, head_size, item_size}
 use Rattle.claim_laws.specs.Keys.{or_found, find_append, find_other, other_last, Other, Of, Within, wider, key_is, key_within, outside}
 use Rattle.claim_laws.specs.AliasShape.{good_head, alias_size, OneDecl, AliasOf, of_export, of_outer, one_declared, alias_of_lem}
@@ -66,26 +66,17 @@ few D = let l = D.space in omega arith
 
 -- ---- what is known of names
 
-is_found : CodeOption ℕ → Bool
-is_found (Some v) = true
-is_found None = false
-
-value_found : (f : CodeOption ℕ) → is_value (entry_of f) ≡ is_found f
-unfolding is_value entry_of is_found
-value_found (Some v) = refl
-value_found None = refl
-
-found_or : (f g : CodeOption ℕ) → is_found (or_found f g) ≡ is_found f || is_found g
-unfolding is_found or_found
+found_or : (f g : CodeOption ℕ) → is_some (or_found f g) ≡ is_some f || is_some g
+unfolding or_found
 found_or (Some v) g = refl
 found_or None g = refl
 
 -- of the scope whose OPEN is row k: its DECLs so far are `past`, and the slots that are used are `ss`
 record Known (k : ℕ) (past : List Declaration) (ss : List Slot) : Type 0 where
-  known : (space name : ℕ) → space < 256 → is_fresh name ≡ true → is_found (find_in ss (entry_key_t k space) (alias_new_t name)) ≡ has past space name
+  known : (space name : ℕ) → space < 256 → is_fresh name ≡ true → is_some (find_in ss (entry_key_t k space) (alias_new_t name)) ≡ has past space name
 
 known_none : (k : ℕ) (ss : List Slot) → k < 65536 → Within 0 k ss → Known k [] ss
-unfolding has is_found
+unfolding has
 known_none k ss l w = record { known = λ space name h f. rw (find_other ss (entry_key_t k space) (alias_new_t name) ((outside 0 k k space ss l h w).1 (omega arith))) }
 
 known_inner : (k lo hi : ℕ) (past : List Declaration) (ss new : List Slot) → k < 65536 → k < lo → Within lo hi new → Known k past ss → Known k past (ss ++ new)
@@ -123,8 +114,8 @@ same_eqb a b c d f g = go (eqb a b) (eqb c d) refl refl
     go false true p q = sym p ∙ eq-eqb a b (g (eqb-true c d q))
     go false false p q = refl
 
-found_one : (t u : Bool) (v : ℕ) → is_found (pick t (pick u (Some v) None) None) ≡ t && u
-unfolding is_found pick
+found_one : (t u : Bool) (v : ℕ) → is_some (pick t (pick u (Some v) None) None) ≡ t && u
+unfolding pick
 found_one true true v = refl
 found_one true false v = refl
 found_one false u v = refl
@@ -133,7 +124,7 @@ known_new : (k : ℕ) (past : List Declaration) (d : Declaration) (ss : List Slo
 unfolding has is_fresh decl_slot slot_t find_in
 known_new k past d ss l s e g = record { known = go }
   where
-    go : (space name : ℕ) → space < 256 → leb 2147483648 name ≡ true → is_found (find_in (ss ++ (decl_slot k d ∷ [])) (entry_key_t k space) (alias_new_t name)) ≡ has (past ++ (d ∷ [])) space name
+    go : (space name : ℕ) → space < 256 → leb 2147483648 name ≡ true → is_some (find_in (ss ++ (decl_slot k d ∷ [])) (entry_key_t k space) (alias_new_t name)) ≡ has (past ++ (d ∷ [])) space name
     go space name h f =
         let a = leb_le 2147483648 d.name e in
         let b = leb_le 2147483648 name f in
@@ -214,7 +205,7 @@ module _ (room : ℕ) where
   -- its DECL
   decl_breaks : (k : ℕ) (past : List Declaration) (ss : List Slot) (d : Declaration) → d.space < 256 → is_fresh d.name ≡ true → Known k past ss → alias_breaks_t true ss k (as_parts (Decl d.space d.name d.z)) ≡ is_just (find past d.space d.name)
   unfolding alias_breaks_t as_parts encode pick is_known look_t
-  decl_breaks k past ss d l f g = value_found (find_in ss (entry_key_t k d.space) (alias_new_t d.name)) ∙ (g.known d.space d.name l f ∙ sym (find_has past d.space d.name))
+  decl_breaks k past ss d l f g = g.known d.space d.name l f ∙ sym (find_has past d.space d.name)
 
   decl_names : (k : ℕ) (ss : List Slot) (d : Declaration) → length ss < room → alias_names_t room true ss k (as_parts (Decl d.space d.name d.z)) ≡ ss ++ (decl_slot k d ∷ [])
   unfolding alias_names_t as_parts encode pick name_slot decl_slot enter_t

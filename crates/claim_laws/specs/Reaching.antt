@@ -25,7 +25,7 @@ use Rattle.checking.specs.Check
 use Rattle.checking.specs.Check.{is_number, has_numbers, not_number, ref_number, first, same, same_pair, reached, through_outer, through_export, through_paths, plainly}
 use Rattle.checking.proofs.Laws.Plainly.{plain_table}
 use Rattle.claim_scopes.specs.Open.{open_scope_t, name_in, row_in}
-use Rattle.claim_scopes.specs.Entries.{entry_key_t, entry_of, look_t}
+use Rattle.claim_scopes.specs.Entries.{entry_key_t, look_t}
 use Rattle.claim_reach.specs.Alias.{reach_counted_t, reached_t, reach_code_t, export_code, outer_at, export_at, outer_in, export_in, through_outer_t, through_export_t}
 use Rattle.claim_reach.specs.Outward.{or_further, reach_out_t}
 use Rattle.claim_reach.specs.declared.alias.Sought.{Sought}
@@ -48,8 +48,8 @@ unfoldable pub met_at : Option (ℕ × ℕ) → CodeOption Met
 met_at none = None
 met_at (some at) = Some (record { out = at.0; number = at.1 })
 
-entry_number : (o : Option ℕ) → entry_of (number_from 0 o) ≡ entered o
-unfolding entry_of number_from entered
+entry_number : (o : Option ℕ) → number_from 0 o ≡ entered o
+unfolding number_from entered
 entry_number none = refl
 entry_number (some n) = ap Some (omega arith)
 
@@ -111,8 +111,8 @@ module _ (claim : List ℕ) where
           let S = alias_rows r h A.decl (outer space (Num d) (Num n) z) none (Outer space (Num d) (Num n) z) A.alone (unfold operand_row in refl) o' x s in
           outer_there r h space d n z S.0 S.1.0 c o'
 
-  outer_reached : (f : CodeOption ℕ) (o : Option Head) → AliasAt (parts_at claim) f o → outer_in claim (entry_of f) ≡ met_at (o then outer_of)
-  unfolding outer_in entry_of ◌then◌
+  outer_reached : (f : CodeOption ℕ) (o : Option Head) → AliasAt (parts_at claim) f o → outer_in claim f ≡ met_at (o then outer_of)
+  unfolding outer_in ◌then◌
   outer_reached None none nowhere = unfold met_at in refl
   outer_reached (Some n) (some g) (there r h s A) = outer_alias_lem r h s A
   outer_reached (Some n) none x'' = elim x'' [ ]
@@ -169,8 +169,8 @@ module _ (claim : List ℕ) where
           export_there r h from N.0 z nm space name S.0 S.1.0 (stands_export (suc (suc (suc r))) nm S.1.1) o' x
       go (of_outer space' up at z o x c) = export_other r h space name (alias_rows r h A.decl (outer space' up at z) none (Outer space' up at z) A.alone (unfold operand_row in refl) o x s).0 c
 
-  export_reached : (f : CodeOption ℕ) (o : Option Head) (space name : ℕ) → AliasAt (parts_at claim) f o → export_in claim space name (entry_of f) ≡ entered (o then export_of space name)
-  unfolding export_in entry_of ◌then◌
+  export_reached : (f : CodeOption ℕ) (o : Option Head) (space name : ℕ) → AliasAt (parts_at claim) f o → export_in claim space name f ≡ entered (o then export_of space name)
+  unfolding export_in ◌then◌
   export_reached None none space name nowhere = unfold entered in refl
   export_reached (Some n) (some g) space name (there r h s A) = export_alias_lem r h space name s A
   export_reached (Some n) none space name x'' = elim x'' [ ]
@@ -231,7 +231,7 @@ module _ (claim : List ℕ) (ss : List Slot) (used : ℕ) where
 
   pub known_name : (k : ℕ) (fs : Fields) (space name : ℕ) → Knows k fs → space < 256 → name ≤ top_name → look_t ss k space name ≡ entered (find (declarations fs) space name)
   unfolding look_t
-  known_name k fs space name K w l = ap entry_of (K.names space name w l) ∙ entry_number (find (declarations fs) space name)
+  known_name k fs space name K w l = K.names space name w l ∙ entry_number (find (declarations fs) space name)
 
   row_behind : (k : ℕ) → suc k < 65536 → k % 65536 + 1 ≡ k + 1
   row_behind k l = omega arith
