@@ -1,6 +1,5 @@
 -- `row_parts::inserted_in` meets its contract. The invariant: the count from here on is the whole count.
 use mathlib.Core.Path.{◌∙◌}
-use Prim.Native.Nat.{◌-◌}
 use borrow.Author.Rules.{rules}
 use Rattle.row_parts.proofs.PartLaws.{inserted_ways, inserted_turn, count_on_lem}
 use Rattle.row_parts.proofs.inserted_in.Goals as goal

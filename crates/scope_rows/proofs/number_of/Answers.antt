@@ -1,6 +1,5 @@
 -- `scope_rows::number_of` meets its contract. The invariant: the count from here on is the whole count.
 use mathlib.Core.Path.{◌∙◌}
-use Prim.Native.Nat.{◌-◌}
 use borrow.Author.Rules.{rules}
 use Rattle.row_parts.proofs.PartLaws.{count_on_lem}
 use Rattle.scope_rows.proofs.LevelLaws.{number_ways, number_turn, level_on_lem}
