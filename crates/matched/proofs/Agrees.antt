@@ -1,28 +1,24 @@
 -- What the code finds alike in the rows of two forms is what the rules find alike in their fields.
 use mathlib.Core.Path.{◌≡◌, refl, sym, ap, ap₂, ◌∙◌}
 use mathlib.Core.Bool.{Bool, true, false, ◌&&◌, and-true, and_assoc}
-use mathlib.Core.List.{List, [], ◌∷◌, ◌++◌, map, append-nil, append_assoc, reverse, reverse-cons, reverse-append}
+use mathlib.Core.List.{List, [], ◌∷◌, ◌++◌, map, reverse, reverse-cons}
 use Prim.Native.Nat.{ℕ, zero, suc, ◌+◌, ◌-◌, ◌/◌, ◌<◌, ◌≤◌}
 use native.Mathlib.Omega.{arith}
 use lib.Dec.{eqb, leb, ltb}
-use lib.ListN.{length, take, drop, length-append, length-map, length-reverse, length-drop, take-append-drop}
-use lib.Seq.{take_at}
-use borrow.Author.Tests.{lt-ltb, le-ltb, le-leb, lt-leb, eq-eqb, ne_eqb, eqb-true, eqb-false}
+use lib.ListN.{length, take, drop, length-append, length-map}
+use borrow.Author.Tests.{lt-ltb, le-leb, lt-leb, eqb-true, eqb-false}
 use Rattle.kit.specs.Pick.{pick}
-use Rattle.kit.proofs.Laws.{lt_or_le}
 use Rattle.rules.specs.Tools.{when◌then◌else◌}
-use Rattle.rules.specs.Rows.{Raw, raw, Row, Close, encode}
+use Rattle.rules.specs.Rows.{Raw, raw, Row, encode}
 use Rattle.rules.specs.Tree.{Item, item_rows}
 use Rattle.rules.specs.Answer.{same_numbers}
-use Rattle.rules.specs.Laws.ToolLaws.{false_not}
 use Rattle.comparing.specs.Compare.{Choice, blur, six_parts, rows_parts, same}
 use Rattle.comparing.specs.Laws.SameRows.{same_equal}
 use Rattle.comparing.specs.Laws.FieldsFromRows.{items_rows}
-use Rattle.comparing.proofs.Laws.Backward.{alikes, common, fitting, back_rows, backward}
+use Rattle.comparing.proofs.Laws.Backward.{alikes}
 use Rattle.parts.specs.PartsAt.{parts_at}
-use Rattle.matched.specs.declared.fields.Rest.{Rest}
-use Rattle.matched.specs.Counted.{raw_of, same_t}
-use Rattle.matched.specs.Alike.{end_behind, same_run_t, same_field_t, next_t, front_t, more_t, back_t, tail_t, rest_from, front_of, end_of, middle_t}
+use Rattle.matched.specs.Counted.{same_t}
+use Rattle.matched.specs.Alike.{same_run_t, same_field_t, next_t, front_t}
 use Rattle.matched.proofs.Rows.{same_row}
 use Rattle.matched.proofs.Ends.{At, Stands, item_at, stands_next, item_long_lem, item_end}
 

@@ -1,17 +1,17 @@
 -- A row as the code counts it is the rules' row as it counts.
-use mathlib.Core.Path.{◌≡◌, refl, sym, ap, ◌∙◌}
+use mathlib.Core.Path.{◌≡◌, refl, ◌∙◌}
 use mathlib.Core.Bool.{Bool, true, false, ◌&&◌, ◌||◌, and-true}
-use mathlib.Core.List.{List, [], ◌∷◌, ◌++◌, append-nil}
+use mathlib.Core.List.{List, [], ◌∷◌, ◌++◌}
 use Prim.Native.Nat.{ℕ, zero, suc, ◌/◌, ◌%◌, ◌<◌, ◌≤◌}
 use native.Mathlib.Omega.{arith}
-use lib.Dec.{eqb, ltb}
+use lib.Dec.{eqb}
 use borrow.Author.Rules.{rules}
 use borrow.Author.Tests.{lt-ltb, le-ltb, eq-eqb, ne_eqb}
 use Rattle.kit.specs.Pick.{pick}
 use Rattle.rules.specs.Tools.{when◌then◌else◌}
-use Rattle.rules.specs.Rows.{Raw, raw, Row, encode}
+use Rattle.rules.specs.Rows.{Row, encode}
 use Rattle.rules.specs.Answer.{same_numbers}
-use Rattle.comparing.specs.Compare.{Choice, blur_place, blur_name, blur, six_parts, rows_parts, same}
+use Rattle.comparing.specs.Compare.{Choice, blur_place, blur_name, six_parts, rows_parts, same}
 use Rattle.comparing.specs.Laws.Parts.{is_name_x, is_name_y, blur_parts, blur_parts_lem}
 use Rattle.parts.specs.PartsAt.{parts, parts_at}
 use Rattle.parts.specs.declared.Parts.{Parts}

@@ -1,15 +1,15 @@
 -- Each turn of a loop keeps what its twin finds.
-use mathlib.Core.Path.{◌≡◌, refl, sym, ap, ◌∙◌}
+use mathlib.Core.Path.{◌≡◌, refl, sym, ◌∙◌}
 use mathlib.Core.Bool.{Bool, true, false, not}
 use mathlib.Core.List.{List}
 use Prim.Native.Nat.{ℕ, zero, suc, ◌+◌, ◌-◌, ◌/◌, ◌<◌, ◌≤◌}
 use native.Mathlib.Omega.{arith}
-use lib.Dec.{eqb, leb, ltb}
+use lib.Dec.{leb}
 use lib.ListN.{length}
 use borrow.Author.Rules.{rules}
 use borrow.Author.Tests.{leb-false, lt-ltb, le-ltb, le-leb, lt-leb, eq-eqb, ne_eqb}
 use Rattle.kit.specs.Pick.{pick}
-use Rattle.kit.proofs.Laws.{left_suc, down_suc}
+use Rattle.kit.proofs.Laws.{left_suc}
 use Rattle.parts.specs.PartsAt.{parts_at}
 use Rattle.parts.specs.declared.Parts.{Parts}
 use Rattle.rules.specs.Laws.ToolLaws.{false_not}
@@ -67,9 +67,12 @@ module _ (l : List ℕ) (n T : ℕ) where
       let t : is_behind d (code_of l j) ≡ false = rw (← e) (sym f ∙ g) in
       rw (q, e) (rw (left_suc j n h, t) at inv)
 
-  pub end_done : (j d : ℕ) → end_t l j d (n - j) ≡ T → n ≤ j → j ≡ T
+  pub end_done : (j d : ℕ) → end_t l j d (n - j) ≡ T → n ≤ j → j ≤ n → n ≡ T
   unfolding end_t
-  end_done j d inv h = let e : n - j ≡ 0 = omega arith in rw e at inv
+  end_done j d inv h g =
+      let e : n - j ≡ 0 = omega arith in
+      let f : n ≡ j = omega arith in
+      f ∙ (rw e at inv)
 
 pub ruleset ends = (end_found, end_turn, end_done, rules)
 
@@ -245,6 +248,8 @@ module _ (l : List ℕ) (same : ℕ) where
         go : (most : ℕ) → length l / 16 ≤ i + most → tail_t l same i most ≡ T → TailGoes l same e T
         go zero n w = absurd (omega arith)
         go (suc k) n w = record { most = k; enough = omega arith; goes = rw q (rw (lt-ltb _ _ h) at w) }
+
+pub ruleset backs = (more_room, back_starts, back_done, back_other, back_turn, rules)
 
 pub ruleset tails = (tail_starts, tail_done, tail_again, rules)
 

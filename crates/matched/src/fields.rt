@@ -45,22 +45,21 @@ fn code_at(rows: &[u8], i: usize) -> u8
 }
 
 // The row behind the field whose rows go on from here.
+#[tactic(auto, using(crate::proofs::Ways::ends))]
 fn end_from(rows: &[u8], from: usize) -> usize
     requires { from ≤ length rows.now / 16 }
     ensures { (result ≡ end_t rows.now from 0 (length rows.now / 16 - from)) × (from ≤ result) × (result ≤ length rows.now / 16) }
 {
     let n = rows.len() / 16;
     let mut depth = 0;
-    let mut j = from;
-    while j < n {
+    for j in from..n {
         let code = code_at(rows, j);
         if is_behind(depth, code) {
             return j;
         }
         depth = depth_behind(depth, code);
-        j += 1;
     }
-    j
+    n
 }
 
 // The row behind the field that begins at i.
@@ -74,15 +73,14 @@ pub fn field_end(rows: &[u8], i: usize) -> usize
 }
 
 // Whether the rows from here up to there are the same in both.
+#[tactic(auto, using(crate::proofs::Ways::runs))]
 fn same_run(left: &[u8], right: &[u8], from: usize, to: usize, choice: u32) -> bool
     ensures { result ≡ same_run_t (choice_of choice) left.now right.now from (to - from) }
 {
-    let mut i = from;
-    while i < to {
+    for i in from..to {
         if !same_row(left, i, right, i, choice) {
             return false;
         }
-        i += 1;
     }
     true
 }
@@ -148,19 +146,18 @@ fn one_more(left: &[u8], right: &[u8], from: usize, same: usize, choice: u32) ->
 }
 
 // How many rows before the root's CLOSE are the same, none of them before this row.
+#[tactic(auto, using(crate::proofs::Ways::backs))]
 fn back(left: &[u8], right: &[u8], from: usize, choice: u32) -> usize
     requires { from ≤ length left.now / 16 }
     ensures { (result ≡ back_t (choice_of choice) left.now right.now from 0 (length left.now / 16 - (from + 1))) × (result ≤ length left.now / 16 - (from + 1)) × (result ≤ length right.now / 16 - (from + 1)) }
 {
-    let m = left.len() / 16;
-    let mut same = 0;
-    while from + 1 + same < m {
+    let most = (left.len() / 16).saturating_sub(from + 1);
+    for same in 0..most {
         if !one_more(left, right, from, same, choice) {
             return same;
         }
-        same += 1;
     }
-    same
+    most
 }
 
 // The first field of the left, from this row on, with this many rows or fewer from it to the root's CLOSE.

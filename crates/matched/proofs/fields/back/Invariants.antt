@@ -7,7 +7,4 @@ use Rattle.matched.specs.Alike.{back_t}
 use Rattle.matched.proofs.fields.back.Given as goal
 
 abbrev pub invariant-loop-same : goal.invariant-loop-same
-invariant-loop-same l = (back_t (choice_of l.choice) l.left l.right l.from l.same (length l.left / 16 - (l.from + 1) - l.same) ≡ back_t (choice_of l.choice) l.left l.right l.from 0 (length l.left / 16 - (l.from + 1))) × (l.same ≤ l.m - (l.from + 1)) × (l.same ≤ length l.right / 16 - (l.from + 1))
-
-abbrev pub decreases-loop-same : goal.decreases-loop-same
-decreases-loop-same l = l.m - l.same
+invariant-loop-same l = (back_t (choice_of l.choice) l.left l.right l.from l.same (length l.left / 16 - (l.from + 1) - l.same) ≡ back_t (choice_of l.choice) l.left l.right l.from 0 (length l.left / 16 - (l.from + 1))) × (l.same ≤ length l.right / 16 - (l.from + 1))

@@ -1,5 +1,4 @@
 -- `matched::fields::front` meets its contract.
-use Prim.Native.Nat.{◌-◌}
 use borrow.Author.Rules.{rules}
 use Rattle.matched.proofs.Ways.{front_starts, front_done, front_other, front_again}
 use Rattle.matched.proofs.fields.front.Goals as goal

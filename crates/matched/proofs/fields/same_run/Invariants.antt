@@ -7,6 +7,3 @@ use Rattle.matched.proofs.fields.same_run.Given as goal
 
 abbrev pub invariant-loop-i : goal.invariant-loop-i
 invariant-loop-i l = same_run_t (choice_of l.choice) l.left l.right l.i (l.to - l.i) ≡ same_run_t (choice_of l.choice) l.left l.right l.from (l.to - l.from)
-
-abbrev pub decreases-loop-i : goal.decreases-loop-i
-decreases-loop-i l = l.to - l.i

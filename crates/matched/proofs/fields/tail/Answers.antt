@@ -1,5 +1,4 @@
 -- `matched::fields::tail` meets its contract.
-use Prim.Native.Nat.{◌-◌}
 use borrow.Author.Rules.{rules}
 use Rattle.matched.proofs.Ways.{tails}
 use Rattle.matched.proofs.fields.tail.Goals as goal
