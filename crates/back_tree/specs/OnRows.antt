@@ -1,5 +1,5 @@
 -- The rows of an output in bytes: after both passes they have the notes of their tree, and what is written for them is the unresolved tree.
-use Rattle.std.specs.Prelude.{◌≡◌, Bool, ℕ, suc, ◌+◌, ◌-◌, ◌*◌, ◌/◌, ◌%◌, ◌<◌, ◌≤◌, eqb, get_or, set, drop, None}
+use Rattle.std.specs.Prelude.{◌≡◌, Bool, ℕ, suc, ◌+◌, ◌-◌, ◌*◌, ◌/◌, ◌%◌, ◌<◌, ◌≤◌, eqb, get_or, set, drop, None, Option}
 use Rattle.std.proofs.Math.Path.{refl, sym, ap}
 use Rattle.std.proofs.Common.{◌∙◌, subst, drop_at, ne_eqb}
 use Rattle.std.proofs.Math.Bool.{true, false}
@@ -81,7 +81,7 @@ unfolding find_in pick
 none_named [] key done = refl
 none_named (s ∷ ss) key (h also p) = rw (ne_eqb (name_of s) 0 (omega arith), none_named ss key p) (go (eqb (space_of s) key))
   where
-    go : (t : Bool) → pick t None None ≡ None
+    go : (t : Bool) → ◌≡◌ {A = Option ℕ} (pick t None None) None
     go true = refl
     go false = refl
 

@@ -10,6 +10,7 @@ use claim_numbers::enter::enter_all;
 use claim_operands::run::try_operands;
 use claim_rows::same::try_rows;
 use names::Slot;
+use refusal::Refusal;
 
 // The condition is broken, first at this row.
 fn no(condition: u8, row: usize) -> Result<Verdict, Refusal>
