@@ -2,7 +2,7 @@
 use Rattle.std.specs.Prelude.{Result, Ok, Err, ℕ}
 use mathlib.Core.Path.{◌≡◌, refl, sym, ap, ◌∙◌}
 use mathlib.Core.Bool.{Bool, true, false, ◌||◌, not}
-use mathlib.Core.Option.{Option, none, some}
+use mathlib.Core.Option.{Option, none}
 use mathlib.Core.List.{List, [], ◌∷◌}
 use native.Mathlib.Omega.{arith}
 use Prim.Native.Nat.{ℕ, zero, suc, ◌+◌, ◌*◌, ◌≤◌, ◌<◌}
@@ -13,7 +13,7 @@ use Rattle.rules.specs.Tools.{when◌then◌else◌, between, only, ◌or_else�
 use Rattle.rules.specs.Versions.{Setting, all}
 use Rattle.rules.specs.Answer.{has_header, setting_of, row_count, answer_inside, answer, output_inside, output}
 use Rattle.limits.specs.declared.Limits.{Limits}
-use Rattle.limits.specs.Held.{setting_in, limits_of, setting}
+use Rattle.limits.specs.Held.{limits_of, setting}
 use Rattle.limits.proofs.Laws.{stand_for}
 use Rattle.form.specs.Header.{header_in, header_for, header_to}
 use Rattle.form.specs.declared.header.BadHeader.TheVariants.{Wrong, Count}

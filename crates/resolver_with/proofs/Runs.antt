@@ -16,14 +16,12 @@ use Rattle.kit.specs.Out.{◌&◌}
 use Rattle.rules.specs.Tools.{when◌then◌else◌}
 use Rattle.rules.specs.Versions.{Version, Setting, version2, newer}
 use Rattle.rules.specs.Answer.{answer, output}
-use Rattle.rules.specs.Laws.RowLaws.{Bytes}
 use Rattle.refusal.specs.declared.Refusal.{Refusal}
 use Rattle.limits.specs.declared.Limits.{Limits}
 use Rattle.limits.specs.Held.{limits_of, setting}
 use Rattle.limits.proofs.Laws.{few_rows}
 use Rattle.form.specs.MarkEnds.{ends_to}
 use Rattle.names.specs.Table.{Slot, empty_slot, no_scope}
-use Rattle.write.specs.WriteState.{Wrote}
 use Rattle.write.specs.declared.alias.WriteState.{WriteState}
 use Rattle.walk.specs.Scopes.{scope_walk_t, start_in}
 use Rattle.walk.specs.Open.{Served, Stacked}

@@ -1,23 +1,21 @@
 -- Ways through the areas' sizes, and what is left of an area whose front is zeroed.
-use mathlib.Core.Path.{◌≡◌, refl, sym, ap, ◌∙◌}
-use mathlib.Core.Bool.{Bool, true, false, ◌&&◌}
+use mathlib.Core.Path.{◌≡◌, sym, ap, ◌∙◌}
+use mathlib.Core.Bool.{true, false}
 use mathlib.Core.Logic.{◌⊎◌, inl, inr}
-use mathlib.Core.List.{List, [], ◌∷◌, ◌++◌}
+use mathlib.Core.List.{List, ◌++◌}
 use native.Mathlib.Omega.{arith}
-use native.Mathlib.Numerals.{add-one}
-use Prim.Native.Nat.{ℕ, zero, suc, ◌+◌, ◌-◌, ◌≤◌, ◌<◌}
+use Prim.Native.Nat.{ℕ, ◌-◌, ◌≤◌}
 use lib.Dec.{eqb, leb}
-use lib.ListN.{length, set, take, drop, replicate, length-set, drop_of_length-le}
+use lib.ListN.{length, take, drop, replicate, drop_of_length-le}
 use lib.Seq.{take_all, length-take-le}
-use borrow.Author.Rules.{rules}
-use Rattle.kit.proofs.Laws.{tests, take_next_set, lt_or_le}
+use Rattle.kit.proofs.Laws.{tests, lt_or_le}
 use Rattle.rules.specs.Versions.{Version}
 use Rattle.limits.specs.declared.Limits.{Limits}
 use Rattle.limits.specs.Held.{limits_of, setting}
 use Rattle.limits.proofs.Laws.{few_rows}
 use Rattle.names.specs.Table.{Slot}
 use Rattle.clearing.specs.Cleared.{cleared}
-use Rattle.resolver_with.specs.Areas.{slots_for, links_for, Lent, lent_of, roomy}
+use Rattle.resolver_with.specs.Areas.{slots_for, links_for, lent_of, roomy}
 use Rattle.resolver_with.specs.Exact.{exactly}
 
 -- ---- slots_for, links_for

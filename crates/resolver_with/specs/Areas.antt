@@ -1,5 +1,5 @@
 -- The working areas: their sizes by version, and what they hold after a call.
-use Rattle.std.specs.Prelude.{◌≡◌, Bool, ◌&&◌, List, ℕ, ◌+◌, ◌-◌, leb, length}
+use Rattle.std.specs.Prelude.{◌≡◌, Bool, ◌&&◌, List, ℕ, ◌+◌, leb, length}
 use Rattle.clearing.specs.Cleared.{cleared}
 use Rattle.rules.specs.Versions.{Version}
 use Rattle.names.specs.Table.{Slot, empty_slot}

@@ -16,9 +16,10 @@ use form::ends::mark_ends_to;
 use form::header::{BadHeader, header_to};
 use limits::{most_scopes, of_input};
 use names::{Scope, Slot, least};
-use refusal::{ROOM, Refusal, Refused, Told};
+use refusal::{ROOM, Refusal, Refused};
 use resolver::run::{admitted, blank, finish, header_size};
 use walk::scopes::{scope_walk, starting};
+use write::alias::WriteState;
 
 // How many settings there are.
 const SETTINGS: usize = 3;
@@ -98,13 +99,10 @@ pub fn fill_in(
 {
     let header = header_size(i);
     if front.len() < header {
-        return Err(Refused {
-            refusal: Refusal {
-                number: ROOM,
-                place: 0,
-            },
-            told: Told { space: 0, first: 0 },
-        });
+        return Err(Refused::from(Refusal {
+            number: ROOM,
+            place: 0,
+        }));
     }
     match walk_in(
         rows,
@@ -116,7 +114,7 @@ pub fn fill_in(
         chains,
         ends,
     ) {
-        Err(Refused { refusal, told }) => blank(front, refusal, told),
+        Err(refused) => blank(front, refused),
         Ok(s) => finish(front, i, s.to),
     }
 }
@@ -166,27 +164,20 @@ pub fn run_in(
         chains.len(),
         ends.len(),
     );
-    match admitted(form, i, room_if(enough, out.len())) {
-        Err(why) => Err(Refused {
-            refusal: why,
-            told: Told { space: 0, first: 0 },
-        }),
-        Ok(rows) => {
-            let header = header_size(i);
-            let size = header + 64 * rows;
-            fill_in(
-                &form[header..],
-                &mut out[..size],
-                i,
-                i,
-                entered,
-                names,
-                known,
-                chains,
-                ends,
-            )
-        }
-    }
+    let rows = admitted(form, i, room_if(enough, out.len()))?;
+    let header = header_size(i);
+    let size = header + 64 * rows;
+    fill_in(
+        &form[header..],
+        &mut out[..size],
+        i,
+        i,
+        entered,
+        names,
+        known,
+        chains,
+        ends,
+    )
 }
 
 // Zeroes all areas.
@@ -219,16 +210,9 @@ fn run_cleared(
 ) -> Result<u32, Refused>
     ensures { Ran (setting i) (exactly (setting i).version (lent_of entered.old names.old known.old chains.old ends.old)) form.now out.old out.new result × Zeroed entered.old entered.new names.old names.new known.old known.new chains.old chains.new ends.old ends.new }
 {
-    match run_in(form, out, i, entered, names, known, chains, ends) {
-        Ok(rows) => {
-            clear(entered, names, known, chains, ends);
-            Ok(rows)
-        }
-        Err(Refused { refusal: why, told }) => {
-            clear(entered, names, known, chains, ends);
-            Err(Refused { refusal: why, told })
-        }
-    }
+    let answer = run_in(form, out, i, entered, names, known, chains, ends);
+    clear(entered, names, known, chains, ends);
+    answer
 }
 
 // Resolves the form under the setting at place i, in areas of any size, and zeroes of each as much as the version takes.

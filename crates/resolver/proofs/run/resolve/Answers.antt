@@ -20,9 +20,6 @@ slice_bounds-fill-count c = let f = has_header_lem c.args.form.now c.args.out.no
 pub slice_bounds-fill-start : goal.slice_bounds-fill-start
 slice_bounds-fill-start c = let f = has_header_lem c.args.form.now c.args.out.now _ c.admitted.ensures.0 c.admitted.ensures.1 _ c.in_ok-rows.was in omega arith
 
-pub slice_bounds-fill-end : goal.slice_bounds-fill-end
-slice_bounds-fill-end c = let f = has_room c.args.form.now c.args.out.now _ c.admitted.ensures.0 c.admitted.ensures.1 _ c.in_ok-rows.was in omega arith
-
 pub slice_bounds-fill-end-2 : goal.slice_bounds-fill-end-2
 slice_bounds-fill-end-2 c = let f = has_room c.args.form.now c.args.out.now _ c.admitted.ensures.0 c.admitted.ensures.1 _ c.in_ok-rows.was in omega arith
 

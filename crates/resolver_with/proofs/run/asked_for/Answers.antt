@@ -1,5 +1,4 @@
 -- `resolver_with::run::asked_for` meets its contract.
-use Prim.Native.Nat.{◌-◌}
 use Rattle.resolver_with.proofs.Asked.{ways}
 use Rattle.resolver_with.proofs.run.asked_for.Goals as goal
 
@@ -15,20 +14,11 @@ of_input-requires c = search ways
 pub header_to-requires : goal.header_to-requires
 header_to-requires c = search ways
 
-pub enum_told-1 : goal.enum_told-1
-enum_told-1 c = search ways
-
 pub returns-in-Ok : goal.returns-in-Ok
 returns-in-Ok c = search ways
 
-pub enum_told-in-Err-Count : goal.enum_told-in-Err-Count
-enum_told-in-Err-Count c = search ways
-
 pub returns-in-Err-Count : goal.returns-in-Err-Count
 returns-in-Err-Count c = search ways
-
-pub enum_told-in-Err-Wrong : goal.enum_told-in-Err-Wrong
-enum_told-in-Err-Wrong c = search ways
 
 pub loop-next-smaller : goal.loop-next-smaller
 loop-next-smaller c = search ways

@@ -1,12 +1,13 @@
 -- `resolver_with::run::fill_in` meets its contract.
-use mathlib.Core.Path.{refl}
+use Rattle.std.specs.Prelude.{Err}
+use mathlib.Core.Path.{ap}
 use native.Mathlib.Omega.{arith}
 use borrow.Author.Rules.{rules}
 use Rattle.resolver.proofs.Laws.{ways, fill_short, fill_done}
 use Rattle.resolver_with.proofs.run.fill_in.Goals as goal
 
 pub returns-then-front-header : goal.returns-then-front-header
-returns-then-front-header c = fill_short _ _ _ _ c.header_size-header.ensures.0 _ c.if-front-header.true refl
+returns-then-front-header c = fill_short _ _ _ _ c.header_size-header.ensures.0 _ c.if-front-header.true (ap (λ x. Err x) c.from.ensures)
 
 pub walk_in-requires : goal.walk_in-requires
 walk_in-requires c = c.requires
