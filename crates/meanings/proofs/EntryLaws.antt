@@ -37,19 +37,19 @@ told_at m found q = rw q
 pub told_nowhere : (m : Option Meaning) → m ≡ None → no_entry ≡ told m
 told_nowhere m q = rw q
 
-module _ (e : Entry) (b : ℕ) (is : b ≡ get_or e 0 0) where
-  pub read_none : b ≡ 0 → None ≡ read e
+module _ (e : Entry) where
+  pub read_none : (1 ≤ get_or e 0 0 → ⊥) → (X : Option Meaning) → X ≡ None → X ≡ read e
   unfolding read
-  read_none h = yes! _ (omega tests) refl
+  read_none h X x = yes! _ (omega tests) x
 
-  module _ (n : b ≡ 0 → ⊥) where
-    pub read_past : 65536 < b → None ≡ read e
+  module _ (row : ℕ) (above : (1 ≤ get_or e 0 0) × (row ≡ get_or e 0 0 - 1)) where
+    pub read_past : 65535 < row → None ≡ read e
     unfolding read
-    read_past h = no! _ (omega tests) (yes! _ (omega tests) refl)
+    read_past h = let a = above.0 in let b = above.1 in no! _ (omega (tests, a)) (yes! _ (omega (tests, a, b)) refl)
 
-    pub read_at : b ≤ 65536 → (number out name : ℕ) → number ≡ get_or e 1 0 → out ≡ get_or e 2 0 → name ≡ get_or e 3 0 → Some (record { row = b - 1; number = number; out = out; name = name }) ≡ read e
+    pub read_at : row ≤ 65535 → (number out name : ℕ) → number ≡ get_or e 1 0 → out ≡ get_or e 2 0 → name ≡ get_or e 3 0 → Some (record { row = row; number = number; out = out; name = name }) ≡ read e
     unfolding read
-    read_at h number out name hn ho hx = no! _ (omega tests) (no! _ (omega tests) (rw (is, hn, ho, hx)))
+    read_at h number out name hn ho hx = let a = above.0 in let b = above.1 in no! _ (omega (tests, a)) (no! _ (omega (tests, a, b)) (rw (b, hn, ho, hx)))
 
 pub ruleset told_ways = (told_at, told_nowhere, read_none, read_past, read_at, rules)
 

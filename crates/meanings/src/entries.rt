@@ -21,19 +21,16 @@ pub(crate) fn told(meaning: Option<Meaning>) -> Entry
 pub(crate) fn read(entry: Entry) -> Option<Meaning>
     ensures { result ≡ read entry }
 {
-    let behind = entry[0];
-    if behind == 0 {
-        None
-    } else if 65536 < behind {
-        None
-    } else {
-        Some(Meaning {
-            row: (behind - 1) as u16,
-            number: entry[1],
-            out: entry[2],
-            name: entry[3],
-        })
+    let row = entry[0].checked_sub(1)?;
+    if 65535 < row {
+        return None;
     }
+    Some(Meaning {
+        row: row as u16,
+        number: entry[1],
+        out: entry[2],
+        name: entry[3],
+    })
 }
 
 // The entry of a row; that of no declaration past the end.

@@ -4,7 +4,7 @@ use mathlib.Core.Path.{◌≡◌, refl, sym, ◌∙◌}
 use mathlib.Core.Bool.{Bool, true, false, ◌&&◌, not}
 use mathlib.Core.List.{List}
 use native.Mathlib.Omega.{arith}
-use Prim.Native.Nat.{ℕ, suc, ◌-◌, ◌<◌}
+use Prim.Native.Nat.{ℕ, suc, ◌-◌, ◌≤◌, ◌<◌}
 use borrow.Author.Rules.{rules}
 use borrow.Author.Tests.{ltb-true, eqb-true}
 use lib.Dec.{eqb, ltb}
@@ -26,16 +26,13 @@ unfolding is_sought
 is_sought_is form scope space key row n x d m hd hn hx hm = rw (hd, hm, hn, hx)
 
 module _ (form : List ℕ) (behind : ℕ) where
-  pub found_none : behind ≡ 0 → None ≡ found_at form behind
+  pub found_none : (1 ≤ behind → ⊥) → (X : Option Found) → X ≡ None → X ≡ found_at form behind
   unfolding found_at
-  found_none e = rw e
+  found_none h X x = let e : behind ≡ 0 = omega arith in x ∙ rw e
 
-  pub found_there : (behind ≡ 0 → ⊥) → (n : ℕ) → n ≡ count_of form (behind - 1) → Some (record { row = behind - 1; number = n }) ≡ found_at form behind
+  pub found_there : (row n : ℕ) → (1 ≤ behind) × (row ≡ behind - 1) → n ≡ count_of form row → Some (record { row = row; number = n }) ≡ found_at form behind
   unfolding found_at
-  found_there h n e = rw e (sym (same behind (omega arith)))
-    where
-      same : (b : ℕ) → b ≡ suc (behind - 1) → found_at form b ≡ Some (record { row = behind - 1; number = count_of form (behind - 1) })
-      same b q = rw q
+  found_there row n h e = let q : behind ≡ suc row = omega (arith, h.0, h.1) in rw (e, q)
 
 module _ (form : List ℕ) (row : ℕ) (b : Bool) (is : b ≡ is_scope form row) where
   pub scope_left : not b ≡ false → is_scope form row ≡ true

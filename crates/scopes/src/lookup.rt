@@ -63,10 +63,7 @@ fn found_at(form: &[u8], known: &[u16], behind: u16) -> Option<Found>
     requires { Counts form.now known.now behind }
     ensures { result ≡ found_at form.now behind }
 {
-    if behind == 0 {
-        return None;
-    }
-    let row = behind - 1;
+    let row = behind.checked_sub(1)?;
     Some(Found {
         row,
         number: number_at(form, known, row) as u32,

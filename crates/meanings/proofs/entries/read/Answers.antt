@@ -2,11 +2,11 @@
 use Rattle.meanings.proofs.EntryLaws.{told_ways}
 use Rattle.meanings.proofs.entries.read.Goals as goal
 
-pub returns-then-behind-eq0 : goal.returns-then-behind-eq0
-returns-then-behind-eq0 c = search told_ways
+pub returns-in_err-row : goal.returns-in_err-row
+returns-in_err-row c = search (told_ways, c.in_err-row.ensures)
 
-pub returns-then-behind-gt65536 : goal.returns-then-behind-gt65536
-returns-then-behind-gt65536 c = search told_ways
+pub returns-then-row-gt65535 : goal.returns-then-row-gt65535
+returns-then-row-gt65535 c = search (told_ways, c.in_ok-row.ensures)
 
-pub returns-else-behind-gt65536 : goal.returns-else-behind-gt65536
-returns-else-behind-gt65536 c = search told_ways
+pub returns : goal.returns
+returns c = search (told_ways, c.in_ok-row.ensures)
