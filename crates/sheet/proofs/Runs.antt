@@ -1,5 +1,5 @@
 -- A run of the resolver in the working area, under the settings in force: what is written there is the rules' run, if there is one.
-use Rattle.std.specs.Prelude.{Result, ℕ}
+use Rattle.std.specs.Prelude.{Result}
 use mathlib.Core.Path.{◌≡◌, refl, ap, sym, ◌∙◌, subst}
 use mathlib.Core.Bool.{Bool, true, false}
 use mathlib.Core.Option.{Option, none, some}

@@ -1,5 +1,5 @@
 -- The ways through what is below the run: bytes compared, rows counted, the working area zeroed.
-use Rattle.std.specs.Prelude.{Result, Ok, Err, ℕ}
+use Rattle.std.specs.Prelude.{Result, Ok, Err}
 use mathlib.Core.Path.{◌≡◌, refl, ◌∙◌}
 use mathlib.Core.Bool.{Bool, true, false}
 use mathlib.Core.List.{List}
@@ -12,8 +12,6 @@ use lib.ListN.{length, get_or, take, drop, replicate, drop_of_length-le}
 use Rattle.kit.proofs.Laws.{tests, left_suc, drop_next, yes!, no! }
 use Rattle.rules.specs.Answer.{same_numbers}
 use Rattle.stores.specs.Zeros.{zero_from}
-use Rattle.refusal.specs.declared.Refusal.{Refusal}
-use Rattle.refusal.specs.declared.Told.{Told}
 use Rattle.resolver.specs.Meaning.{meaning}
 use Rattle.sheet.specs.Run.{rows_written}
 use Rattle.refusal.specs.declared.Refused.{Refused}
@@ -49,14 +47,14 @@ module _ (a : Result ℕ Refused) where
   unfolding rows_written
   rows_accepted rows q = rw q (yes! _ refl refl)
 
-  module _ (r : Refusal) (told : Told) (q : a ≡ Err (record { refusal = r; told = told })) where
-    pub rows_placed : r.number ≡ 0 → r.place ≡ rows_written (meaning a).plain
+  module _ (r : Refused) (q : a ≡ Err r) where
+    pub rows_placed : r.refusal.number ≡ 0 → r.refusal.place ≡ rows_written (meaning a).plain
     unfolding rows_written
-    rows_placed h = let t : eqb r.number 0 ≡ true = omega tests in rw q (yes! _ t refl)
+    rows_placed h = let t : eqb r.refusal.number 0 ≡ true = omega tests in rw q (yes! _ t refl)
 
-    pub rows_refused : (r.number ≡ 0 → ⊥) → 0 ≡ rows_written (meaning a).plain
+    pub rows_refused : (r.refusal.number ≡ 0 → ⊥) → 0 ≡ rows_written (meaning a).plain
     unfolding rows_written
-    rows_refused h = let t : eqb r.number 0 ≡ false = omega tests in rw q (no! _ t refl)
+    rows_refused h = let t : eqb r.refusal.number 0 ≡ false = omega tests in rw q (no! _ t refl)
 
 -- ---- zeros
 

@@ -1,5 +1,5 @@
 -- The ways through the whole, under the settings in force.
-use Rattle.std.specs.Prelude.{Result, Ok, ℕ}
+use Rattle.std.specs.Prelude.{Result, Ok}
 use mathlib.Core.Path.{◌≡◌, refl, ap, ap₂, sym, ◌∙◌, subst}
 use mathlib.Core.Bool.{Bool, true, false, not}
 use mathlib.Core.Option.{Option, none, some}
