@@ -1,5 +1,5 @@
 -- On the rows of a tree the marked rows are those of the rules' marked tree.
-use Rattle.std.specs.Prelude.{◌≡◌, Bool, true, eqb, take, drop}
+use Rattle.std.specs.Prelude.{◌≡◌, Bool, true, take, drop}
 use Rattle.std.proofs.Math.Path.{refl}
 use Rattle.std.proofs.Common.{sym, ap, ap₂, ◌∙◌, take-append-drop}
 use Rattle.std.proofs.Math.Bool.{false}
@@ -16,7 +16,7 @@ use Rattle.kit.specs.Out.{Out, ◌&◌}
 use Rattle.kit.proofs.Laws.{sets_seam}
 use Rattle.rules.specs.Versions.{top_name}
 use Rattle.rules.specs.Rows.{Row, Field, Decl, Ref, Path, Outer, Case, Open, Close, Export, encode, encode_row}
-use Rattle.rules.specs.Tree.{Declaration, Head, Scope, scope, Fields, end, ◌▸◌, Item, plain, holds, head_of, decl_rows, operand_rows, export_rows, head_rows, flatten, fields_rows, item_rows}
+use Rattle.rules.specs.Tree.{Declaration, Head, Scope, scope, Fields, end, ◌▸◌, Item, plain, holds, head_of, decl_rows, head_rows, flatten, fields_rows, item_rows}
 use Rattle.rules.specs.Rules.{fresh, declarations}
 use Rattle.rules.specs.Answer.{rows_of, rows_bytes}
 use Rattle.rules.specs.Readings.{fields_of}
@@ -25,7 +25,7 @@ use Rattle.rules.specs.Laws.ToolLaws.{All, done, all_map, false_not}
 use Rattle.rules.specs.Laws.RowLaws.{Bytes, bytes_drop}
 use Rattle.rules.proofs.Laws.Output.FourTimes.{inner, fields_size, head_length}
 use Rattle.rules.proofs.Laws.Output.Counts.{own, deep, rows_split, scope_split}
-use Rattle.sharing.specs.Sharing.{Served, served_by, Marked, mark_head, insertions, mark_scope, mark_fields, mark_item, mark}
+use Rattle.sharing.specs.Sharing.{Served, served_by, mark_head, insertions, mark_scope, mark_fields, mark_item, mark}
 use Rattle.rows.proofs.Runs.{rows_count, encode_again}
 use Rattle.put.specs.Put.{copy_row}
 use Rattle.names.specs.Table.{Slot, between, find_in}
@@ -35,11 +35,11 @@ use Rattle.matched.proofs.Ends.{At, at_first, at_second}
 use Rattle.diff.proofs.Lists.{at_rows}
 use Rattle.form.specs.Ends.{Ends, Inside, EndsIn}
 use Rattle.sharing.proofs.Laws.Marks.{like_rows, scope_like}
-use Rattle.mark.specs.Visits.{place_at, Visit, visits_t}
-use Rattle.mark.specs.MarkedRows.{enter_then, enter_all, marking, mark_all, Steps, next_of, mark_scope_t, mark_open_t, scopes_then, scopes_t, left_by, copies_t, mark_rows_t}
-use Rattle.mark_laws.specs.Visited.{parts_of, parts_there, own_rows, is_inner, Inner, inner_own, field_row, fields_visits, fields_visits_lem}
+use Rattle.mark.specs.Visits.{place_at, visits_t}
+use Rattle.mark.specs.MarkedRows.{enter_then, enter_all, Steps, next_of, mark_scope_t, mark_open_t, scopes_then, scopes_t, left_by, copies_t, mark_rows_t}
+use Rattle.mark_laws.specs.Visited.{parts_of, parts_there, own_rows, is_inner, inner_own, fields_visits, fields_visits_lem}
 use Rattle.mark_laws.specs.Entered.{Entered, enter_scope}
-use Rattle.mark_laws.specs.Referred.{State, Goes, alias_of, with_head, mark_own, last_seen, all_refs, item_size, fields_go}
+use Rattle.mark_laws.specs.Referred.{State, alias_of, with_head, mark_own, all_refs, item_size, fields_go}
 
 -- ---- there is room
 

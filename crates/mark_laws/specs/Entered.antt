@@ -1,25 +1,25 @@
 -- What is entered of a scope are its declarations: a name is found among them exactly if the rules find it.
-use Rattle.std.specs.Prelude.{◌≡◌, Bool, ◌&&◌, ◌||◌, set, Option as CodeOption, Some, None, ℕ}
+use Rattle.std.specs.Prelude.{◌≡◌, Bool, ◌&&◌, ◌||◌, set, Option as CodeOption, Some, None, is_some}
 use Rattle.std.proofs.Math.Path.{refl, sym, ap}
-use Rattle.std.proofs.Common.{ap₂, ◌∙◌, arith, length-set}
+use Rattle.std.proofs.Common.{◌∙◌, arith, length-set}
 use Rattle.std.proofs.Math.Bool.{true, false}
 use Rattle.std.proofs.Math.Option.{Option, none, some, map}
 use mathlib.Core.List.{List, [], ◌∷◌, ◌++◌, append_assoc, append-nil}
-use Prim.Native.Nat.{ℕ, zero, suc, ◌+◌, ◌-◌, ◌<◌, ◌≤◌}
+use Prim.Native.Nat.{ℕ, suc, ◌+◌, ◌≤◌}
 use Rattle.std.proofs.Math.Dec.{eqb}
 use Rattle.std.proofs.Math.ListN.{length, length-append}
 use Rattle.kit.specs.Pick.{pick}
 use Rattle.kit.specs.Out.{Out, ◌&◌}
 use Rattle.rules.specs.Tools.{when◌then◌else◌, is_just}
 use Rattle.rules.specs.Rows.{Row, Field, Decl, Ref, Path, Outer, Case, Open, Close, Export, encode}
-use Rattle.rules.specs.Tree.{Declaration, Operand, ref, outer, case, Head, Scope, scope, Fields, end, ◌▸◌, Item, plain, holds, head_of, decl_rows, path_rows, operand_row, operand_rows, export_rows, item_rows}
+use Rattle.rules.specs.Tree.{Declaration, Operand, ref, outer, case, scope, Fields, end, ◌▸◌, Item, plain, holds, head_of, decl_rows, path_rows, operand_row, operand_rows, export_rows, item_rows}
 use Rattle.rules.specs.Rules.{find, declarations}
 use Rattle.rules.specs.Laws.ToolLaws
 use Rattle.rules.specs.Laws.ToolLaws.{All, done, all_append, false_not, length_snoc, snoc_append}
-use Rattle.names.specs.Table.{Slot, space_of, name_of, number_of, between, pushed, find_in}
+use Rattle.names.specs.Table.{Slot, space_of, name_of, number_of, between, find_in}
 use Rattle.names.proofs.Storey.{pushed_room, between_push}
 use Rattle.mark.specs.Visits.{Visit}
-use Rattle.mark.specs.MarkedRows.{slot_of, enter_row_t, enter_then, enter_all, is_found}
+use Rattle.mark.specs.MarkedRows.{enter_row_t, enter_then, enter_all}
 use Rattle.mark_laws.specs.Visited.{parts_of, visit, visit_rows, visit_append, own_rows, walks, open_rows, field_row, fields_visits}
 
 -- ---- rows one behind another
@@ -100,7 +100,7 @@ enter_none (r ∷ rs) p w table used (ToolLaws.◌&◌ e es) = rw (passed r tabl
 
 -- a name is found among the first n slots exactly if the rules find it
 abbrev pub Known : (n : ℕ) → List Slot → List Declaration → Type 0
-Known n table ds = (space name : ℕ) → is_found (find_in (between 0 n table) space name) ≡ is_just (find ds space name)
+Known n table ds = (space name : ℕ) → is_some (find_in (between 0 n table) space name) ≡ is_just (find ds space name)
 
 just_map : (o : Option ℕ) → is_just (map suc o) ≡ is_just o
 just_map none = refl
@@ -127,7 +127,7 @@ find_snoc (c ∷ ds) d space name = go (eqb c.space space) (eqb c.name name) (fi
     go false u e = e
 
 -- what one more slot says
-pub found_snoc : (ss : List Slot) (s : Slot) (space name : ℕ) → find_in (ss ++ (s ∷ [])) space name ≡ pick (is_found (find_in ss space name)) (find_in ss space name) (pick (eqb (space_of s) space && eqb (name_of s) name) (Some (number_of s)) None)
+pub found_snoc : (ss : List Slot) (s : Slot) (space name : ℕ) → find_in (ss ++ (s ∷ [])) space name ≡ pick (is_some (find_in ss space name)) (find_in ss space name) (pick (eqb (space_of s) space && eqb (name_of s) name) (Some (number_of s)) None)
 unfolding find_in pick
 found_snoc [] s space name = go (eqb (space_of s) space) (eqb (name_of s) name)
   where
@@ -143,17 +143,17 @@ found_snoc (c ∷ ss) s space name = go (eqb (space_of c) space) (eqb (name_of c
     L : CodeOption ℕ
     L = pick (eqb (space_of s) space && eqb (name_of s) name) (Some (number_of s)) None
 
-    go : (t u : Bool) → find_in (ss ++ (s ∷ [])) space name ≡ pick (is_found F) F L
+    go : (t u : Bool) → find_in (ss ++ (s ∷ [])) space name ≡ pick (is_some F) F L
         → pick t (pick u (Some (number_of c)) (find_in (ss ++ (s ∷ [])) space name)) (find_in (ss ++ (s ∷ [])) space name)
-        ≡ pick (is_found (pick t (pick u (Some (number_of c)) F) F)) (pick t (pick u (Some (number_of c)) F) F) L
+        ≡ pick (is_some (pick t (pick u (Some (number_of c)) F) F)) (pick t (pick u (Some (number_of c)) F) F) L
     go true true e = refl
     go true false e = e
     go false u e = e
 
-found_is : (ss : List Slot) (s : Slot) (space name : ℕ) → is_found (find_in (ss ++ (s ∷ [])) space name) ≡ (is_found (find_in ss space name) || (eqb (space_of s) space && eqb (name_of s) name))
-found_is ss s space name = ap is_found (found_snoc ss s space name) ∙ go (find_in ss space name) (eqb (space_of s) space && eqb (name_of s) name)
+found_is : (ss : List Slot) (s : Slot) (space name : ℕ) → is_some (find_in (ss ++ (s ∷ [])) space name) ≡ (is_some (find_in ss space name) || (eqb (space_of s) space && eqb (name_of s) name))
+found_is ss s space name = ap is_some (found_snoc ss s space name) ∙ go (find_in ss space name) (eqb (space_of s) space && eqb (name_of s) name)
   where
-    go : (f : CodeOption ℕ) (t : Bool) → is_found (pick (is_found f) f (pick t (Some (number_of s)) None)) ≡ (is_found f || t)
+    go : (f : CodeOption ℕ) (t : Bool) → is_some (pick (is_some f) f (pick t (Some (number_of s)) None)) ≡ (is_some f || t)
     go (Some n) t = unfold pick in refl
     go None true = unfold pick in refl
     go None false = unfold pick in refl

@@ -1,38 +1,36 @@
 -- The references of a scope are marked as the rules mark them, while the scopes inside it stay as they are.
-use Rattle.std.specs.Prelude.{◌≡◌, Bool, ◌&&◌, not, eqb, ltb, drop, Option as CodeOption, Some, None, ℕ}
+use Rattle.std.specs.Prelude.{◌≡◌, Bool, ◌&&◌, not, eqb, Option as CodeOption, Some, None, is_some}
 use Rattle.std.proofs.Math.Path.{refl}
-use Rattle.std.proofs.Common.{sym, ap, ap₂, ◌∙◌, length-set, drop_at, lt-ltb, eqb-true}
+use Rattle.std.proofs.Common.{sym, ap, ◌∙◌, length-set, drop_at, lt-ltb, eqb-true}
 use Rattle.std.proofs.Math.Bool.{true, false}
 use Rattle.std.proofs.Math.Option.{Option, none, some}
 use mathlib.Core.List.{List, [], ◌∷◌, ◌++◌, append_assoc, append-nil}
-use Prim.Native.Nat.{ℕ, zero, suc, ◌+◌, ◌*◌, ◌-◌, ◌/◌, ◌%◌, ◌<◌, ◌≤◌}
+use Prim.Native.Nat.{ℕ, suc, ◌+◌, ◌*◌, ◌/◌, ◌%◌, ◌<◌, ◌≤◌}
 use native.Mathlib.Omega.{arith}
 use Rattle.std.proofs.Math.ListN.{length, set, length-append}
 use Rattle.std.proofs.lemmas.List.Edits.{sets}
 use Rattle.kit.specs.Pick.{pick}
-use Rattle.kit.specs.Out.{Out, ◌&◌}
+use Rattle.kit.specs.Out.{◌&◌}
 use Rattle.kit.proofs.Laws.{sets_seam}
 use Rattle.rules.specs.Tools.{when◌then◌else◌, is_just}
 use Rattle.rules.specs.Rows.{Index, Num, Id, Row, Field, Decl, Ref, Path, Outer, Case, Open, Close, Export, encode, flag, number, encode_row}
-use Rattle.rules.specs.Tree.{Declaration, Operand, ref, outer, case, Head, Scope, scope, Fields, end, ◌▸◌, Item, plain, holds, head_of, with_operands, decl_rows, path_rows, operand_row, operand_rows, export_rows, head_rows, flatten, fields_rows, item_rows}
+use Rattle.rules.specs.Tree.{Declaration, Operand, ref, outer, case, Head, scope, Fields, end, ◌▸◌, Item, plain, holds, head_of, with_operands, decl_rows, path_rows, operand_row, operand_rows, export_rows, head_rows, flatten, fields_rows, item_rows}
 use Rattle.rules.specs.Shapes.{here_only}
-use Rattle.rules.specs.Rules.{fresh, find, declarations}
+use Rattle.rules.specs.Rules.{fresh, find}
 use Rattle.rules.specs.Answer.{rows_bytes}
 use Rattle.rules.specs.Laws.ToolLaws
 use Rattle.rules.specs.Laws.ToolLaws.{All, done, all_append, false_not, length_snoc}
 use Rattle.rules.proofs.Laws.Output.FourTimes.{paths_length}
 use Rattle.read_form.proofs.Laws.OutputLength.{row_length, rows_length}
 use Rattle.sharing.specs.Sharing.{Served, served_by, Marked, mark_outer, mark_operand, mark_operands, mark_head, insertions}
-use Rattle.names.specs.Table.{Slot, space_of, name_of, number_of, between, pushed, find_in}
+use Rattle.names.specs.Table.{Slot, between, find_in}
 use Rattle.names.proofs.Storey.{pushed_room, between_push, between_set}
-use Rattle.rows.specs.declared.row.Index.TheVariants as code-index
-use Rattle.rows.specs.declared.row.Row.TheVariants as code
 use Rattle.put.specs.Put.{put_row, row_bytes, bytes_of, rule_row, rule_index}
 use Rattle.parts.specs.declared.Parts.{Parts}
 use Rattle.parts.specs.PartsAt.{parts}
 use Rattle.mark.specs.declared.Marking.{Marking}
 use Rattle.mark.specs.Visits.{Visit}
-use Rattle.mark.specs.MarkedRows.{left_by, slot_of, is_found, Step, marking, insert_with, insert_marked_t, serve_t, beside, mark_outer_t, mark_name_t, mark_ref_t, mark_row_t, mark_then, mark_all}
+use Rattle.mark.specs.MarkedRows.{left_by, slot_of, Step, marking, insert_with, insert_marked_t, serve_t, beside, mark_outer_t, mark_name_t, mark_ref_t, mark_row_t, mark_then, mark_all}
 use Rattle.mark_laws.specs.Visited.{parts_of, visit, visit_rows, visit_append, own_rows, walks, open_rows, field_row, fields_visits}
 use Rattle.mark_laws.specs.Entered.{Known, found_snoc}
 
@@ -263,14 +261,14 @@ module _ (here : List Declaration) (own room : ℕ) where
       F : CodeOption ℕ
       F = find_in ss sp n
 
-      rest : (f : CodeOption ℕ) → pick (is_found f) f None ≡ f
+      rest : (f : CodeOption ℕ) → pick (is_some f) f None ≡ f
       rest (Some m) = unfold pick in refl
       rest None = unfold pick in refl
 
       absent : space ≡ sp → name ≡ n → F ≡ None
       absent e f = same sp n ∙ (rw (← e, ← f, none_yet))
 
-      go : (t u : Bool) → eqb space sp ≡ t → eqb name n ≡ u → pick (is_found F) F (pick (t && u) (Some (fresh k)) None) ≡ alias_of (when t && u then some k else served_by seen sp n)
+      go : (t u : Bool) → eqb space sp ≡ t → eqb name n ≡ u → pick (is_some F) F (pick (t && u) (Some (fresh k)) None) ≡ alias_of (when t && u then some k else served_by seen sp n)
       go true true e f = unfold pick in (rw (absent (eqb-true space sp e) (eqb-true name n f)))
       go true false e f = unfold pick in rest F ∙ same sp n
       go false u e f = unfold pick in rest F ∙ same sp n

@@ -1,7 +1,7 @@
 -- The rows of a scope that the code goes through are those of its fields but for the scopes inside, whose OPEN rows alone it meets.
-use Rattle.std.specs.Prelude.{◌≡◌, Bool, true, false, not, eqb, ltb, get_or}
+use Rattle.std.specs.Prelude.{◌≡◌, Bool, true, false, not, eqb, get_or}
 use Rattle.std.proofs.Math.Path.{refl, sym, ap}
-use Rattle.std.proofs.Common.{ap₂, ◌∙◌, lt-ltb}
+use Rattle.std.proofs.Common.{◌∙◌, lt-ltb}
 use Rattle.std.proofs.Math.Option.{Option, none, some}
 use mathlib.Core.List.{List, [], ◌∷◌, ◌++◌, append_assoc, append-nil}
 use Prim.Native.Nat.{ℕ, zero, suc, ◌+◌, ◌-◌, ◌/◌, ◌<◌, ◌≤◌}
@@ -9,7 +9,7 @@ use native.Mathlib.Omega.{arith}
 use Rattle.std.proofs.Math.ListN.{length, length-append}
 use Rattle.kit.specs.Pick.{pick}
 use Rattle.rules.specs.Rows.{Raw, raw, Row, Field, Decl, Ref, Path, Outer, Case, Open, Close, Export, encode}
-use Rattle.rules.specs.Tree.{Declaration, Operand, ref, outer, case, Head, Scope, scope, Fields, end, ◌▸◌, Item, plain, holds, head_of, decl_rows, path_rows, operand_row, operand_rows, export_rows, head_rows, flatten, fields_rows, item_rows}
+use Rattle.rules.specs.Tree.{Declaration, Operand, ref, outer, case, Head, scope, Fields, end, ◌▸◌, Item, plain, holds, head_of, decl_rows, path_rows, operand_row, operand_rows, export_rows, head_rows, flatten, fields_rows, item_rows}
 use Rattle.rules.specs.Shapes.{here_only}
 use Rattle.rules.specs.Laws.ToolLaws.{All, done, ◌&◌, all_append, false_not}
 use Rattle.parts.specs.declared.Parts.{Parts}
@@ -17,7 +17,6 @@ use Rattle.parts.specs.PartsAt.{parts, parts_at}
 use Rattle.matched.specs.Counted.{raw_of}
 use Rattle.matched.proofs.Ends.{At, at_first, at_second}
 use Rattle.form.specs.Ends.{Ends}
-use Rattle.mark.specs.declared.Place.{Place}
 use Rattle.mark.specs.Visits.{place, visits_behind_t, visit_step_t, Visit, visits_t}
 
 -- ---- the parts of a row

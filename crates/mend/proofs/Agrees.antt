@@ -1,7 +1,7 @@
 -- What the code answers and leaves is what the rules say, for every setting.
 use Rattle.std.specs.Prelude.{Result, ℕ}
 use mathlib.Core.Path.{◌≡◌, refl, sym, ap, ap₂, ◌∙◌, subst}
-use mathlib.Core.Bool.{Bool, true, false, ◌&&◌, ◌||◌, not, and-true, and_assoc}
+use mathlib.Core.Bool.{Bool, true, false, ◌&&◌, ◌||◌, and-true, and_assoc}
 use mathlib.Core.Logic.{◌⊎◌, inl, inr}
 use mathlib.Core.Option.{Option, none, some}
 use mathlib.Core.List.{List, [], ◌∷◌, ◌++◌, append_assoc, append-nil}
@@ -9,7 +9,7 @@ use native.Mathlib.Omega.{arith}
 use native.Mathlib.Nat.{zero-add}
 use Prim.Native.Nat.{ℕ, zero, suc, ◌+◌, ◌-◌, ◌*◌, ◌/◌, ◌%◌, ◌^◌, ◌≤◌, ◌<◌}
 use lib.Dec.{eqb, leb, ltb}
-use lib.ListN.{length, get_or, take, drop, replicate, length-append, length-drop, length-replicate}
+use lib.ListN.{length, take, drop, replicate, length-append, length-replicate}
 use lib.Seq.{sets, sets-eq, length-take-le}
 use borrow.Author.Tests.{ltb-false, eqb-true}
 use Rattle.kit.specs.Out.{◌&◌}
@@ -17,7 +17,7 @@ use Rattle.kit.specs.Pick.{pick}
 use Rattle.kit.proofs.Laws.{tests, lt_or_le, sets_append}
 use Rattle.rules.specs.Tools.{when◌then◌else◌, only, ◌or_else◌, between}
 use Rattle.rules.specs.Versions.{RuleSet, Version, Setting, all}
-use Rattle.rules.specs.Rows.{Row, value, bytes}
+use Rattle.rules.specs.Rows.{Row, bytes}
 use Rattle.rules.specs.Tree.{RowsRead, bad, deep, form}
 use Rattle.rules.specs.Begins.{Right}
 use Rattle.rules.specs.Reader.{read}

@@ -4,12 +4,12 @@ use mathlib.Core.List.{List, [], ◌∷◌, ◌++◌, append-nil, append_assoc}
 use native.Mathlib.Omega.{arith}
 use native.Mathlib.Nat.{zero-add}
 use native.Mathlib.Numerals.{add-one}
-use Prim.Native.Nat.{ℕ, zero, suc, ◌+◌, ◌-◌, ◌*◌, ◌/◌, ◌≤◌, ◌<◌}
+use Prim.Native.Nat.{ℕ, zero, suc, ◌+◌, ◌-◌, ◌*◌, ◌≤◌, ◌<◌}
 use lib.ListN.{length, set, take, drop, replicate, length-append, length-drop}
 use lib.Seq.{sets, sets-eq, length-sets, take_all, take_at, drop_at, drop-drop, drop-length, length-take-le}
 use borrow.Author.Rules.{rules}
 use Rattle.kit.specs.Pick.{pick}
-use Rattle.kit.proofs.Laws.{tests, left_suc, sets_append}
+use Rattle.kit.proofs.Laws.{left_suc, sets_append}
 use Rattle.rules.specs.Answer.{header_bytes}
 use Rattle.rules.proofs.Laws.Output.OutBytes
 use Rattle.limits.specs.declared.Limits.{Limits}

@@ -2,22 +2,21 @@
 use mathlib.Core.Path.{◌≡◌, refl, sym, ap, ap₂, ◌∙◌}
 use mathlib.Core.Bool.{true, false}
 use mathlib.Core.Logic.{◌⊎◌, inl, inr}
-use mathlib.Core.List.{List, [], ◌∷◌, ◌++◌, append_assoc}
+use mathlib.Core.List.{List, ◌++◌, append_assoc}
 use native.Mathlib.Omega.{arith}
 use native.Mathlib.Nat.{add-zero, zero-add}
 use Prim.Native.Nat.{ℕ, zero, suc, ◌+◌, ◌-◌, ◌*◌, ◌/◌, ◌≤◌, ◌<◌}
 use lib.Dec.{leb, ltb}
-use lib.ListN.{length, get_or, take, drop, replicate, length-append, length-replicate}
+use lib.ListN.{length, get_or, take, drop, replicate}
 use lib.Seq.{take_at, drop_at, drop-drop, get_or-take, get_or-drop}
 use Rattle.kit.specs.Pick.{pick}
-use Rattle.kit.proofs.Laws.{tests, lt_or_le, yes!, no! }
+use Rattle.kit.proofs.Laws.{tests, lt_or_le, yes! }
 use Rattle.rules.specs.Rows.{Close, encode_row}
-use Rattle.parts.specs.PartsAt.{parts, parts_in, parts_at}
+use Rattle.parts.specs.PartsAt.{parts_in, parts_at}
 use Rattle.mending.specs.Mend.{close_rows}
 use Rattle.mend_form.specs.Filled.{mended_row_t, mended_rows_t, mended_body_t, row_in, from_t}
 use Rattle.mend_form.specs.declared.Kept.{Kept}
-use Rattle.mend_form.proofs.Laws.{row_behind, row_past, row_stays, row_size, close_size, body_size}
-use Rattle.mend_form.proofs.Right.{alone}
+use Rattle.mend_form.proofs.Laws.{row_past, row_stays, row_size, close_size, body_size}
 
 module _ (rows : List ℕ) (k : Kept) where
   closed : (i : ℕ) → k.rows ≤ i → i - k.rows < k.scopes → row_in rows k i ≡ encode_row Close

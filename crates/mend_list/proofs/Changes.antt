@@ -5,15 +5,14 @@ use mathlib.Core.Logic.{◌⊎◌, inl, inr}
 use mathlib.Core.List.{List, [], ◌∷◌, ◌++◌, append_assoc, append-nil}
 use native.Mathlib.Omega.{arith}
 use native.Mathlib.Nat.{add-zero, zero-add, add_assoc}
-use Prim.Native.Nat.{ℕ, zero, suc, ◌+◌, ◌-◌, ◌*◌, ◌/◌, ◌≤◌, ◌<◌}
-use lib.Dec.{eqb, ltb}
+use Prim.Native.Nat.{ℕ, zero, suc, ◌+◌, ◌-◌, ◌*◌, ◌/◌, ◌≤◌}
+use lib.Dec.{eqb}
 use lib.ListN.{length, get_or, take, drop, replicate, length-append, length-drop, length-replicate}
-use lib.Seq.{sets, sets-eq, take_all, take_at, drop_at, take-add, drop-drop, drop-length, length-take-le}
+use lib.Seq.{sets-eq, take_all, take_at, drop_at, take-add, drop-drop, length-take-le}
 use borrow.Author.Tests.{eqb-true, eqb-false}
 use Rattle.kit.specs.Pick.{pick}
-use Rattle.kit.proofs.Laws.{tests, yes!, no! }
+use Rattle.kit.proofs.Laws.{tests, no! }
 use Rattle.rules.specs.Tools.{when◌then◌else◌}
-use Rattle.rules.specs.Versions.{Setting}
 use Rattle.rules.specs.Rows.{bytes}
 use Rattle.rules.specs.Answer.{mark, same_numbers, header_bytes}
 use Rattle.rules.specs.Laws.ToolLaws.{All, done, ◌&◌}
@@ -23,7 +22,7 @@ use Rattle.mending.specs.Mend.{Piece, piece, afters, Change, changes, Fate, stay
 use Rattle.mending.proofs.Laws.Pieces.{Stays, lists_same, stays_changes}
 use Rattle.mending.proofs.Laws.Undone.{bytes_length}
 use Rattle.mend_form.specs.Kept.{kept, kept_t, kept_in}
-use Rattle.mend_form.specs.Filled.{mended_row_t, mended_body_t, row_in}
+use Rattle.mend_form.specs.Filled.{mended_row_t, row_in}
 use Rattle.mend_form.specs.declared.Kept.{Kept}
 use Rattle.mend_form.proofs.Laws.{row_size, row_stays, body_size, close_rows_size}
 use Rattle.mend_form.proofs.Right.{kept_pieces, row_at, rows_split, body_right}

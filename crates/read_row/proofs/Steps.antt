@@ -4,9 +4,9 @@ use mathlib.Core.Path.{◌≡◌, refl, sym, ap, ◌∙◌}
 use mathlib.Core.Bool.{Bool, true, false, ◌&&◌, not, or-false, and-true, and-false}
 use mathlib.Core.Option.{Option, none, some}
 use mathlib.Core.Logic.{⊎_elim}
-use mathlib.Core.List.{List, [], ◌∷◌}
+use mathlib.Core.List.{List}
 use native.Mathlib.Omega.{arith}
-use Prim.Native.Nat.{ℕ, ◌+◌, ◌-◌, ◌/◌, ◌≤◌, ◌<◌}
+use Prim.Native.Nat.{ℕ, ◌+◌, ◌-◌, ◌≤◌, ◌<◌}
 use lib.Dec.{eqb, leb}
 use lib.ListN.{length, get_or, set}
 use borrow.Author.Rules.{rules}
@@ -29,10 +29,7 @@ use Rattle.shapes.specs.Starts.{parts_by, known, bare_parts}
 use Rattle.wants.proofs.Laws.{left_before, left_at, is_some, stands}
 use Rattle.after_row.proofs.Laws.{lows, low_not_in, right_ref, right_outer, right_case, right_end}
 use Rattle.shapes.proofs.Laws.{known_same}
-use Rattle.rows.specs.declared.row.Row.{Row}
-use Rattle.rows.specs.declared.row.Row.TheVariants as row
 use Rattle.parts.specs.declared.Parts.{Parts}
-use Rattle.limits.specs.Held.{rules_of}
 use Rattle.read_row.specs.Machine.{declaring, wanting, pathing, exported, between_fields, within, Position, position, Outcome, on, whole, wrong, deep, standing_of, current_in, position_of, outcome_of, new_field, declared_t, declared_left, wanted_t, is_exported, settled_t, may_end_t, on_field_t, on_decl_t, pathed_t, stays, on_operand_t, on_ref_t, on_outer_t, on_case_t, on_path_t, may_export_t, on_export_t, may_open_t, between_t, on_open_t, on_close_t, read_step_t, in_root}
 use Rattle.read_row.specs.declared.Field.{Field}
 use Rattle.read_row.specs.declared.ReadState.{ReadState}

@@ -1,5 +1,4 @@
 -- `mend_form::kept_in` meets its contract.
-use Prim.Native.Nat.{◌-◌}
 use Rattle.mend_form.proofs.Laws.{kept_ways}
 use Rattle.mend_form.proofs.kept_in.Goals as goal
 

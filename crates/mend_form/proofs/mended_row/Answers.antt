@@ -1,5 +1,4 @@
 -- `mend_form::mended_row` meets its contract.
-use Prim.Native.Nat.{◌-◌}
 use Rattle.mend_form.proofs.Laws.{row_ways}
 use Rattle.mend_form.proofs.mended_row.Goals as goal
 

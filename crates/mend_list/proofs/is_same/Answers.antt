@@ -1,5 +1,4 @@
 -- `mend_list::is_same` meets its contract.
-use Prim.Native.Nat.{◌-◌}
 use Rattle.mend_list.proofs.Laws.{same_ways}
 use Rattle.mend_list.proofs.is_same.Goals as goal
 

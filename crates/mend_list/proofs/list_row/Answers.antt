@@ -1,5 +1,4 @@
 -- `mend_list::list_row` meets its contract.
-use Prim.Native.Nat.{◌-◌}
 use Rattle.mend_list.proofs.Laws.{row_ways}
 use Rattle.mend_list.proofs.list_row.Goals as goal
 

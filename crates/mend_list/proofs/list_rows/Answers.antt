@@ -1,5 +1,4 @@
 -- `mend_list::list_rows` meets its contract.
-use Prim.Native.Nat.{◌-◌}
 use Rattle.mend_list.proofs.Laws.{rows_ways}
 use Rattle.mend_list.proofs.list_rows.Goals as goal
 

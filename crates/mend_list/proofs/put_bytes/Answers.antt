@@ -1,5 +1,4 @@
 -- `mend_list::put_bytes` meets its contract.
-use Prim.Native.Nat.{◌-◌}
 use Rattle.mend_list.proofs.Laws.{put_ways}
 use Rattle.mend_list.proofs.put_bytes.Goals as goal
 

@@ -1,5 +1,4 @@
 -- `mend_read::read_rows` meets its contract. The invariant: what the rows from here on come to is what they come to from the start.
-use Prim.Native.Nat.{◌-◌}
 use borrow.Author.Rules.{rules}
 use Rattle.mend_read.proofs.Ways.{next_ways}
 use Rattle.mend_read.proofs.read_rows.Goals as goal

@@ -1,5 +1,4 @@
 -- `reader::read_on` meets its contract. The invariant: what the rows from here on come to is what they come to from the start.
-use Prim.Native.Nat.{◌-◌}
 use borrow.Author.Rules.{rules}
 use Rattle.reader.proofs.Steps.{on_ways}
 use Rattle.reader.proofs.read_on.Goals as goal

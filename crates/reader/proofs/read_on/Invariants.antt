@@ -2,7 +2,6 @@
 use mathlib.Core.Path.{◌≡◌}
 use Prim.Native.Nat.{◌-◌, ◌/◌}
 use lib.ListN.{length}
-use borrow.Author.Rules.{rules}
 use Rattle.kit.specs.Out.{◌&◌}
 use Rattle.limits.specs.Held.{rules_of}
 use Rattle.read_row.specs.Machine.{outcome_of}

@@ -1,5 +1,4 @@
 -- `mend::place::put_rows` meets its contract. The invariant: what is still to be put makes the whole, and the old rows from here on are still there.
-use Prim.Native.Nat.{◌-◌}
 use Rattle.mend.proofs.InPlace.{put_ways}
 use Rattle.mend.proofs.place.put_rows.Goals as goal
 

@@ -1,5 +1,4 @@
 -- `mend::place::zero` meets its contract.
-use Prim.Native.Nat.{◌-◌}
 use Rattle.mend.proofs.InPlace.{zero_ways}
 use Rattle.mend.proofs.place.zero.Goals as goal
 
