@@ -201,10 +201,11 @@ module _ (table : List Slot) (used : ℕ) (room : used ≤ length table) where
   pub key_full : (key key₀ : List ℕ) (i : ℕ) → length key ≤ i → length key ≡ length key₀ → key ≡ over (take i (seen_in table used)) key₀ → key ≡ over (seen_in table used) key₀
   key_full key key₀ i h l inv = over_full (seen_in table used) key₀ key i inv (omega arith)
 
-pub header_turn : (form out out₀ : List ℕ) (i : ℕ) → i < 8 → 8 ≤ length form → 8 ≤ length out₀ → out ≡ over (take i form) out₀ → set out i (get_or form i 0) ≡ over (take (i + 1) form) out₀
-header_turn form out out₀ i h f o inv = over_turn form out₀ out i (get_or form i 0) inv (omega arith) (omega arith) refl
+-- the first numbers of a list put over others that are as many
+pub over_front : (new old front : List ℕ) (n : ℕ) → n ≤ length new → n ≤ length old → front ≡ take n new → front ++ drop n old ≡ over (take n new) old
+over_front new old front n h g e =
+    let size : length (take n new) ≡ n = length-take-le n new h in
+    let fits : length (take n new) ≤ length old = omega arith in
+    rw e (sym (over_is (take n new) old fits ∙ ap (λ (k : ℕ). take n new ++ drop k old) size))
 
-pub header_end : (form out out₀ : List ℕ) (i : ℕ) → 8 ≤ i → i ≤ 8 → out ≡ over (take i form) out₀ → out ≡ over (take 8 form) out₀
-header_end form out out₀ i h g inv = let e : i ≡ 8 = omega arith in rw e at inv
-
-pub ruleset ways = (names_start, names_turn, used_turn, names_end, knows_after, row_written_lem, rows_start, rows_turn, rows_end, over_start, key_turn, key_end, key_full, header_turn, header_end, rules)
+pub ruleset ways = (names_start, names_turn, used_turn, names_end, knows_after, row_written_lem, rows_start, rows_turn, rows_end, over_start, key_turn, key_end, key_full, rules)

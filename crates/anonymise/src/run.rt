@@ -51,16 +51,15 @@ impl From<BadRows> for Fault {
 }
 
 // Enters the names of all rows, and answers how many there are.
+#[tactic(auto, using(crate::proofs::Rows::ways))]
 fn enter_rows(rows: &[u8], table: &mut [Slot], index: &mut [u16]) -> usize
     requires { Knows table.old index.old 0 × (2 * (length rows.now / 16) ≤ length table.old) }
     ensures { Knows table.new index.new result × (seen_in table.new result ≡ key_of rows.now) }
 {
     let n = rows.len() / 16;
     let mut used = 0;
-    let mut i = 0;
-    while i < n {
+    for i in 0..n {
         used = enter_row(rows, i, table, index, used);
-        i += 1;
     }
     used
 }
@@ -74,30 +73,28 @@ fn write_row(rows: &[u8], i: usize, table: &[Slot], index: &[u16], used: usize, 
 }
 
 // Writes all rows so.
+#[tactic(auto, using(crate::proofs::Rows::ways))]
 fn write_rows(rows: &[u8], table: &[Slot], index: &[u16], used: usize, out: &mut [u8])
     requires { Knows table.now index.now used }
     ensures { out.new ≡ rows_written (seen_in table.now used) rows.now 0 (length rows.now / 16) out.old }
 {
     let n = rows.len() / 16;
-    let mut i = 0;
-    while i < n {
+    for i in 0..n {
         write_row(rows, i, table, index, used, out);
-        i += 1;
     }
 }
 
 // Copies the names in the table to the key, as many as it takes.
+#[tactic(auto, using(crate::proofs::Rows::ways))]
 fn copy_key(table: &[Slot], used: usize, key: &mut [u32])
     requires { used ≤ length table.now }
     ensures { key.new ≡ over (seen_in table.now used) key.old }
 {
-    let mut i = 0;
-    while i < used {
+    for i in 0..used {
         if key.len() <= i {
             return;
         }
         key[i] = slot_at(table, i)[1];
-        i += 1;
     }
 }
 
@@ -106,11 +103,7 @@ fn copy_header(form: &[u8], out: &mut [u8])
     requires { (8 ≤ length form.now) × (8 ≤ length out.old) }
     ensures { out.new ≡ over (take 8 form.now) out.old }
 {
-    let mut i = 0;
-    while i < HEADER {
-        out[i] = form[i];
-        i += 1;
-    }
+    out[..HEADER].copy_from_slice(&form[..HEADER]);
 }
 
 // Writes the rows with numbers for names, and the key; answers how many names there are. The tables start empty.

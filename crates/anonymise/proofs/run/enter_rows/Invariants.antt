@@ -10,6 +10,3 @@ use Rattle.anonymise.proofs.run.enter_rows.Given as goal
 
 abbrev pub invariant-loop-i : goal.invariant-loop-i
 invariant-loop-i l = Knows l.table l.index l.used × (firsts (seen_in l.table l.used) (names_from l.rows l.i (l.n - l.i)) ≡ key_of l.rows) × (l.used ≤ 2 * l.i) × (length l.table ≡ length l.initial.table) × (length l.index ≡ length l.initial.index)
-
-abbrev pub decreases-loop-i : goal.decreases-loop-i
-decreases-loop-i l = l.n - l.i

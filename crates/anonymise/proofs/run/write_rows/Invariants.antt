@@ -8,6 +8,3 @@ use Rattle.anonymise.proofs.run.write_rows.Given as goal
 
 abbrev pub invariant-loop-i : goal.invariant-loop-i
 invariant-loop-i l = (rows_written (seen_in l.table l.used) l.rows l.i (l.n - l.i) l.out ≡ rows_written (seen_in l.table l.used) l.rows 0 (length l.rows / 16) l.initial.out) × (length l.out ≡ length l.initial.out)
-
-abbrev pub decreases-loop-i : goal.decreases-loop-i
-decreases-loop-i l = l.n - l.i
