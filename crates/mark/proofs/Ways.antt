@@ -2,7 +2,7 @@
 use Rattle.std.specs.Prelude.{Option, Some, None, is_some}
 use Rattle.std.proofs.Common.{◌≡◌, ℕ, suc, ◌+◌, ◌-◌, ◌/◌, ◌%◌, ◌<◌, ◌≤◌, Bool, true, false, not, List, [], ◌∷◌, length, get_or, sym, refl, ap, ◌∙◌, arith, rules, ne_eqb}
 use Rattle.kit.specs.Pick.{pick}
-use Rattle.kit.proofs.Laws.{yes!, no!, tests, left_suc, down, past}
+use Rattle.kit.proofs.Laws.{yes!, no!, tests, left_suc, past}
 use Rattle.kit.specs.Out.{Out, ◌&◌}
 use Rattle.rules.specs.Shapes.{here_only}
 use Rattle.parts.specs.declared.Parts.{Parts}
@@ -54,21 +54,24 @@ module _ (p : Parts) (table : List Slot) (used : ℕ) where
   unfolding enter_row_t
   enter_other h = no! _ (omega tests) refl
 
-module _ (rows ends : List ℕ) (at : Place) (table : List Slot) (used turns : ℕ) (T : Out ℕ (List Slot)) (inv : enter_all (visits_t rows ends turns at) table used ≡ T) where
-  pub enter_end : turns ≤ 0 → (used & table) ≡ T
+module _ (rows ends : List ℕ) (at : Place) (table : List Slot) (used i n : ℕ) (T : Out ℕ (List Slot)) (inv : enter_all (visits_t rows ends (n - i) at) table used ≡ T) where
+  pub enter_end : n ≤ i → (used & table) ≡ T
   unfolding visits_t enter_all
-  enter_end h = let e : turns ≡ 0 = omega arith in rw e at inv
+  enter_end h = let e : n - i ≡ 0 = omega arith in rw e at inv
 
-  module _ (h : 0 < turns) (p : Parts) (got : p ≡ parts_at rows at.row) where
+  module _ (h : i < n) (p : Parts) (got : p ≡ parts_at rows at.row) where
     pub enter_close : p.code ≡ 8 → (used & table) ≡ T
     unfolding visits_t enter_all pick
-    enter_close e = (rw (← got, e) at (rw (down turns h) at inv))
+    enter_close e = (rw (← got, e) at (rw (left_suc i n h) at inv))
 
-    pub enter_turn : (p.code ≡ 8 → ⊥) → (u : ℕ) (t : List Slot) (at' : Place) → (u & t) ≡ enter_row_t p table used → at' ≡ visit_step_t ends (length rows / 16) p at → enter_all (visits_t rows ends (turns - 1) at') t u ≡ T
+    pub enter_turn : (p.code ≡ 8 → ⊥) → (u : ℕ) (t : List Slot) (at' : Place) → (u & t) ≡ enter_row_t p table used → at' ≡ visit_step_t ends (length rows / 16) p at → enter_all (visits_t rows ends (n - (i + 1)) at') t u ≡ T
     unfolding visits_t enter_all enter_then pick
-    enter_turn e u t at' w s = rw s (rw (← got, ne_eqb _ _ e, ← w) at (rw (down turns h) at inv))
+    enter_turn e u t at' w s = rw s (rw (← got, ne_eqb _ _ e, ← w) at (rw (left_suc i n h) at inv))
 
-pub ruleset enter_ways = (enter_decl, enter_other, enter_end, enter_close, enter_turn, rules)
+pub enter_start : (rows ends : List ℕ) (at : Place) (table : List Slot) (n : ℕ) → enter_all (visits_t rows ends (n - 0) at) table 0 ≡ enter_all (visits_t rows ends n at) table 0
+enter_start rows ends at table n = let z : n - 0 ≡ n = omega arith in rw z
+
+pub ruleset enter_ways = (enter_decl, enter_other, enter_end, enter_close, enter_turn, enter_start, rules)
 
 -- ---- is_own, insert, rename
 
@@ -145,19 +148,22 @@ pub ruleset mark_ways = (outer_served, outer_new, name_own, name_outer, ref_path
 
 -- ---- mark_scope_rows, mark_scope
 
-module _ (rows ends : List ℕ) (at : Place) (m : Marking) (table : List Slot) (marked : List ℕ) (turns : ℕ) (T : Step) (inv : mark_all (visits_t rows ends turns at) m table marked ≡ T) where
-  pub mark_end : turns ≤ 0 → (m & table & marked) ≡ T
+module _ (rows ends : List ℕ) (at : Place) (m : Marking) (table : List Slot) (marked : List ℕ) (i n : ℕ) (T : Step) (inv : mark_all (visits_t rows ends (n - i) at) m table marked ≡ T) where
+  pub mark_end : n ≤ i → (m & table & marked) ≡ T
   unfolding visits_t mark_all
-  mark_end h = let e : turns ≡ 0 = omega arith in rw e at inv
+  mark_end h = let e : n - i ≡ 0 = omega arith in rw e at inv
 
-  module _ (h : 0 < turns) (p : Parts) (got : p ≡ parts_at rows at.row) where
+  module _ (h : i < n) (p : Parts) (got : p ≡ parts_at rows at.row) where
     pub mark_close : p.code ≡ 8 → (m & table & marked) ≡ T
     unfolding visits_t mark_all pick
-    mark_close e = (rw (← got, e) at (rw (down turns h) at inv))
+    mark_close e = (rw (← got, e) at (rw (left_suc i n h) at inv))
 
-    pub mark_turn : (p.code ≡ 8 → ⊥) → (m' : Marking) (t : List Slot) (l : List ℕ) (at' : Place) → (m' & t & l) ≡ mark_row_t p at.row at.walked m table marked → at' ≡ visit_step_t ends (length rows / 16) p at → mark_all (visits_t rows ends (turns - 1) at') m' t l ≡ T
+    pub mark_turn : (p.code ≡ 8 → ⊥) → (m' : Marking) (t : List Slot) (l : List ℕ) (at' : Place) → (m' & t & l) ≡ mark_row_t p at.row at.walked m table marked → at' ≡ visit_step_t ends (length rows / 16) p at → mark_all (visits_t rows ends (n - (i + 1)) at') m' t l ≡ T
     unfolding visits_t mark_all mark_then pick
-    mark_turn e m' t l at' w s = rw s (rw (← got, ne_eqb _ _ e, ← w) at (rw (down turns h) at inv))
+    mark_turn e m' t l at' w s = rw s (rw (← got, ne_eqb _ _ e, ← w) at (rw (left_suc i n h) at inv))
+
+pub mark_start : (rows ends : List ℕ) (at : Place) (m : Marking) (table : List Slot) (marked : List ℕ) (n : ℕ) → mark_all (visits_t rows ends (n - 0) at) m table marked ≡ mark_all (visits_t rows ends n at) m table marked
+mark_start rows ends at m table marked n = let z : n - 0 ≡ n = omega arith in rw z
 
 pub scope_way : (rows ends : List ℕ) (first fresh : ℕ) (table : List Slot) (marked : List ℕ) (own : ℕ) (t : List Slot) (m : Marking) (t' : List Slot) (l : List ℕ) → (own & t) ≡ enter_all (visits_t rows ends (length rows / 16) (place_at first)) table 0 → (m & t' & l) ≡ mark_all (visits_t rows ends (length rows / 16) (place_at first)) (marking own own fresh) t marked → (m.fresh & t' & l) ≡ mark_scope_t rows ends first fresh table marked
 unfolding mark_scope_t enter_then next_of
@@ -167,7 +173,7 @@ scope_way rows ends first fresh table marked own t m t' l e f = rw (← e, ← f
 pub serves_first : (own fresh : ℕ) (table : List Slot) (index : List ℕ) → Holds table index own → Serves (marking own own fresh) table index
 serves_first own fresh table index h = record { holds = h; within = omega arith }
 
-pub ruleset scope_ways = (mark_end, mark_close, mark_turn, scope_way, serves_first, rules)
+pub ruleset scope_ways = (mark_end, mark_close, mark_turn, mark_start, scope_way, serves_first, rules)
 
 -- ---- mark_at, mark_scopes
 

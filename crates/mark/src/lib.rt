@@ -33,19 +33,12 @@ pub struct Place {
     pub walked: bool,
 }
 
-// An end as it was noted.
-fn noted(end: u32) -> usize
-    ensures { result ≡ end }
-{
-    end as usize
-}
-
 // The row past the field that begins at a row, as it was noted; 0 where none was.
 fn end_of(ends: &[u32], row: usize) -> usize
     ensures { result ≡ slice_index ends.now row }
 {
     if row < ends.len() {
-        noted(ends[row])
+        ends[row] as usize
     } else {
         0
     }
@@ -114,9 +107,7 @@ fn enter_scope(
         end: first,
         walked: false,
     };
-    let mut turns = count;
-    while 0 < turns {
-        turns -= 1;
+    for _ in 0..count {
         let p = parts_at(rows, at.row);
         if p.code == CLOSE {
             return used;
@@ -280,9 +271,7 @@ fn mark_scope_rows(
         end: first,
         walked: false,
     };
-    let mut turns = count;
-    while 0 < turns {
-        turns -= 1;
+    for _ in 0..count {
         let p = parts_at(rows, at.row);
         if p.code == CLOSE {
             return m;
@@ -345,10 +334,8 @@ fn mark_scopes(rows: &[u8], ends: &[u32], marked: &mut [u8], table: &mut [Slot],
 {
     let count = rows.len() / 16;
     let mut fresh = FIRST_FRESH;
-    let mut i = 0;
-    while i < count {
+    for i in 0..count {
         fresh = mark_at(rows, ends, i, marked, table, index, fresh);
-        i += 1;
     }
 }
 
@@ -364,10 +351,8 @@ fn copy_rows(rows: &[u8], marked: &mut [u8])
     ensures { marked.new ≡ copies_t rows.now 0 (length rows.now / 16) marked.old }
 {
     let count = rows.len() / 16;
-    let mut i = 0;
-    while i < count {
+    for i in 0..count {
         copy_at(rows, i, marked);
-        i += 1;
     }
 }
 

@@ -5,6 +5,3 @@ use Rattle.mark.proofs.copy_rows.Given as goal
 
 abbrev pub invariant-loop-i : goal.invariant-loop-i
 invariant-loop-i l = (copies_t l.rows l.i (l.count - l.i) l.marked ≡ copies_t l.rows 0 (length l.rows / 16) l.initial.marked) × (length l.marked ≡ length l.initial.marked)
-
-abbrev pub decreases-loop-i : goal.decreases-loop-i
-decreases-loop-i l = l.count - l.i

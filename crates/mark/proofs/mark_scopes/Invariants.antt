@@ -7,6 +7,3 @@ use Rattle.mark.proofs.mark_scopes.Given as goal
 abbrev pub invariant-loop-i : goal.invariant-loop-i
 invariant-loop-i l = (scopes_t l.rows l.ends l.i (l.count - l.i) l.fresh l.table l.marked ≡ scopes_t l.rows l.ends 0 (length l.rows / 16) 2147483648 l.initial.table l.initial.marked)
     × Holds l.table l.index 0 × (length l.marked ≡ length l.initial.marked) × (length l.table ≡ length l.initial.table) × (length l.index ≡ length l.initial.index)
-
-abbrev pub decreases-loop-i : goal.decreases-loop-i
-decreases-loop-i l = l.count - l.i
