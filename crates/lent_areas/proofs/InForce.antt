@@ -9,7 +9,7 @@ use Rattle.rules.specs.Tools.{when◌then◌else◌, only, ◌or_else◌}
 use Rattle.rules.specs.Versions.{Setting, all}
 use Rattle.rules.specs.Answer.{has_header, setting_of}
 use Rattle.rules.specs.Laws.Results.{some_same, no_option}
-use Rattle.limits.specs.Held.{setting_in, limits_of, setting}
+use Rattle.limits.specs.Held.{limits_of, setting}
 use Rattle.limits.proofs.Laws.{stand_for}
 use Rattle.form.specs.Header.{header_for, header_to}
 use Rattle.resolver_with.specs.Asked.{first, asked_in, asked}

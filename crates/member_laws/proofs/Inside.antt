@@ -1,5 +1,5 @@
 -- A member inside a root that stands in the table: what the walk leaves of it, and what is answered, are what the rules say.
-use Rattle.std.specs.Prelude.{◌≡◌, refl, ℕ, ◌+◌, ◌-◌, ◌*◌, ◌/◌, ◌≤◌, length, take, set, replicate, Result as CodeResult, Ok, Err}
+use Rattle.std.specs.Prelude.{◌≡◌, refl, ℕ, ◌+◌, ◌-◌, ◌*◌, ◌/◌, ◌≤◌, length, take, replicate, is_some, Result as CodeResult, Ok, Err}
 use Rattle.std.proofs.Math.Path.{sym, ap, subst}
 use Rattle.std.proofs.Common.{◌∙◌, get_or-set_same}
 use Rattle.std.proofs.Math.Bool.{true}
@@ -17,7 +17,7 @@ use Rattle.rules.specs.Tree.{Declaration, Scope, scope, flatten}
 use Rattle.rules.specs.Good.{height}
 use Rattle.rules.specs.Readings.{fields_of}
 use Rattle.rules.specs.Begins.{IsForm}
-use Rattle.rules.specs.Rules.{Env, table_of, find, Result, ok, resolve_inside}
+use Rattle.rules.specs.Rules.{Env, table_of, find, resolve_inside}
 use Rattle.rules.specs.Answer as rules
 use Rattle.rules.specs.Answer.{accepted, map_answer, row_count, rows_of, resolved, answer_inside, output_after, output_inside}
 use Rattle.rules.specs.Laws.RowLaws.{Bytes, bytes_drop}
@@ -34,10 +34,8 @@ use Rattle.form.proofs.EndsStorey.{ends_to_right}
 use Rattle.names.specs.Table.{Slot, no_scope, scope_of, row_of, between}
 use Rattle.names.specs.Stands.{found_of, Stands, entry_rows, Envs, Below}
 use Rattle.names.proofs.Storey.{find_stands, envs_push, below_push}
-use Rattle.plan.specs.Enter.{is_found}
-use Rattle.walk.specs.Scopes.{start_in}
 use Rattle.agree.specs.Tables.Sizes.{most, Sizes, Fits}
-use Rattle.agree.specs.Rows.AtLaws.{at_fits, at_form}
+use Rattle.agree.specs.Rows.AtLaws.{at_form}
 use Rattle.agree.specs.Tables.Earlier.{Knows, Come, Earlier}
 use Rattle.agree.specs.Walk.RootAgrees.{Begun, inside_agrees}
 use Rattle.whole_form.specs.Whole.{form_of}
@@ -68,12 +66,12 @@ pub record RoomsIn (v : Version) (used : ℕ) (es : List ℕ) (en ns : List Slot
 -- ---- the walk
 
 -- slots that are declarations hold them
-found_just : (o : Option ℕ) → is_found (found_of o) ≡ is_just o
+found_just : (o : Option ℕ) → is_some (found_of o) ≡ is_just o
 found_just none = refl
 found_just (some n) = refl
 
 knows_stands : (slots : List Slot) (ds : List Declaration) → Stands [] slots ds → Knows slots ds
-knows_stands slots ds st space name l = ap is_found (find_stands space name slots ds st) ∙ found_just (find ds space name)
+knows_stands slots ds st space name l = ap is_some (find_stands space name slots ds st) ∙ found_just (find ds space name)
 
 module _ (s : Setting) (able : Able s) (some_scope : 1 ≤ s.version.scopes) (root : Env) (name used : ℕ) (ends : List ℕ) (entered names : List Slot) (seated : Seated root names name used) (rooms : RoomsIn s.version used ends entered names) where
   sizes : Sizes

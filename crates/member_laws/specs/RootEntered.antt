@@ -1,5 +1,5 @@
 -- On the rows of a resolved form, what is entered of its root is its declarations, with their numbers and rows.
-use Rattle.std.specs.Prelude.{◌≡◌, Bool, eqb, leb, get_or, set}
+use Rattle.std.specs.Prelude.{◌≡◌, Bool, eqb, get_or, set}
 use Rattle.std.proofs.Math.Path.{refl}
 use Rattle.std.proofs.Common.{sym, ap, ◌∙◌, add-one, length-set, get_or-set_same, get_or-set_other}
 use Rattle.std.proofs.Math.Bool.{true, false}
@@ -10,7 +10,7 @@ use native.Mathlib.Omega.{arith}
 use Rattle.std.proofs.Math.ListN.{length, length-append}
 use Rattle.std.proofs.lemmas.List.{length-map}
 use Rattle.kit.proofs.Laws.{copies_at}
-use borrow.Author.Tests.{eq-eqb, ne_eqb, lt-leb, eqb-true}
+use borrow.Author.Tests.{ne_eqb, lt-leb, eqb-true}
 use Rattle.kit.specs.Pick.{pick}
 use Rattle.kit.specs.Out.{Out, ◌&◌}
 use Rattle.rules.specs.Rows.{Row, Field, Decl, Ref, Path, Outer, Case, Open, Close, Export, encode}
@@ -20,10 +20,9 @@ use Rattle.rules.specs.Readings.{fields_of}
 use Rattle.rules.specs.Laws.ToolLaws.{All, done, ◌&◌ as ◌⊕◌, all_append, eqb_same, false_not, length_snoc}
 use Rattle.rules.specs.Laws.Entries.{decls_append, entered_decls}
 use Rattle.batching.specs.Batch.{entered_fields, root_of}
-use Rattle.parts.specs.declared.Parts.{Parts}
-use Rattle.names.specs.Table.{Slot, row_of, slot_of, between, pushed}
+use Rattle.names.specs.Table.{Slot, row_of, slot_of, between}
 use Rattle.names.specs.Stands.{count, Stands, entry_rows}
-use Rattle.names.proofs.Storey.{count_same, count_other, stands_length, pushed_room, between_push, stands_push}
+use Rattle.names.proofs.Storey.{count_same, count_other, pushed_room, between_push, stands_push}
 use Rattle.claim_numbers.specs.Count.{no_counts, counts_at, more_count_t, bump_count_t, count_before_t}
 use Rattle.claim_laws.specs.RowParts.{as_parts, all_parts, code_in, Inner, behind_field, inner_behind, decls_size}
 use Rattle.agree.specs.Fit.Spaces.{Spaces, SpacesDecls}

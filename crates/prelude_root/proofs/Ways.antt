@@ -1,10 +1,8 @@
 -- Each way through the code finds what its twin finds.
-use mathlib.Core.Path.{◌≡◌, refl, sym, ap, ◌∙◌}
-use mathlib.Core.Bool.{Bool, true, false}
-use mathlib.Core.List.{List, [], ◌∷◌}
-use Prim.Native.Nat.{ℕ, zero, suc, ◌+◌, ◌-◌, ◌/◌, ◌%◌, ◌<◌, ◌≤◌}
+use mathlib.Core.Path.{◌≡◌, refl}
+use mathlib.Core.List.{List}
+use Prim.Native.Nat.{ℕ, ◌+◌, ◌-◌, ◌/◌, ◌%◌, ◌<◌, ◌≤◌}
 use native.Mathlib.Omega.{arith}
-use lib.Dec.{eqb}
 use lib.ListN.{length, replicate}
 use borrow.Author.Rules.{rules}
 use borrow.Author.Tests.{eq-eqb, ne_eqb}
@@ -15,7 +13,7 @@ use Rattle.parts.specs.declared.Parts.{Parts}
 use Rattle.names.specs.Table.{Slot, slot_of, pushed}
 use Rattle.claim_rows.specs.Left.{rows_at}
 use Rattle.claim_rows.proofs.Ways.{rows_there, rows_past}
-use Rattle.claim_numbers.specs.Count.{no_counts, count_before_t}
+use Rattle.claim_numbers.specs.Count.{count_before_t}
 use Rattle.prelude_root.specs.Root.{depth_t, beside_t, numbered_t, root_row_t, root_behind_t, turn_t, then_t, root_rows_t, root_t}
 use Rattle.prelude_root.specs.declared.Cursor.{Cursor}
 

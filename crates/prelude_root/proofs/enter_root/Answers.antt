@@ -1,6 +1,5 @@
 -- `prelude_root::enter_root` meets its contract.
 use borrow.Author.Rules.{rules}
-use Prim.Native.Nat.{◌-◌}
 use Rattle.prelude_root.proofs.Ways.{turns}
 use Rattle.prelude_root.proofs.enter_root.Goals as goal
 
