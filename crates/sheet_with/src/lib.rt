@@ -19,7 +19,7 @@ use fixed::HEADER;
 use lent_areas::{are_roomy, clear_areas};
 use limits::of_input;
 use names::{Slot, least};
-use refusal::ROOM;
+use refusal::{ROOM, Refusal};
 use resolver::run::header_size;
 use resolver_with::run::{asked_for, resolve_with};
 use sheet::{NOT_ITS_SHEET, answers_size, begins, refused, rows_written};
