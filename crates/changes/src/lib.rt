@@ -12,17 +12,15 @@ const MOST: usize = 1048576;
 // The bytes of a change before those that stood there.
 const LEAD: usize = 12;
 
-fn wide(byte: u8) -> u32
-    ensures { result < 256 }
-{
-    byte as u32
-}
-
 // The byte at i, 0 past the end.
 fn byte_at(bytes: &[u8], i: usize) -> u32
     ensures { result < 256 }
 {
-    if i < bytes.len() { wide(bytes[i]) } else { 0 }
+    if i < bytes.len() {
+        u32::from(bytes[i])
+    } else {
+        0
+    }
 }
 
 // The number in the four bytes from a on.
@@ -140,10 +138,8 @@ fn next_change(list: &[u8], i: usize) -> usize {
 // Writes a line for each of this many changes.
 pub fn say_changes(fd: Talk<'_>, list: &[u8], changes: u32, form: &[u8]) {
     let mut i = 0;
-    let mut said = 0;
-    while said < changes {
+    for _ in 0..changes {
         say_change(fd, list, i, form);
         i = next_change(list, i);
-        said += 1;
     }
 }

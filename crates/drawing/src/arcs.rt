@@ -44,7 +44,7 @@ fn draw_arc(talk: Talk<'_>, row: u16, target: u16, lane: u16, class: u8, right: 
     let to = line_at(target, 9);
     write(talk, b"<path class=\"");
     write(talk, &[class]);
-    write_unit(talk, b"\" d=\"M", right as u32);
+    write_unit(talk, b"\" d=\"M", u32::from(right));
     write_unit(talk, b" ", from);
     write_unit(talk, b"H", bend);
     write_unit(talk, b"Q", x);
@@ -75,14 +75,12 @@ pub(crate) fn draw_arcs(
     right: u16,
 ) {
     let rows = rows_in(form);
-    let mut row: u16 = 0;
-    while row < rows {
+    for row in 0..rows {
         let target = entry_of(targets, row);
         if target != row {
             let is_moved = has_moved(form, row, target, list, count);
             let class = arc_class(form, entries, row, is_moved);
             draw_arc(talk, row, target, entry_of(lanes, target), class, right);
         }
-        row += 1;
     }
 }

@@ -11,17 +11,15 @@ use words::Talk;
 // The row that ends the scope which an OPEN begins, or the last of all.
 fn end_of(form: &[u8], open: u16) -> u16 {
     let rows = rows_in(form);
-    let mut row = next(open);
     let mut level: u32 = 0;
     let mut last = open;
-    while row < rows {
+    for row in next(open)..rows {
         let code = code_at(form, row);
         last = row;
         if is_bound(level, code, CLOSE) {
             return row;
         }
         level = level_behind(level, code);
-        row += 1;
     }
     last
 }
@@ -35,8 +33,8 @@ fn draw_scope(talk: Talk<'_>, form: &[u8], open: u16, level: u32, right: u16) {
     write_unit(talk, b"<rect class=\"b s", level % 4);
     write_unit(talk, b"\" x=\"", left);
     write_unit(talk, b"\" y=\"", line_at(open, 1));
-    write_unit(talk, b"\" width=\"", gap(left, right as u32));
-    write_unit(talk, b"\" height=\"", LINE * (lines as u32) + 14);
+    write_unit(talk, b"\" width=\"", gap(left, u32::from(right)));
+    write_unit(talk, b"\" height=\"", LINE * u32::from(lines) + 14);
     write(talk, b"\" rx=\"5\"/>\n");
 }
 
@@ -44,13 +42,11 @@ fn draw_scope(talk: Talk<'_>, form: &[u8], open: u16, level: u32, right: u16) {
 pub(crate) fn draw_scopes(talk: Talk<'_>, form: &[u8], right: u16) {
     let rows = rows_in(form);
     let mut level: u32 = 0;
-    let mut row: u16 = 0;
-    while row < rows {
+    for row in 0..rows {
         let code = code_at(form, row);
         if code == OPEN {
             draw_scope(talk, form, row, level, right);
         }
         level = level_behind(level, code);
-        row += 1;
     }
 }

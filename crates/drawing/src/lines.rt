@@ -73,7 +73,7 @@ fn write_words(talk: Talk<'_>, names: &[u8], form: &[u8], entries: &[Entry], row
 
 fn write_number(talk: Talk<'_>, row: u16) {
     begin_text(talk, b"n", 38, line_at(row, 13));
-    say_number(talk, row as u32);
+    say_number(talk, u32::from(row));
     end_text(talk);
 }
 
@@ -82,7 +82,7 @@ fn write_ground(talk: Talk<'_>, form: &[u8], row: u16, level: u32, right: u16) {
     let left = row_at(code_at(form, row), level, 0);
     write_unit(talk, b"<rect class=\"g\" x=\"", left);
     write_unit(talk, b"\" y=\"", line_at(row, 1));
-    write_unit(talk, b"\" width=\"", gap(left, (right as u32) / 5 * 4));
+    write_unit(talk, b"\" width=\"", gap(left, u32::from(right) / 5 * 4));
     write(talk, b"\" height=\"16\" rx=\"3\"/>\n");
 }
 
@@ -94,7 +94,7 @@ fn write_leader(talk: Talk<'_>, form: &[u8], row: u16, level: u32, right: u16) {
         row_at(code_at(form, row), level, 4),
     );
     write_unit(talk, b" ", line_at(row, 16));
-    write_unit(talk, b"H", right as u32);
+    write_unit(talk, b"H", u32::from(right));
     write(talk, b"\"/>\n");
 }
 
@@ -178,13 +178,11 @@ pub(crate) fn draw_rows(
 ) {
     let rows = rows_in(form);
     let mut level: u32 = 0;
-    let mut row: u16 = 0;
-    while row < rows {
+    for row in 0..rows {
         let meant = entry_of(targets, row);
         let is_moved = has_moved(form, row, meant, list, count);
         let class = reference_class(row, meant, is_moved);
         draw_row(talk, names, form, entries, row, level, class, right);
         level = level_behind(level, code_at(form, row));
-        row += 1;
     }
 }

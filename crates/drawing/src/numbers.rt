@@ -9,16 +9,14 @@ const MOST: u32 = 65536;
 // Whether an entry has that place, and meant that row.
 fn is_entry(list: &[u8], entry: u32, place: u32, meant: u16) -> bool {
     let at = entry % MOST * 16;
-    (word_at(list, at) == place) & (word_at(list, at + 8) == meant as u32)
+    (word_at(list, at) == place) & (word_at(list, at + 8) == u32::from(meant))
 }
 
 fn has_entry(list: &[u8], count: u32, place: u32, meant: u16) -> bool {
-    let mut entry = 0;
-    while entry < count {
+    for entry in 0..count {
         if is_entry(list, entry, place, meant) {
             return true;
         }
-        entry += 1;
     }
     false
 }

@@ -7,7 +7,7 @@ use meanings::entries::Entry;
 use meanings::note_meanings;
 use picture::arcs::{MOST, note_spans, note_targets};
 use picture::lanes::{last_lane, note_lanes};
-use picture::places::{deepest, greater, lane_at, line_at, longest_line, right_of};
+use picture::places::{deepest, lane_at, line_at, longest_line, right_of};
 use row_parts::{has_header, rows_in, rows_said};
 use words::Talk;
 use words::row_words::say_header;
@@ -47,7 +47,7 @@ pub fn draw(talk: Talk<'_>, names: &[u8], form: &[u8], list: &[u8], count: u32, 
     note_targets(form, &entries, &mut targets);
     let lanes = lanes_of(rows, &targets);
     let width = lane_at(right, last_lane(rows, &lanes), 40);
-    begin(talk, greater(width, least), line_at(rows, 20));
+    begin(talk, width.max(least), line_at(rows, 20));
     write_legend(talk);
     draw_scopes(talk, form, right);
     draw_rows(talk, names, form, &entries, &targets, list, count, right);
@@ -68,7 +68,7 @@ pub fn end(talk: Talk<'_>) {
 pub fn write_rows(talk: Talk<'_>, form: &[u8]) {
     say_header(
         talk,
-        rows_in(form) as u32,
+        u32::from(rows_in(form)),
         has_header(form),
         rows_said(form),
     );

@@ -33,15 +33,13 @@ fn say_byte(fd: Talk<'_>, byte: u8) {
         say(fd, &[byte]);
     } else {
         say(fd, b"\\u");
-        say_hex(fd, byte as u64, 4);
+        say_hex(fd, u64::from(byte), 4);
     }
 }
 
 fn say_bytes(fd: Talk<'_>, text: &[u8]) {
-    let mut i = 0;
-    while i < text.len() {
-        say_byte(fd, text[i]);
-        i += 1;
+    for byte in text {
+        say_byte(fd, *byte);
     }
 }
 

@@ -36,35 +36,25 @@ pub fn target_of(form: &[u8], entries: &[Entry], row: u16) -> u16
 // Notes for each row of a form where its arc leads.
 pub fn note_targets(form: &[u8], entries: &[Entry], targets: &mut [u16; MOST]) {
     let rows = rows_in(form);
-    let mut row: u16 = 0;
-    while row < rows {
-        targets[(row as usize) % MOST] = target_of(form, entries, row);
-        row += 1;
+    for row in 0..rows {
+        targets[usize::from(row) % MOST] = target_of(form, entries, row);
     }
 }
 
 // What a table has for a row.
 pub fn entry_of(table: &[u16; MOST], row: u16) -> u16 {
-    table[(row as usize) % MOST]
-}
-
-fn lower(one: u16, other: u16) -> u16 {
-    if one < other { one } else { other }
-}
-
-fn higher(one: u16, other: u16) -> u16 {
-    if one < other { other } else { one }
+    table[usize::from(row) % MOST]
 }
 
 // The arcs to a declaration with one more, from a row.
 fn widen(row: u16, target: u16, first: &mut [u16; MOST], last: &mut [u16; MOST]) {
-    let at = (target as usize) % MOST;
+    let at = usize::from(target) % MOST;
     if last[at] == 0 {
-        first[at] = lower(row, target);
-        last[at] = higher(row, target);
+        first[at] = row.min(target);
+        last[at] = row.max(target);
     } else {
-        first[at] = lower(row, first[at]);
-        last[at] = higher(row, last[at]);
+        first[at] = row.min(first[at]);
+        last[at] = row.max(last[at]);
     }
 }
 
@@ -75,12 +65,10 @@ pub fn note_spans(
     first: &mut [u16; MOST],
     last: &mut [u16; MOST],
 ) {
-    let mut row: u16 = 0;
-    while row < rows {
+    for row in 0..rows {
         let target = entry_of(targets, row);
         if target != row {
             widen(row, target, first, last);
         }
-        row += 1;
     }
 }

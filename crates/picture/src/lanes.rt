@@ -28,16 +28,12 @@ pub fn overlap(one: Span, other: Span) -> bool
 
 // How many rows further down a span ends than it begins; 0 for that of no arcs.
 pub fn length_of(span: Span) -> u16 {
-    if span.first < span.last {
-        span.last - span.first
-    } else {
-        0
-    }
+    span.last.saturating_sub(span.first)
 }
 
 // Marks a lane as taken, by a number that no other marking has.
 fn take(taken: &mut [u16; MOST], lane: u16, mark: u16) {
-    taken[(lane as usize) % MOST] = mark;
+    taken[usize::from(lane) % MOST] = mark;
 }
 
 // Marks the lanes of the arcs that overlap a span. Lane 0 is that of what has none yet.
@@ -50,25 +46,21 @@ fn take_overlapping(
     span: Span,
     mark: u16,
 ) {
-    let mut decl: u16 = 0;
-    while decl < rows {
+    for decl in 0..rows {
         if overlap(span, span_of(first, last, decl)) {
             take(taken, entry_of(lanes, decl), mark);
         }
-        decl += 1;
     }
 }
 
 // The first lane, from 1 on, that is not taken.
 fn free_lane(taken: &[u16; MOST], mark: u16) -> u16 {
-    let mut lane: u16 = 1;
-    while lane < 4095 {
+    for lane in 1..4095 {
         if entry_of(taken, lane) != mark {
             return lane;
         }
-        lane += 1;
     }
-    lane
+    4095
 }
 
 // Gives lanes to the declarations whose arcs have that length.
@@ -80,37 +72,28 @@ fn give_lanes(
     lanes: &mut [u16; MOST],
     taken: &mut [u16; MOST],
 ) {
-    let mut decl: u16 = 0;
-    while decl < rows {
+    for decl in 0..rows {
         let span = span_of(first, last, decl);
         if length_of(span) == length {
             take_overlapping(rows, first, last, lanes, taken, span, decl + 1);
-            lanes[(decl as usize) % MOST] = free_lane(taken, decl + 1);
+            lanes[usize::from(decl) % MOST] = free_lane(taken, decl + 1);
         }
-        decl += 1;
     }
 }
 
 // Gives a lane to each declaration to which arcs lead.
 pub fn note_lanes(rows: u16, first: &[u16; MOST], last: &[u16; MOST], lanes: &mut [u16; MOST]) {
     let mut taken = [0u16; MOST];
-    let mut length: u16 = 1;
-    while length < rows {
+    for length in 1..rows {
         give_lanes(rows, length, first, last, lanes, &mut taken);
-        length += 1;
     }
 }
 
 // The last lane.
 pub fn last_lane(rows: u16, lanes: &[u16; MOST]) -> u16 {
     let mut most: u16 = 0;
-    let mut decl: u16 = 0;
-    while decl < rows {
-        let lane = entry_of(lanes, decl);
-        if most < lane {
-            most = lane;
-        }
-        decl += 1;
+    for decl in 0..rows {
+        most = most.max(entry_of(lanes, decl));
     }
     most
 }

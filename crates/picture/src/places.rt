@@ -30,7 +30,7 @@ const LANE: u32 = 12;
 
 // So far below the upper edge of a row's line.
 pub fn line_at(row: u16, offset: u8) -> u32 {
-    TOP + LINE * (row as u32) + (offset as u32)
+    TOP + LINE * u32::from(row) + u32::from(offset)
 }
 
 fn depth_of(level: u32) -> u8 {
@@ -39,7 +39,7 @@ fn depth_of(level: u32) -> u8 {
 
 // The left edge of a scope that is opened behind this many open ones.
 pub fn left_of(level: u32) -> u32 {
-    (LEFT + STEP * (depth_of(level) as u16)) as u32
+    u32::from(LEFT + STEP * u16::from(depth_of(level)))
 }
 
 // How far inside its scope a row stands: what a field holds stands in it.
@@ -53,27 +53,23 @@ fn inset_of(code: u8) -> u8 {
 
 // So far to the right of where a row begins.
 pub fn row_at(code: u8, level: u32, offset: u8) -> u32 {
-    let left = (LEFT + STEP * (depth_of(level) as u16)) as u32;
-    left + (inset_of(code) as u32) + (offset as u32)
+    let left = u32::from(LEFT + STEP * u16::from(depth_of(level)));
+    left + u32::from(inset_of(code)) + u32::from(offset)
 }
 
 // The right edge of the scopes, by how many are open at most, and how long names are.
 pub fn right_of(level: u32, longest: u8) -> u16 {
-    LEFT + STEP * (depth_of(level) as u16) + WORDS + LETTER * (longest as u16)
+    LEFT + STEP * u16::from(depth_of(level)) + WORDS + LETTER * u16::from(longest)
 }
 
 // So far to the right of where a lane is, behind that edge.
 pub fn lane_at(right: u16, lane: u16, offset: u8) -> u32 {
-    (right as u32) + LANE * (lane as u32) + (offset as u32)
+    u32::from(right) + LANE * u32::from(lane) + u32::from(offset)
 }
 
 // How far it is from one edge to another.
 pub fn gap(from: u32, to: u32) -> u32 {
-    if from < to { to - from } else { 0 }
-}
-
-pub fn greater(one: u32, other: u32) -> u32 {
-    if one < other { other } else { one }
+    to.saturating_sub(from)
 }
 
 // The most scopes that are open behind a row.
@@ -81,11 +77,9 @@ pub fn deepest(form: &[u8]) -> u32 {
     let rows = rows_in(form);
     let mut most: u32 = 0;
     let mut level: u32 = 0;
-    let mut row: u16 = 0;
-    while row < rows {
+    for row in 0..rows {
         level = level_behind(level, code_at(form, row));
-        most = greater(most, level);
-        row += 1;
+        most = most.max(level);
     }
     most
 }
@@ -105,13 +99,9 @@ fn with_byte(count: u8, byte: u8) -> u8 {
 pub fn longest_line(text: &[u8]) -> u8 {
     let mut most: u8 = 0;
     let mut count: u8 = 0;
-    let mut i = 0;
-    while i < text.len() {
-        count = with_byte(count, text[i]);
-        if most < count {
-            most = count;
-        }
-        i += 1;
+    for byte in text {
+        count = with_byte(count, *byte);
+        most = most.max(count);
     }
     most
 }

@@ -1,6 +1,0 @@
--- `drawing::arcs::draw_arcs` is safe and ends. The measure is the rows that are left.
-use Prim.Native.Nat.{◌-◌}
-use Rattle.drawing.proofs.arcs.draw_arcs.Given as goal
-
-abbrev pub decreases-loop-row : goal.decreases-loop-row
-decreases-loop-row l = l.rows - l.row
