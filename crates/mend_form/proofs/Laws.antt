@@ -54,9 +54,12 @@ module _ (rows : List ℕ) (i n depth : ℕ) (K : Kept) (inv : kept_t rows i (n 
   unfolding kept_t pick
   kept_turn h e f g = rw g (rw (left_suc i n h, ← e, f) at inv)
 
-  pub kept_end : n ≤ i → kept i depth ≡ K
+  pub kept_end : n ≤ i → i ≤ n → kept n depth ≡ K
   unfolding kept_t
-  kept_end h = let z : n - i ≡ 0 = omega arith in (rw z at inv)
+  kept_end h g =
+      let z : n - i ≡ 0 = omega arith in
+      let e : n ≡ i = omega arith in
+      ap (λ (m : ℕ). kept m depth) e ∙ (rw z at inv)
 
 pub kept_start : (rows : List ℕ) → kept_t rows 0 (length rows / 16 - 0) 0 ≡ kept_in rows
 unfolding kept_in

@@ -47,17 +47,18 @@ pub fn kept_in(rows: &[u8]) -> Kept
 {
     let n = rows.len() / 16;
     let mut depth = 0;
-    let mut i = 0;
-    while i < n {
+    for i in 0..n {
         let code = rows[16 * i];
-        i += 1;
         if closes_root(code, depth) {
-            return Kept { rows: i, scopes: 0 };
+            return Kept {
+                rows: i + 1,
+                scopes: 0,
+            };
         }
         depth = depth_after(code, depth);
     }
     Kept {
-        rows: i,
+        rows: n,
         scopes: depth,
     }
 }
@@ -122,10 +123,8 @@ fn mended_row(rows: &[u8], i: usize) -> [u8; 16]
     let code = rows[a];
     let b = rows[a + 1];
     let mut row = [0u8; 16];
-    let mut j = 0;
-    while j < 16 {
+    for j in 0..16 {
         row[j] = mended_byte(code, b, j, rows[a + j]);
-        j += 1;
     }
     row
 }

@@ -8,6 +8,3 @@ use Rattle.mend_form.proofs.mended_row.Given as goal
 
 abbrev pub invariant-loop-j : goal.invariant-loop-j
 invariant-loop-j l = (sets l.row l.j (mended_row_t l.rows l.a l.j (16 - l.j)) ≡ sets l.initial.row 0 (mended_row_t l.rows l.a 0 16)) × (length l.row ≡ length l.initial.row)
-
-abbrev pub decreases-loop-j : goal.decreases-loop-j
-decreases-loop-j l = 16 - l.j
