@@ -1,6 +1,6 @@
 -- The ways through the list of changes.
 use mathlib.Core.Path.{◌≡◌, refl, sym, ap, ◌∙◌}
-use mathlib.Core.Bool.{Bool, true, false}
+use mathlib.Core.Bool.{Bool, true, false, ◌&&◌}
 use mathlib.Core.List.{List, [], ◌∷◌, ◌++◌, append_assoc, append-nil}
 use native.Mathlib.Omega.{arith}
 use native.Mathlib.Nat.{add-zero, add_assoc}
@@ -9,7 +9,8 @@ use lib.Dec.{eqb}
 use lib.ListN.{length, get_or, set, take, drop, replicate, length-append, length-drop, length-replicate}
 use lib.Seq.{sets, length-sets, length-take-le, take_all}
 use borrow.Author.Rules.{rules}
-use borrow.Author.Tests.{ne_eqb, eq-eqb}
+use borrow.Author.Tests.{ne_eqb}
+use Rattle.std.specs.Cmp.Lexicographic.{pointwise}
 use Rattle.kit.specs.Out.{Out, ◌&◌}
 use Rattle.kit.specs.Pick.{pick}
 use Rattle.kit.proofs.Laws.{tests, left_suc, sets_append, drop_next, yes!, no! }
@@ -104,28 +105,16 @@ pub ruleset change_ways = (words_put, change_put, change_end, rules)
 
 -- ---- pieces
 
-module _ (old new : List ℕ) (at to k n : ℕ) (T : Bool) (inv : same_numbers (take (n - k) (drop (at + k) old)) (take (n - k) (drop (to + k) new)) ≡ T) where
-  module _ (h : k < n) (f : at + n ≤ length old) (g : to + n ≤ length new) where
-    pub same_turn : get_or old (at + k) 0 ≡ get_or new (to + k) 0 → same_numbers (take (n - (k + 1)) (drop (at + (k + 1)) old)) (take (n - (k + 1)) (drop (to + (k + 1)) new)) ≡ T
-    unfolding same_numbers
-    same_turn e =
-        let t : at + (k + 1) ≡ at + k + 1 = omega arith in
-        let u : to + (k + 1) ≡ to + k + 1 = omega arith in
-        rw (t, u) (rw (left_suc k n h, drop_next old (at + k) 0 (omega arith), drop_next new (to + k) 0 (omega arith), eq-eqb (get_or old (at + k) 0) (get_or new (to + k) 0) e) at inv)
+-- what `==` says of two slices
+equal_numbers : (a b : List ℕ) → pointwise eqb a b ≡ same_numbers a b
+unfolding same_numbers
+equal_numbers [] [] = refl
+equal_numbers [] (y ∷ b) = refl
+equal_numbers (x ∷ a) [] = refl
+equal_numbers (x ∷ a) (y ∷ b) = ap (λ (t : Bool). eqb x y && t) (equal_numbers a b)
 
-    pub same_not : (get_or old (at + k) 0 ≡ get_or new (to + k) 0 → ⊥) → false ≡ T
-    unfolding same_numbers
-    same_not e =
-        (rw (left_suc k n h, drop_next old (at + k) 0 (omega arith), drop_next new (to + k) 0 (omega arith), ne_eqb (get_or old (at + k) 0) (get_or new (to + k) 0) e) at inv)
-
-  pub same_end : n ≤ k → true ≡ T
-  unfolding same_numbers
-  same_end h = let z : n - k ≡ 0 = omega arith in (rw z at inv)
-
-pub same_start : (old new : List ℕ) (at to n : ℕ) → same_numbers (take (n - 0) (drop (at + 0) old)) (take (n - 0) (drop (to + 0) new)) ≡ same_numbers (take n (drop at old)) (take n (drop to new))
-same_start old new at to n = let z : n - 0 ≡ n = omega arith in rw (z, add-zero, add-zero)
-
-pub ruleset same_ways = (same_turn, same_not, same_end, same_start, rules)
+pub same_slices : (a b : List ℕ) (t : Bool) → t ≡ pointwise eqb a b → t ≡ same_numbers a b
+same_slices a b t e = e ∙ equal_numbers a b
 
 -- ---- changes one behind the other
 

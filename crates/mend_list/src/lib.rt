@@ -43,10 +43,8 @@ fn put_bytes(list: &mut [u8], to: usize, old: &[u8], from: usize, n: usize)
     requires { (to + n < 18446744073709551616) × (from + n ≤ length old.now) }
     ensures { list.new ≡ sets list.old to (take n (drop from old.now)) }
 {
-    let mut k = 0;
-    while k < n {
+    for k in 0..n {
         put_byte(list, to + k, old[from + k]);
-        k += 1;
     }
 }
 
@@ -55,10 +53,8 @@ fn put_zeros(list: &mut [u8], to: usize, n: usize)
     requires { to + n < 18446744073709551616 }
     ensures { list.new ≡ sets list.old to (replicate n 0) }
 {
-    let mut k = 0;
-    while k < n {
+    for k in 0..n {
         put_byte(list, to + k, 0);
-        k += 1;
     }
 }
 
@@ -93,14 +89,7 @@ fn is_same(old: &[u8], new: &[u8], at: usize, to: usize, n: usize) -> bool
     requires { (at + n ≤ length old.now) × (to + n ≤ length new.now) }
     ensures { result ≡ same_numbers (take n (drop at old.now)) (take n (drop to new.now)) }
 {
-    let mut k = 0;
-    while k < n {
-        if old[at + k] != new[to + k] {
-            return false;
-        }
-        k += 1;
-    }
-    true
+    old[at..at + n] == new[to..to + n]
 }
 
 // Lists a change at byte `at`, where n bytes stood and m stand now, behind those so far.
@@ -161,11 +150,8 @@ fn list_row(old: &[u8], new: &[u8], a: usize, list: &mut [u8], s: Listed) -> Lis
     ensures size_bound { (result.size ≤ s.size + 320) × (result.count ≤ s.count + 16) }
 {
     let mut t = s;
-    let mut j = 0;
-    while j < 16 {
-        let w = width(j);
-        t = list_piece(old, new, a + j, j, w, list, t);
-        j += 1;
+    for j in 0..16 {
+        t = list_piece(old, new, a + j, j, width(j), list, t);
     }
     t
 }
@@ -194,22 +180,13 @@ fn list_rows(old: &[u8], header: usize, kept: Kept, list: &mut [u8], s: Listed) 
     ensures size_bound { (result.size ≤ s.size + 320 * kept.rows) × (result.count ≤ s.count + 16 * kept.rows) }
 {
     let mut t = s;
-    let mut i = 0;
-    while i < kept.rows {
+    for i in 0..kept.rows {
         t = list_mended(old, header, kept, i, list, t);
-        i += 1;
     }
     t
 }
 
 // ---- the whole form
-
-// A byte as a number.
-fn wide(byte: u8) -> usize
-    ensures { result ≡ byte }
-{
-    byte as usize
-}
 
 // The header of a form of this many rows, in as many bytes as the longest has.
 fn header_of(limits: Limits, count: usize) -> [u8; 16]
@@ -235,7 +212,7 @@ fn list_header(old: &[u8], limits: Limits, new: &[u8], list: &mut [u8]) -> Liste
         new,
         behind,
         behind,
-        wide(limits.header) - behind,
+        usize::from(limits.header) - behind,
         list,
         two,
     )
@@ -260,7 +237,7 @@ fn list_all(old: &[u8], limits: Limits, kept: Kept, list: &mut [u8]) -> Listed
 {
     let head = header_of(limits, kept.rows + kept.scopes);
     let one = list_header(old, limits, &head, list);
-    let header = wide(limits.header);
+    let header = usize::from(limits.header);
     let two = list_rows(old, header, kept, list, one);
     list_rest(old, header + 16 * kept.rows, 16 * kept.scopes, list, two)
 }
@@ -270,7 +247,7 @@ fn list_all(old: &[u8], limits: Limits, kept: Kept, list: &mut [u8]) -> Listed
 pub fn list_changes(old: &[u8], limits: Limits, list: &mut [u8]) -> Listed
     ensures { (result & list.new) ≡ noted none list.old (changes_in limits old.now) }
 {
-    let header = wide(limits.header);
+    let header = usize::from(limits.header);
     if header < behind_count(limits.wide) {
         return Listed { size: 0, count: 0 };
     }

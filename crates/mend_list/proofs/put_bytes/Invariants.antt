@@ -7,6 +7,3 @@ use Rattle.mend_list.proofs.put_bytes.Given as goal
 
 abbrev pub invariant-loop-k : goal.invariant-loop-k
 invariant-loop-k l = (sets l.list (l.to + l.k) (take (l.n - l.k) (drop (l.from + l.k) l.old)) ≡ sets l.initial.list l.to (take l.n (drop l.from l.old))) × (length l.list ≡ length l.initial.list)
-
-abbrev pub decreases-loop-k : goal.decreases-loop-k
-decreases-loop-k l = l.n - l.k

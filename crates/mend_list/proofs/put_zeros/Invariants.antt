@@ -7,6 +7,3 @@ use Rattle.mend_list.proofs.put_zeros.Given as goal
 
 abbrev pub invariant-loop-k : goal.invariant-loop-k
 invariant-loop-k l = (sets l.list (l.to + l.k) (replicate (l.n - l.k) 0) ≡ sets l.initial.list l.to (replicate l.n 0)) × (length l.list ≡ length l.initial.list)
-
-abbrev pub decreases-loop-k : goal.decreases-loop-k
-decreases-loop-k l = l.n - l.k
