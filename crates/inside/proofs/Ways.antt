@@ -1,8 +1,8 @@
 -- Ways through the run inside a root.
-use Rattle.std.specs.Prelude.{Result, Ok, Err, ℕ}
+use Rattle.std.specs.Prelude.{Result, Ok, Err, IsErrAnd, ℕ}
 use mathlib.Core.Path.{◌≡◌, refl, sym, ap, ◌∙◌, subst}
-use mathlib.Core.Bool.{Bool, true, false}
-use mathlib.Core.List.{List, [], ◌∷◌, ◌++◌}
+use mathlib.Core.Bool.{Bool, false}
+use mathlib.Core.List.{List, ◌∷◌, ◌++◌}
 use native.Mathlib.Omega.{arith}
 use Prim.Native.Nat.{ℕ, zero, suc, ◌+◌, ◌-◌, ◌*◌, ◌≤◌, ◌<◌}
 use mir.Syntax.{w8}
@@ -12,23 +12,23 @@ use lib.ListN.{length, get_or, take, drop, set, replicate, length-drop, length-r
 use lib.Seq.{take_all, take_at, get_or-set_other}
 use borrow.Author.Rules.{rules}
 use borrow.Author.Tests.{lt-ltb, le-ltb}
-use Rattle.kit.specs.Out.{Out, ◌&◌}
+use Rattle.kit.specs.Out.{◌&◌}
 use Rattle.kit.specs.Pick.{pick}
 use Rattle.kit.proofs.Laws.{copies_at}
 use Rattle.rules.specs.Tools.{only}
 use Rattle.rules.specs.Versions.{Setting}
-use Rattle.rules.specs.Tree.{Scope, flatten}
+use Rattle.rules.specs.Tree.{flatten}
 use Rattle.rules.specs.Answer.{has_header}
 use Rattle.rules.specs.Laws.RowLaws.{Bytes}
 use Rattle.batching.specs.Batch.{root_of, inside_answer, inside_output}
 use Rattle.refusal.specs.declared.Refusal.{Refusal}
-use Rattle.refusal.specs.Refusals.{untold}
+use Rattle.refusal.specs.Refusals.{untold_of}
 use Rattle.parts.specs.PartsAt.{parts_at}
 use Rattle.parts.specs.declared.Parts.{Parts}
 use Rattle.limits.specs.declared.Limits.{Limits}
 use Rattle.limits.specs.Held.{setting_in, limits_of, setting}
 use Rattle.limits.proofs.Laws as limits
-use Rattle.form.specs.Header.{header_for, header_to}
+use Rattle.form.specs.Header.{header_for, header_to, refusal_of}
 use Rattle.form.specs.MarkEnds.{ends_to}
 use Rattle.reader.specs.ReadTo.{read_to}
 use Rattle.names.specs.Table.{Slot, no_scope, scope_of, past_of, scope_at}
@@ -41,7 +41,7 @@ use Rattle.claim_rows.specs.Left.{rows_at}
 use Rattle.claim_laws.specs.RowParts.{all_parts}
 use Rattle.form.specs.declared.header.BadHeader.TheVariants.{Wrong, Count}
 use Rattle.whole_form.specs.Whole.{form_of, refused_t, read_t, body_t}
-use Rattle.whole_form.proofs.Ways.{Headed, header_rows, head_wrong, head_count, head_rows_lem}
+use Rattle.whole_form.proofs.Ways.{Headed, header_rows, head_bad, head_rows_lem}
 use Rattle.prelude_root.specs.Root.{root_t}
 use Rattle.resolver.specs.Meaning.{meaning, ruled}
 use Rattle.resolver.specs.Admit.{is_short, admit, Enough}
@@ -56,7 +56,7 @@ use Rattle.member_laws.specs.Within.{inner, one_open, walk_inside}
 use Rattle.member_laws.specs.RootEntered.{Around, root_come, root_entered}
 use Rattle.member_laws.proofs.Inside.{inside_early, inside_stays, inside_agrees_all}
 use Rattle.inside.specs.Areas.{both_for, Suits}
-use Rattle.inside.specs.Run.{walk_behind, walk_around, RootIn, Resolves}
+use Rattle.inside.specs.Run.{walk_behind, walk_around, Resolves}
 use Rattle.form.specs.declared.header.BadHeader.{BadHeader}
 use Rattle.refusal.specs.declared.Refused.{Refused}
 
@@ -108,15 +108,13 @@ module _ (i : ℕ) (input : List ℕ) (room : ℕ) (l : Limits) (e : l ≡ limit
   low : (limits_of S).rows ≤ 4294967295
   low = omega (arith, limits.few_rows i)
 
-  pub refuses_wrong : (v : Result ℕ Refusal) → h ≡ Err Wrong → v ≡ refused_t 1 0 → v ≡ form_of (admit S input room)
-  refuses_wrong v is w =
-      let short : false ≡ is_short S input room = unfold is_short in wrong_short S input (has_header S input) _ (sym is ∙ of_setting) in
-      (admit_read S input room false short refl v (rw (stands i) at (head_wrong (limits_of S) input h of_limits low v is w)))
-
-  pub refuses_count : (v : Result ℕ Refusal) → h ≡ Err Count → v ≡ refused_t 2 0 → v ≡ form_of (admit S input room)
-  refuses_count v is w =
-      let short : false ≡ is_short S input room = unfold is_short in count_short S input (has_header S input) _ (sym is ∙ of_setting) in
-      (admit_read S input room false short refl v (rw (stands i) at (head_count (limits_of S) input h of_limits low v is w)))
+  pub refuses_header : (why : BadHeader) (v : Result ℕ Refusal) → h ≡ Err why → IsErrAnd v (λ refusal. refusal ≡ refusal_of why) → v ≡ form_of (admit S input room)
+  refuses_header why v is w =
+      admit_read S input room false (short why is) refl v (rw (stands i) at (head_bad (limits_of S) input h of_limits low v why is w))
+    where
+      short : (bad : BadHeader) → h ≡ Err bad → false ≡ is_short S input room
+      short Wrong e = unfold is_short in wrong_short S input (has_header S input) _ (sym e ∙ of_setting)
+      short Count e = unfold is_short in count_short S input (has_header S input) _ (sym e ∙ of_setting)
 
   module _ (rows : ℕ) (is : h ≡ Ok rows) where
     found : Headed S input rows
@@ -141,7 +139,7 @@ module _ (i : ℕ) (input : List ℕ) (room : ℕ) (l : Limits) (e : l ≡ limit
           let w' : v ≡ read_t (read_to (limits_of S) (drop (setting i).version.header input)) rows = subst (λ (n : ℕ). v ≡ read_t (read_to (limits_of S) (drop n input)) rows) size (rw (all_behind header input, e) at w) in
           (admit_read S input room (ltb room (header + 64 * rows)) said (le-ltb room (header + 64 * rows) g) v (rw (stands i) at (head_rows_lem (limits_of S) input h of_limits low v rows is w')))
 
-pub ruleset admits = (enough, refuses_wrong, refuses_count, few_rows, long_enough, refuses_short, reads_rows, rules)
+pub ruleset admits = (enough, refuses_header, few_rows, long_enough, refuses_short, reads_rows, rules)
 
 -- ---- walk_behind, walk_inside
 
@@ -251,8 +249,8 @@ module _ (s : Setting) (able : Able s) (some-open : 1 ≤ s.version.scopes) (roo
           (r ∙ fills_as s (walk_around s root (drop s.version.header input) ends entered names) (walk_inside s (parts_at root 0).x A.used (drop s.version.header input) ends entered A.names') front same)
 
 module _ (i : ℕ) (input old : List ℕ) (f : Result ℕ Refusal) (w : f ≡ form_of (admit (inner (setting i)) input (length old))) (entered names : List Slot) (known chains ends : List ℕ) (suits : Suits i entered names known chains ends) where
-  pub resolves_early : (root : List ℕ) (why : Refusal) → f ≡ Err why → Resolves (setting i) root input old old (Err (record { refusal = why; told = untold }))
-  resolves_early root why e t R = (inside_early (setting i) (root_of t) input (length old) why (sym e ∙ w), inside_stays (setting i) (root_of t) input (length old) why (sym e ∙ w) old refl)
+  pub resolves_early : (root : List ℕ) (why : Refusal) → f ≡ Err why → (a : Result ℕ Refused) → a ≡ Err (untold_of why) → Resolves (setting i) root input old old a
+  resolves_early root why e a q t R = (ap meaning q ∙ inside_early (setting i) (root_of t) input (length old) why (sym e ∙ w), inside_stays (setting i) (root_of t) input (length old) why (sym e ∙ w) old refl)
 
   module _ (fine : Enough f (inner (setting i)) input (length old)) (rows : ℕ) (e : f ≡ Ok rows) where
     facts : ((setting i).version.header ≤ length input) × ((setting i).version.header + 64 * rows ≤ length old) × (rows ≤ (setting i).version.rows)

@@ -1,13 +1,13 @@
 // Refusals 1 to 5 of a form inside a root: it may open one scope fewer than a form by itself.
 ghost use Rattle.std.specs.Prelude.{◌≡◌};
 ghost use Rattle.limits.specs.Held.{limits_of, setting};
-ghost use Rattle.whole_form.specs.Whole.{form_of, refused_t};
+ghost use Rattle.whole_form.specs.Whole.{form_of};
 ghost use Rattle.resolver.specs.Admit.{admit, Enough};
 ghost use Rattle.member_laws.specs.Within.{inner};
 
-use form::header::{BadHeader, header_to};
+use form::header::header_to;
 use limits::{Limits, of_input};
-use refusal::{NOT_A_FORM, ROOM, ROW_COUNT, Refusal};
+use refusal::{ROOM, Refusal};
 use resolver::run::header_size;
 use whole_form::read::read_rows;
 
@@ -27,27 +27,18 @@ fn held(i: usize) -> Limits
     }
 }
 
-// A refusal whose number document 01 gives, and its place.
-fn refused(number: u32, place: u32) -> Result<usize, Refusal>
-    ensures { result ≡ refused_t number place }
-{
-    Err(Refusal { number, place })
-}
-
 // Refusals 1 to 5 of a form that is held to the setting at place i, where the output has this much room; else how many rows it has.
 pub fn admitted_inside(form: &[u8], i: usize, room: usize) -> Result<usize, Refusal>
     ensures { (result ≡ form_of (admit (inner (setting i)) form.now room)) × Enough result (inner (setting i)) form.now room }
 {
     let limits = held(i);
-    match header_to(form, limits) {
-        Err(BadHeader::Wrong) => refused(NOT_A_FORM, 0),
-        Err(BadHeader::Count) => refused(ROW_COUNT, 0),
-        Ok(rows) => {
-            let header = header_size(i);
-            if room < header + 64 * rows {
-                return refused(ROOM, 0);
-            }
-            read_rows(&form[header..], limits, rows)
-        }
+    let rows = header_to(form, limits)?;
+    let header = header_size(i);
+    if room < header + 64 * rows {
+        return Err(Refusal {
+            number: ROOM,
+            place: 0,
+        });
     }
+    read_rows(&form[header..], limits, rows)
 }

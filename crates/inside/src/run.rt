@@ -16,10 +16,11 @@ use limits::{most_scopes, of_input};
 use names::{Scope, Slot, scope_of};
 use parts::parts_at;
 use prelude_root::enter_root;
-use refusal::{ROOM, Refusal, Refused, Told};
+use refusal::{ROOM, Refusal, Refused};
 use resolver::run::{blank, finish, header_size};
 use resolver_with::run::is_early;
 use walk::scopes::{scope_walk, starting};
+use write::alias::WriteState;
 
 // A root that stands in the table: its name, and how many of the first slots are its.
 #[derive(Clone, Copy)]
@@ -126,13 +127,10 @@ fn fill_inside(
 {
     let header = header_size(i);
     if front.len() < header {
-        return Err(Refused {
-            refusal: Refusal {
-                number: ROOM,
-                place: 0,
-            },
-            told: Told { space: 0, first: 0 },
-        });
+        return Err(Refused::from(Refusal {
+            number: ROOM,
+            place: 0,
+        }));
     }
     match walk_inside(
         root,
@@ -145,7 +143,7 @@ fn fill_inside(
         chains,
         ends,
     ) {
-        Err(Refused { refusal, told }) => blank(front, refusal, told),
+        Err(refused) => blank(front, refused),
         Ok(s) => finish(front, i, s.to),
     }
 }
@@ -165,27 +163,20 @@ pub fn resolve_around(
     requires { Suits i entered.old names.old known.old chains.old ends.old }
     ensures { Resolves (setting i) root.now form.now out.old out.new result }
 {
-    match admitted_inside(form, i, out.len()) {
-        Err(why) => Err(Refused {
-            refusal: why,
-            told: Told { space: 0, first: 0 },
-        }),
-        Ok(rows) => {
-            let header = header_size(i);
-            let size = header + 64 * rows;
-            fill_inside(
-                root,
-                &form[header..],
-                &mut out[..size],
-                i,
-                entered,
-                names,
-                known,
-                chains,
-                ends,
-            )
-        }
-    }
+    let rows = admitted_inside(form, i, out.len())?;
+    let header = header_size(i);
+    let size = header + 64 * rows;
+    fill_inside(
+        root,
+        &form[header..],
+        &mut out[..size],
+        i,
+        entered,
+        names,
+        known,
+        chains,
+        ends,
+    )
 }
 
 // The same in version 1, in tables that start empty.
