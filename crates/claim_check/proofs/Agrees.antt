@@ -234,12 +234,3 @@ module _ (form : List ℕ) where
 module _ (form : List ℕ) (all : (i : ℕ) → Fits w8 (get_or form i 0)) (claim : List ℕ) (slots links : ℕ) (d : CodeResult Verdict Refusal) (e : d ≡ decide_t 0 form claim slots links) where
   pub checked : meaning d ≡ ruled (check_answer base form claim slots links)
   checked = rw e (decided form claim (all_bytes form all) slots links)
-
-  pub checked_yes : d ≡ Ok Yes → meaning (Ok Yes) ≡ ruled (check_answer base form claim slots links)
-  checked_yes w = rw w at checked
-
-  pub checked_no : (condition row : ℕ) → d ≡ Ok (No condition row) → meaning (Ok (No condition row)) ≡ ruled (check_answer base form claim slots links)
-  checked_no condition row w = rw w at checked
-
-  pub checked_refused : (why : Refusal) → d ≡ Err why → meaning (Err why) ≡ ruled (check_answer base form claim slots links)
-  checked_refused why w = rw w at checked

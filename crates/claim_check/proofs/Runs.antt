@@ -1,5 +1,6 @@
 -- Each way through the whole check.
-use Rattle.std.specs.Prelude.{Result, Ok, Err, ⊤, ℕ}
+use Rattle.std.specs.Prelude.{Result, Ok, Err, ⊤, ℕ, IsErrAnd}
+use Rattle.std.proofs.lemmas.Result.{err_from_is_err_and}
 use mathlib.Core.Path.{◌≡◌, refl, sym, ap, ap₂, ◌∙◌}
 use mathlib.Core.List.{List, [], ◌∷◌, ◌++◌}
 use Prim.Native.Nat.{ℕ, zero, suc, ◌+◌, ◌-◌, ◌*◌, ◌<◌, ◌≤◌}
@@ -16,7 +17,7 @@ use Rattle.read_form.proofs.Laws.ReadFormLaws.{read_exactly}
 use Rattle.refusal.specs.declared.Refusal.{Refusal}
 use Rattle.limits.specs.Held.{limits_of, setting}
 use Rattle.limits.specs.declared.Limits.{Limits}
-use Rattle.form.specs.Header.{header_to}
+use Rattle.form.specs.Header.{header_to, refusal_of}
 use Rattle.whole_form.specs.Whole.{form_of}
 use Rattle.whole_form.proofs.Laws.{whole_read}
 use Rattle.resolver.specs.Steps.{steps_t}
@@ -24,7 +25,6 @@ use Rattle.clearing.specs.Cleared.{cleared}
 use Rattle.checking.specs.CheckAnswer.{slots_of, links_of}
 use Rattle.claim_check.specs.Run.{Fit, Kept, version_of, body_of, refused_t, conditions_t, claim_by, steps_by, input_by, judge_t, small_by, small_t, decide_t}
 use Rattle.claim_check.specs.declared.Verdict.TheVariants.{Yes, No}
-use Rattle.form.specs.declared.header.BadHeader.TheVariants.{Wrong, Count}
 use Rattle.claim_check.specs.declared.Verdict.{Verdict}
 use Rattle.form.specs.declared.header.BadHeader.{BadHeader}
 
@@ -90,41 +90,37 @@ module _ (i : ℕ) (form claim : List ℕ) (room : ℕ) where
     steps_are : r ≡ steps_t (drop (version_of i).header form)
     steps_are = rw (h, behind form (version_of i).header low) at e
 
-    pub steps_refused : (why : Refusal) → r ≡ Err why → Err why ≡ steps_by i form claim room (steps_t (drop (version_of i).header form))
+    pub steps_refused : (why : Refusal) → r ≡ Err why → (v : Result Verdict Refusal) → IsErrAnd v (λ refusal. refusal ≡ why) → v ≡ steps_by i form claim room (steps_t (drop (version_of i).header form))
     unfolding steps_by
-    steps_refused why w = rw (← steps_are, w)
+    steps_refused why w v q = let p = err_from_is_err_and v q in p.1 ∙ ap Err p.2 ∙ rw (← steps_are, w)
 
     pub steps_pass : (v : Result Verdict Refusal) → r ≡ Ok tt → v ≡ claim_by i form claim room (form_of (read_form (as_claimed (setting i)) claim)) → v ≡ steps_by i form claim room (steps_t (drop (version_of i).header form))
     unfolding steps_by
     steps_pass v w q = rw (← steps_are, w) q
 
   module _ (r : Result ℕ Refusal) (e : r ≡ form_of (read_form (setting i) form)) where
-    pub input_refused : (why : Refusal) → r ≡ Err why → Err why ≡ judge_t i form claim room
+    pub input_refused : (why : Refusal) → r ≡ Err why → (v : Result Verdict Refusal) → IsErrAnd v (λ refusal. refusal ≡ why) → v ≡ judge_t i form claim room
     unfolding judge_t input_by
-    input_refused why w = rw (← e, w)
+    input_refused why w v q = let p = err_from_is_err_and v q in p.1 ∙ ap Err p.2 ∙ rw (← e, w)
 
     pub input_whole : (rows : ℕ) (v : Result Verdict Refusal) → r ≡ Ok rows → v ≡ steps_by i form claim room (steps_t (drop (version_of i).header form)) → v ≡ judge_t i form claim room
     unfolding judge_t input_by
     input_whole rows v w q = rw (← e, w) q
 
-pub ruleset judging = (claim_refused, claim_whole, steps_refused, steps_pass, input_refused, input_whole, rules)
+pub ruleset judging = (claim_refused, claim_whole, steps_pass, input_whole, rules)
 
 -- ---- areas that are too small
 
 module _ (i : ℕ) (form : List ℕ) (l : Limits) (k : l ≡ limits_of (setting i)) (h : Result ℕ BadHeader) (e : h ≡ header_to l form) where
-  pub small_wrong : (v : Result Verdict Refusal) → h ≡ Err Wrong → v ≡ refused_t 1 0 → v ≡ small_t i form
+  pub small_header : (bad : BadHeader) → h ≡ Err bad → (v : Result Verdict Refusal) → IsErrAnd v (λ refusal. refusal ≡ refusal_of bad) → v ≡ small_t i form
   unfolding small_t small_by
-  small_wrong v w q = rw (← k, ← e, w) q
-
-  pub small_count : (v : Result Verdict Refusal) → h ≡ Err Count → v ≡ refused_t 2 0 → v ≡ small_t i form
-  unfolding small_t small_by
-  small_count v w q = rw (← k, ← e, w) q
+  small_header bad w v q = let p = err_from_is_err_and v q in p.1 ∙ ap Err p.2 ∙ rw (← k, ← e, w)
 
   pub small_rows : (rows : ℕ) (v : Result Verdict Refusal) → h ≡ Ok rows → v ≡ refused_t 3 0 → v ≡ small_t i form
   unfolding small_t small_by
   small_rows rows v w q = rw (← k, ← e, w) q
 
-pub ruleset smalls = (small_wrong, small_count, small_rows, rules)
+pub ruleset smalls = (small_rows, rules)
 
 -- ---- decide
 

@@ -8,7 +8,7 @@ use Rattle.rules.specs.Rules.{resolve}
 use Rattle.rules.specs.Answer.{AnswerOf, refused, accepted}
 use Rattle.read_form.specs.ReadForm.{read_form}
 use Rattle.limits.specs.Held.{limits_of, setting}
-use Rattle.form.specs.Header.{header_to}
+use Rattle.form.specs.Header.{header_to, refusal_of}
 use Rattle.whole_form.specs.Whole.{form_of}
 use Rattle.refusal.specs.Refusals.{refusal_at}
 use Rattle.resolver.specs.Steps.{steps_t, steps_of}
@@ -19,7 +19,6 @@ use Rattle.claim_aliases.specs.Aliases.{Names, try_aliases_t}
 use Rattle.claim_check.specs.declared.Verdict.TheVariants.{Yes, No}
 use Rattle.claim_numbers.specs.Enter.{entries_t}
 use Rattle.claim_operands.specs.Operands.{try_operands_t}
-use Rattle.form.specs.declared.header.BadHeader.TheVariants.{Wrong, Count}
 use Rattle.claim_check.specs.declared.Verdict.{Verdict}
 use Rattle.form.specs.declared.header.BadHeader.{BadHeader}
 use Rattle.refusal.specs.declared.Refusal.{Refusal}
@@ -96,8 +95,7 @@ input_of rules (accepted s) = steps_of (resolve rules s)
 
 -- an area is too small
 unfoldable pub small_by : Result ℕ BadHeader → Result Verdict Refusal
-small_by (Err Wrong) = refused_t 1 0
-small_by (Err Count) = refused_t 2 0
+small_by (Err bad) = Err (refusal_of bad)
 small_by (Ok rows) = refused_t 3 0
 
 -- an area is too small: that comes after a wrong header and a wrong row count of the input

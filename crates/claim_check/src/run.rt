@@ -15,10 +15,10 @@ ghost use Rattle.resolver.specs.Steps.{steps_t};
 use crate::Verdict;
 use crate::conditions::try_conditions;
 use areas::{clear_links, clear_slots};
-use form::header::{BadHeader, header_to};
+use form::header::header_to;
 use limits::of_input;
 use names::Slot;
-use refusal::{NOT_A_FORM, ROOM, ROW_COUNT, Refusal};
+use refusal::{ROOM, Refusal};
 use resolver::steps::try_steps;
 use whole_form::read::{read_claim, read_input};
 
@@ -104,10 +104,8 @@ fn judge_steps(
     ensures { result ≡ steps_by i form.now claim.now (length table.old) (steps_t (body_of i form.now)) }
 {
     let a = header(i);
-    match try_steps(&form[a..]) {
-        Err(why) => Err(why),
-        Ok(()) => judge_claim(form, claim, i, table, index),
-    }
+    try_steps(&form[a..])?;
+    judge_claim(form, claim, i, table, index)
 }
 
 // The input, then the claim.
@@ -121,10 +119,8 @@ fn judge(
     requires { Fit (length table.old) (length index.old) }
     ensures { result ≡ judge_t i form.now claim.now (length table.old) }
 {
-    match read_input(form, i) {
-        Err(why) => Err(why),
-        Ok(_) => judge_steps(form, claim, i, table, index),
-    }
+    read_input(form, i)?;
+    judge_steps(form, claim, i, table, index)
 }
 
 // ---- in areas of any size
@@ -140,11 +136,8 @@ fn refused(number: u32) -> Result<Verdict, Refusal>
 pub fn refuse_small(form: &[u8], i: usize) -> Result<Verdict, Refusal>
     ensures { result ≡ small_t i form.now }
 {
-    match header_to(form, of_input(i)) {
-        Err(BadHeader::Wrong) => refused(NOT_A_FORM),
-        Err(BadHeader::Count) => refused(ROW_COUNT),
-        Ok(_) => refused(ROOM),
-    }
+    header_to(form, of_input(i))?;
+    refused(ROOM)
 }
 
 // Only the fronts of the areas are lent on, so what lies beyond them stays as it was.
@@ -186,18 +179,7 @@ pub fn check(
 ) -> Result<Verdict, Refusal>
     ensures { (meaning result ≡ ruled (check_answer base form.now claim.now (length table.old) (length index.old))) × (table.new ≡ table_after base form.now table.old) × (index.new ≡ index_after base form.now index.old) }
 {
-    match decide(form, claim, FIRST, table, index) {
-        Ok(Verdict::Yes) => {
-            clear(table, index, FIRST);
-            Ok(Verdict::Yes)
-        }
-        Ok(Verdict::No { condition, row }) => {
-            clear(table, index, FIRST);
-            Ok(Verdict::No { condition, row })
-        }
-        Err(why) => {
-            clear(table, index, FIRST);
-            Err(why)
-        }
-    }
+    let verdict = decide(form, claim, FIRST, table, index);
+    clear(table, index, FIRST);
+    verdict
 }

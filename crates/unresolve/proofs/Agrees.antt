@@ -299,10 +299,6 @@ pub ruleset deciding = (first_said, second_said, first_left, second_left, enough
 
 -- ---- unresolve
 
-module _ (form out : List ℕ) (restored again : ℕ) (r s : Result ℕ Refused) (e : r ≡ s) (said : meaning r ≡ returned (back_with form (length out) restored again)) where
-  pub said_again : meaning s ≡ returned (back_with form (length out) restored again)
-  said_again = rw e at said
-
 pub cleared_twice : (size : ℕ) (old mid new : List ℕ) → Kept size old mid → new ≡ cleared 0 size mid → new ≡ cleared 0 size old
 cleared_twice size old mid new K e = e ∙ cleared_kept 0 size old mid K.long K.rest
 

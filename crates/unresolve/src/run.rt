@@ -64,7 +64,7 @@ fn resolves_to(input: &[u8], claim: &[u8], again: &mut [u8]) -> bool
     ensures { (result ≡ same_numbers (take (length claim.now) (output base input.now (set again.old 0 0))) claim.now) × Bytes input.now }
 {
     unmark(again);
-    resolve(input, again);
+    let _ = resolve(input, again);
     begins_with(again, claim)
 }
 
@@ -153,16 +153,8 @@ pub fn unresolve(
 ) -> Result<u32, Refused>
     ensures { (meaning result ≡ returned (back_with form.now (length out.old) (length restored.old) (length again.old))) × (out.new ≡ out_with form.now out.old (length restored.old) (length again.old)) × (restored.new ≡ restored_after restored.old) × (again.new ≡ again_after again.old) }
 {
-    match decide(form, out, restored, again) {
-        Ok(rows) => {
-            clear_bytes(restored, RESTORED);
-            clear_bytes(again, AGAIN);
-            Ok(rows)
-        }
-        Err(Refused { refusal: why, told }) => {
-            clear_bytes(restored, RESTORED);
-            clear_bytes(again, AGAIN);
-            Err(Refused { refusal: why, told })
-        }
-    }
+    let answer = decide(form, out, restored, again);
+    clear_bytes(restored, RESTORED);
+    clear_bytes(again, AGAIN);
+    answer
 }
