@@ -1,5 +1,5 @@
 -- The ways through what is below the run.
-use Rattle.std.specs.Prelude.{Result}
+use Rattle.std.specs.Prelude.{Result, Option as CodeOption, Some, None}
 use mathlib.Core.Path.{◌≡◌, refl, ap, sym, ◌∙◌}
 use mathlib.Core.Bool.{Bool, true, false, not}
 use mathlib.Core.Logic.{◌⊎◌, inl, inr}
@@ -76,11 +76,11 @@ module _ (form : List ℕ) (i : ℕ) (asks : setting i ≡ asked form) where
 -- ---- refused_early
 
 module _ (sheet : List ℕ) (enough b : Bool) (sound : b ≡ sound_sheet sheet) where
-  pub early_sheet : not b ≡ true → 15 ≡ early_t sheet enough
+  pub early_sheet : not b ≡ true → Some 15 ≡ early_t sheet enough
   unfolding early_t pick
   early_sheet e = rw (← sound) (go b e)
     where
-      go : (x : Bool) → not x ≡ true → ◌≡◌ {A = ℕ} 15 (pick x (pick enough 0 3) 15)
+      go : (x : Bool) → not x ≡ true → ◌≡◌ {A = CodeOption ℕ} (Some 15) (pick x (pick enough None (Some 3)) (Some 15))
       go true e = let no_way : ◌≡◌ {A = ℕ} 0 1 = cc in absurd (omega arith)
       go false e = refl
 
@@ -92,11 +92,11 @@ module _ (sheet : List ℕ) (enough b : Bool) (sound : b ≡ sound_sheet sheet) 
         go true e = refl
         go false e = sym e
 
-    pub early_none : enough ≡ true → 0 ≡ early_t sheet enough
+    pub early_none : enough ≡ true → None ≡ early_t sheet enough
     unfolding early_t pick
     early_none e = rw (← sound, whole, e)
 
-    pub early_area : enough ≡ false → 3 ≡ early_t sheet enough
+    pub early_area : enough ≡ false → Some 3 ≡ early_t sheet enough
     unfolding early_t pick
     early_area e = rw (← sound, whole, e)
 

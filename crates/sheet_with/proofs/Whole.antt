@@ -1,5 +1,6 @@
 -- The ways through the whole.
-use Rattle.std.specs.Prelude.{Result, Ok}
+use Rattle.std.specs.Prelude.{Result, Ok, Option as CodeOption, Some, None}
+use Rattle.std.proofs.lemmas.Option.{none-some, same_Some}
 use mathlib.Core.Path.{◌≡◌, refl, ap, sym, ◌∙◌, subst}
 use mathlib.Core.Bool.{Bool, true, false, ◌&&◌, not}
 use mathlib.Core.List.{List, ◌++◌}
@@ -85,30 +86,30 @@ module _ (form resolved sheet answers : List ℕ) (work : ℕ) (lent : Lent) (i 
   says : (r : Result ℕ Refusal) (new : List ℕ) → meaning r ≡ ruled (sheet_answer all form resolved sheet (length answers) told) → new ≡ answers_after (sheet_answer all form resolved sheet (length answers) told) answers → Says r new
   says r new p q = (p ∙ ap ruled A-is, q ∙ ap (λ (a : SheetAnswer). answers_after a answers) A-is)
 
-  module _ (e : ℕ) (early : e ≡ early_t sheet enough) where
+  module _ (e : CodeOption ℕ) (early : e ≡ early_t sheet enough) where
     -- no sheet, or an area is too small
-    pub early_returns : (e ≡ 0 → ⊥) → (r : Result ℕ Refusal) → r ≡ refused_t e → Says r answers
+    pub early_returns : (number : ℕ) → e ≡ Some number → (r : Result ℕ Refusal) → r ≡ refused_t number → Says r answers
     unfolding early_t pick
-    early_returns n r is = go (sound_sheet sheet) enough refl refl early
+    early_returns number n r is = go (sound_sheet sheet) enough refl refl (sym n ∙ early)
       where
-        go : (s b : Bool) → sound_sheet sheet ≡ s → enough ≡ b → e ≡ pick s (pick b 0 3) 15 → Says r answers
-        go true true p q w = absurd (n w)
+        go : (s b : Bool) → sound_sheet sheet ≡ s → enough ≡ b → ◌≡◌ {A = CodeOption ℕ} (Some number) (pick s (pick b None (Some 3)) (Some 15)) → Says r answers
+        go true true p q w = absurd (none-some number (sym w))
         go true false p q w =
             let so : not (sound_sheet sheet) ≡ false = ap not p in
-            says r answers (small_says all form size area resolved sheet answers told (sound_sheet sheet) refl so (told_small q) r (is ∙ ap refused_t w)) (small_leaves all form size area resolved sheet answers told (sound_sheet sheet) refl so (told_small q))
+            says r answers (small_says all form size area resolved sheet answers told (sound_sheet sheet) refl so (told_small q) r (is ∙ ap refused_t (same_Some number 3 w))) (small_leaves all form size area resolved sheet answers told (sound_sheet sheet) refl so (told_small q))
         go false b p q w =
             let no : not (sound_sheet sheet) ≡ true = ap not p in
-            says r answers (unsound_says all form size area resolved sheet answers told (sound_sheet sheet) refl no r (is ∙ ap refused_t w)) (unsound_leaves all form size area resolved sheet answers told (sound_sheet sheet) refl no)
+            says r answers (unsound_says all form size area resolved sheet answers told (sound_sheet sheet) refl no r (is ∙ ap refused_t (same_Some number 15 w))) (unsound_leaves all form size area resolved sheet answers told (sound_sheet sheet) refl no)
 
-    module _ (none : e ≡ 0) where
+    module _ (none : e ≡ None) where
       late : (sound_sheet sheet ≡ true) × (enough ≡ true)
       unfolding early_t pick
       late = go (sound_sheet sheet) enough (sym early ∙ none)
         where
-          go : (s b : Bool) → ◌≡◌ {A = ℕ} (pick s (pick b 0 3) 15) 0 → (s ≡ true) × (b ≡ true)
+          go : (s b : Bool) → ◌≡◌ {A = CodeOption ℕ} (pick s (pick b None (Some 3)) (Some 15)) None → (s ≡ true) × (b ≡ true)
           go true true w = (refl, refl)
-          go true false w = absurd (omega (arith, w))
-          go false b w = absurd (omega (arith, w))
+          go true false w = absurd (none-some 3 (sym w))
+          go false b w = absurd (none-some 15 (sym w))
 
       pub is_enough : enough ≡ true
       is_enough = late.1

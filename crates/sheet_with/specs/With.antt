@@ -1,6 +1,6 @@
 -- R-13 where the tables are lent too: one that is too small is answered as a working area of no bytes is, with refusal 3 behind the
 -- sheet's own 15 and before all that is said of the forms.
-use Rattle.std.specs.Prelude.{Bool, List, ℕ, ◌+◌, ◌*◌}
+use Rattle.std.specs.Prelude.{Bool, List, ℕ, ◌+◌, ◌*◌, Option, Some, None}
 use Rattle.kit.specs.Pick.{pick}
 use Rattle.rules.specs.Tools.{when◌then◌else◌}
 use Rattle.rules.specs.Versions.{Setting, all}
@@ -18,6 +18,6 @@ sheet_with input resolved sheet room work lent = sheet_answer all input resolved
 abbrev pub area_for : Setting → ℕ
 area_for s = s.version.header + 64 * s.version.rows
 
--- the number of the refusal before all that is said of the forms, or 0
-unfoldable pub early_t : (sheet : List ℕ) (enough : Bool) → ℕ
-early_t sheet enough = pick (sound_sheet sheet) (pick enough 0 3) 15
+-- the number of the refusal before all that is said of the forms, if there is one
+unfoldable pub early_t : (sheet : List ℕ) (enough : Bool) → Option ℕ
+early_t sheet enough = pick (sound_sheet sheet) (pick enough None (Some 3)) (Some 15)

@@ -34,14 +34,14 @@ fn area_for(i: usize) -> usize
     header_size(i) + 64 * limits.rows
 }
 
-// The refusal's number where there is no sheet, or an area is too small; else 0.
-fn refused_early(sheet: &[u8], enough: bool) -> u32
+// The refusal's number where there is no sheet, or an area is too small.
+fn refused_early(sheet: &[u8], enough: bool) -> Option<u32>
     ensures { result ≡ early_t sheet.now enough }
 {
     if !is_sound(sheet) {
-        return NOT_ITS_SHEET;
+        return Some(NOT_ITS_SHEET);
     }
-    if enough { 0 } else { ROOM }
+    if enough { None } else { Some(ROOM) }
 }
 
 // Whether `resolved` is what is written for the form, which is resolved into `area`.
@@ -128,8 +128,7 @@ pub fn check_with(
         chains.len(),
         ends.len(),
     );
-    let early = refused_early(sheet, lent & (size <= work.len()));
-    if early != 0 {
+    if let Some(early) = refused_early(sheet, lent & (size <= work.len())) {
         clear_bytes(work, size);
         clear_areas(i, entered, names, known, chains, ends);
         return refused(early);
