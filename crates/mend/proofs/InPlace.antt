@@ -3,10 +3,10 @@ use mathlib.Core.Path.{◌≡◌, refl, sym, ap, ap₂, ◌∙◌}
 use mathlib.Core.List.{List, [], ◌∷◌, ◌++◌, append-nil, append_assoc}
 use native.Mathlib.Omega.{arith}
 use native.Mathlib.Nat.{zero-add}
-use native.Mathlib.Numerals.{add-one}
 use Prim.Native.Nat.{ℕ, zero, suc, ◌+◌, ◌-◌, ◌*◌, ◌≤◌, ◌<◌}
-use lib.ListN.{length, set, take, drop, replicate, length-append, length-drop}
+use lib.ListN.{length, take, drop, replicate, length-append, length-drop, length-replicate}
 use lib.Seq.{sets, sets-eq, length-sets, take_all, take_at, drop_at, drop-drop, drop-length, length-take-le}
+use borrow.Rule.Slice.PartMut.{put_mid}
 use borrow.Author.Rules.{rules}
 use Rattle.kit.specs.Pick.{pick}
 use Rattle.kit.proofs.Laws.{left_suc, sets_append}
@@ -22,14 +22,13 @@ use Rattle.mend_form.proofs.Right.{alone}
 use Rattle.mend_form.proofs.Rows.{in_size, from_body}
 use Rattle.mend.specs.Run.{new_t, in_place}
 
-module _ (buffer T : List ℕ) (k : ℕ) where
-  pub zero_turn : {n : ℕ} → sets buffer k (replicate (n - k) 0) ≡ T → k < n → sets (set buffer k 0) (k + 1) (replicate (n - (k + 1)) 0) ≡ T
-  zero_turn {n} inv h = rw add-one (rw (left_suc k n h, add-one) at inv)
-
-  pub zero_end : {n : ℕ} → sets buffer k (replicate (n - k) 0) ≡ T → n ≤ k → buffer ≡ T
-  zero_end {n} inv h = let z : n - k ≡ 0 = omega arith in (rw z at inv)
-
-pub ruleset zero_ways = (zero_turn, zero_end, rules)
+-- zeros from one byte up to another
+pub zero_put : (buffer zeros : List ℕ) (from end : ℕ) → from < end → end ≤ length buffer → zeros ≡ replicate (end - from) 0 → put_mid from (end - from) buffer zeros ≡ sets buffer from (replicate (end - from) 0)
+zero_put buffer zeros from end h room e =
+    let size : length (replicate {A = ℕ} (end - from) 0) ≡ end - from = length-replicate {A = ℕ} (end - from) 0 in
+    let stored : sets buffer from (replicate (end - from) 0) ≡ (take from buffer ++ replicate (end - from) 0) ++ drop (from + (end - from)) buffer =
+    sets-eq (replicate (end - from) 0) buffer from (omega arith) ∙ ap (λ (m : ℕ). (take from buffer ++ replicate (end - from) 0) ++ drop (from + m) buffer) size in
+    rw (e, drop-drop) (sym (stored ∙ append_assoc (take from buffer) (replicate (end - from) 0) (drop (from + (end - from)) buffer)))
 
 -- ---- rows
 

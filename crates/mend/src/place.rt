@@ -10,22 +10,14 @@ use limits::Limits;
 use mend_form::{Kept, row_of};
 use whole_form::header::put_header;
 
-// A byte as a number.
-pub(crate) fn wide(byte: u8) -> usize
-    ensures { result ≡ byte }
-{
-    byte as usize
-}
-
 // Zeroes from byte `from` up to byte `end`.
+#[tactic(auto, using(crate::proofs::InPlace::zero_put))]
 fn zero(buffer: &mut [u8], from: usize, end: usize)
     requires { end ≤ length buffer.old }
     ensures { buffer.new ≡ sets buffer.old from (replicate (end - from) 0) }
 {
-    let mut k = from;
-    while k < end {
-        buffer[k] = 0;
-        k += 1;
+    if from < end {
+        buffer[from..end].fill(0);
     }
 }
 
@@ -44,10 +36,8 @@ fn put_rows(rows: &mut [u8], kept: Kept)
     ensures { rows.new ≡ sets rows.old 0 (mended_body_t rows.old kept) }
 {
     let count = kept.rows + kept.scopes;
-    let mut i = 0;
-    while i < count {
+    for i in 0..count {
         put_row(rows, kept, i);
-        i += 1;
     }
 }
 
@@ -56,7 +46,7 @@ pub(crate) fn put_form(buffer: &mut [u8], long: usize, limits: Limits, kept: Kep
     requires { (6 + pick limits.wide 4 2 ≤ limits.header) × (long ≤ length buffer.old) × (limits.header + 16 * kept.rows ≤ long) × (limits.header + 16 * (kept.rows + kept.scopes) ≤ length buffer.old) }
     ensures { buffer.new ≡ in_place buffer.old long (new_t limits (take long buffer.old) kept) }
 {
-    let header = wide(limits.header);
+    let header = usize::from(limits.header);
     let count = kept.rows + kept.scopes;
     put_header(buffer, limits, count);
     put_rows(&mut buffer[header..], kept);

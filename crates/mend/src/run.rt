@@ -13,7 +13,7 @@ ghost use Rattle.mend_list.specs.Listed.{changes_in};
 ghost use Rattle.mend.specs.Meaning.{meaning, ruled};
 ghost use Rattle.mend.specs.Run.{refused_t, letters_t, asks_t, place_t, write_t, read_then, room_t, to_t, made_t};
 
-use crate::place::{put_form, wide};
+use crate::place::put_form;
 use form_bytes::{begins_as, byte_at};
 use limits::{Limits, of_input};
 use mend_form::{Kept, kept_in};
@@ -48,7 +48,7 @@ fn asks_for(form: &[u8], limits: Limits) -> bool
     if form.len() < 8 {
         return false;
     }
-    if form.len() < wide(limits.header) {
+    if form.len() < usize::from(limits.header) {
         return false;
     }
     has_letters(form, limits.version) & ((limits.version == 1) | (form[5] == limits.rules))
@@ -77,7 +77,7 @@ fn kept_of(old: &[u8], limits: Limits) -> Kept
     requires { limits.header ≤ length old.now }
     ensures { (result ≡ kept_in (drop limits.header old.now)) × (result.rows + result.scopes < 18446744073709551616) }
 {
-    let header = wide(limits.header);
+    let header = usize::from(limits.header);
     kept_in(&old[header..])
 }
 
@@ -86,7 +86,7 @@ fn read_of(old: &[u8], limits: Limits) -> Result<(), BadRows>
     requires { limits.header ≤ length old.now }
     ensures { result ≡ read_to limits (mended_body_t (drop limits.header old.now) (kept_in (drop limits.header old.now))) }
 {
-    let header = wide(limits.header);
+    let header = usize::from(limits.header);
     read_mended(&old[header..], limits)
 }
 
@@ -158,7 +158,7 @@ fn mend_to(
 {
     let room = buffer.len();
     let space = list.len();
-    let size = wide(limits.header) + 16 * (kept.rows + kept.scopes);
+    let size = usize::from(limits.header) + 16 * (kept.rows + kept.scopes);
     if !has_room(&buffer[..long], limits, size, room, space) {
         return refused(ROOM, 0);
     }

@@ -8,6 +8,3 @@ use Rattle.mend.proofs.place.put_rows.Given as goal
 
 abbrev pub invariant-loop-i : goal.invariant-loop-i
 invariant-loop-i l = (sets l.rows (16 * l.i) (from_t l.initial.rows l.kept l.i (l.count - l.i)) ≡ sets l.initial.rows 0 (mended_body_t l.initial.rows l.kept)) × (length l.rows ≡ length l.initial.rows) × (drop (16 * l.i) l.rows ≡ drop (16 * l.i) l.initial.rows)
-
-abbrev pub decreases-loop-i : goal.decreases-loop-i
-decreases-loop-i l = l.count - l.i
