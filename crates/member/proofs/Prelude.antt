@@ -9,7 +9,7 @@ use lib.ListN.{length, take, drop}
 use lib.Seq.{take_at, drop_at}
 use Rattle.rules.specs.Tools.{only, ◌or_else◌}
 use Rattle.rules.specs.Versions.{Setting, as_claimed}
-use Rattle.rules.specs.Rows.{Row, Open, encode}
+use Rattle.rules.specs.Rows.{Row, encode}
 use Rattle.rules.specs.Tree.{Scope, scope, flatten}
 use Rattle.rules.specs.Good.{GoodScope}
 use Rattle.rules.specs.Readings.{fields_of}
@@ -25,7 +25,6 @@ use Rattle.batching.specs.Batch.{Prelude, root_of, prelude_in, prelude_of}
 use Rattle.batching.proofs.Laws.InPrelude.{few_declared}
 use Rattle.parts.specs.PartsAt.{parts_at}
 use Rattle.parts.specs.declared.Parts.{Parts}
-use Rattle.claim_rows.specs.Left.{rows_at}
 use Rattle.claim_laws.specs.RowParts as row_parts_lem
 use Rattle.claim_laws.specs.OnBytes.{rows_are, rows_stand}
 use Rattle.agree.specs.Fit.Spaces.{Spaces}

@@ -9,13 +9,13 @@ use Prim.Native.Nat.{ℕ, zero, suc, ◌+◌, ◌-◌, ◌*◌, ◌≤◌, ◌<�
 use mir.Syntax.{w8}
 use mir.Val.{Fits}
 use lib.Dec.{ltb}
-use lib.ListN.{length, get_or, take, drop, replicate, length-drop, length-append, drop_of_length-le, take-append-drop}
+use lib.ListN.{length, get_or, take, drop, length-drop, length-append, drop_of_length-le}
 use lib.Seq.{take_all, length-take-le, drop-drop, drop-append-add}
 use borrow.Author.Rules.{rules}
 use borrow.Author.Tests.{lt-ltb, le-ltb, le-leb}
 use Rattle.kit.proofs.Laws.{lt_or_le}
 use Rattle.rules.specs.Tools.{when◌then◌else◌}
-use Rattle.rules.specs.Versions.{Setting, base}
+use Rattle.rules.specs.Versions.{Setting}
 use Rattle.rules.specs.Rows.{Row}
 use Rattle.rules.specs.Tree.{flatten}
 use Rattle.rules.specs.Answer as rules
@@ -29,7 +29,6 @@ use Rattle.batching.specs.BatchCalls.{room_with}
 use Rattle.batching.proofs.Laws.MemberLaws.{prelude_told}
 use Rattle.batching.proofs.Laws.CallLaws.{short_prelude}
 use Rattle.refusal.specs.declared.Refusal.{Refusal}
-use Rattle.refusal.specs.declared.Told.{Told}
 use Rattle.resolver.specs.Meaning.{Numbers, numbers, Said, meaning, ruled}
 use Rattle.resolver.proofs.Bytes.{all_bytes}
 use Rattle.resolver.proofs.Root.{Able}
@@ -100,8 +99,8 @@ module _ (a : Result ℕ Refused) where
   pub said_accepted : (rows : ℕ) → a ≡ Ok rows → numbers 0 rows ≡ (meaning a).plain
   said_accepted rows q = rw q
 
-  pub said_refused : (r : Refusal) (t : Told) → a ≡ Err (record { refusal = r; told = t }) → numbers r.number r.place ≡ (meaning a).plain
-  said_refused r t q = rw q
+  pub said_refused : (r : Refused) → a ≡ Err r → numbers r.refusal.number r.refusal.place ≡ (meaning a).plain
+  said_refused r q = rw q
 
 -- ---- packed
 

@@ -42,10 +42,7 @@ pub fn said(answer: Result<u32, Refused>) -> Refusal
             number: 0,
             place: rows,
         },
-        Err(Refused { refusal, .. }) => Refusal {
-            number: refusal.number,
-            place: refusal.place,
-        },
+        Err(refused) => refused.refusal,
     }
 }
 
