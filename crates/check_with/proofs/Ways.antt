@@ -1,12 +1,12 @@
 -- The ways through the code below the run: the steps in lent tables, the input, and the fronts of the areas.
-use Rattle.std.specs.Prelude.{Result as CodeResult, Ok, Err, ⊤, ℕ}
+use Rattle.std.specs.Prelude.{Result as CodeResult, Ok, Err, IsErrAnd, ⊤}
+use Rattle.std.proofs.lemmas.Result.{err_from_is_err_and}
 use mathlib.Core.Path.{◌≡◌, refl, ap, sym, ◌∙◌, subst}
-use mathlib.Core.Bool.{Bool, true, false, ◌&&◌}
 use mathlib.Core.Option.{Option, none, some}
 use mathlib.Core.List.{List, [], ◌∷◌, ◌++◌}
 use native.Mathlib.Omega.{arith}
-use Prim.Native.Nat.{ℕ, zero, suc, ◌+◌, ◌*◌, ◌/◌, ◌-◌, ◌≤◌, ◌<◌}
-use lib.Dec.{leb, eqb}
+use Prim.Native.Nat.{ℕ, ◌+◌, ◌*◌, ◌/◌, ◌-◌, ◌≤◌}
+use lib.Dec.{leb}
 use lib.ListN.{length, get_or, take, drop, length-drop}
 use lib.Seq.{take_all, length-take-le}
 use borrow.Author.Rules.{rules}
@@ -19,10 +19,10 @@ use Rattle.rules.specs.Tree.{Scope}
 use Rattle.rules.specs.Begins.{IsForm}
 use Rattle.rules.specs.Rules.{Result, ok, resolve}
 use Rattle.rules.specs.Answer.{AnswerOf, refused, accepted, row_count, rows_of}
-use Rattle.rules.specs.Laws.ToolLaws.{and_left, and_right}
+use Rattle.rules.specs.Laws.ToolLaws.{and_right}
 use Rattle.rules.specs.Laws.RowLaws.{Bytes, bytes_drop}
 use Rattle.read_form.specs.ReadForm.{read_form}
-use Rattle.read_form.proofs.Laws.ReadFormLaws.{ReadAs, read_exactly}
+use Rattle.read_form.proofs.Laws.ReadFormLaws.{read_exactly}
 use Rattle.clearing.specs.Cleared.{cleared}
 use Rattle.clearing.specs.Laws.{cleared_kept}
 use Rattle.checking.specs.CheckAnswer.{slots_of, links_of}
@@ -38,8 +38,7 @@ use Rattle.resolver.specs.Run.{seen_of, walk_in}
 use Rattle.resolver.specs.Steps.{steps_in, steps_of}
 use Rattle.resolver.proofs.Bytes.{all_bytes}
 use Rattle.resolver.proofs.Root.{Able, Rooms, steps_refusal}
-use Rattle.resolver_with.specs.Areas.{slots_for, links_for, lent_of, roomy, Cleared}
-use Rattle.resolver_with.specs.Areas as areas
+use Rattle.resolver_with.specs.Areas.{slots_for, links_for, Cleared}
 use Rattle.resolver_with.specs.Exact.{Suits}
 use Rattle.resolver_with.proofs.Runs.{able_at, rooms_in}
 use Rattle.claim_check.specs.Run.{Fit, Kept, version_of, body_of, claim_by, input_of}
@@ -59,9 +58,9 @@ module _ (i a : ℕ) (h : a ≡ (setting i).version.header) (form ends out : Lis
   unfolding steps_in
   steps_pass s e = rw (← walks_behind, e)
 
-  pub steps_refuse : (why : Refusal) (told : Told) → w ≡ Err (record { refusal = why; told = told }) → Err why ≡ steps_in (walk_in (setting i) (body_of i form) ends entered names (0 ∷ []))
+  pub steps_refuse : (why : Refused) → w ≡ Err why → Err why.refusal ≡ steps_in (walk_in (setting i) (body_of i form) ends entered names (0 ∷ []))
   unfolding steps_in
-  steps_refuse why told e = rw (← walks_behind, e)
+  steps_refuse why e = rw (← walks_behind, e)
 
 pub ruleset steps_ways = (steps_pass, steps_refuse, rules)
 
@@ -75,7 +74,7 @@ as_steps (some r) = Err r.0
 of_walk : (w : Wrote₃) → steps_in (seen_of w) ≡ as_steps (refusal_of w)
 unfolding seen_of steps_in refusal_of
 of_walk (Ok s & e & n & o) = refl
-of_walk (Err refused & e & n & o) = refl
+of_walk (Err why & e & n & o) = refl
 
 of_rules : (m : Result (Scope × ℕ)) → as_steps (refused_by m) ≡ steps_of m
 unfolding refused_by steps_of
@@ -125,8 +124,10 @@ module _ (form : List ℕ) (all : (j : ℕ) → Fits w8 (get_or form j 0)) (i : 
   tried : tried_by r walks ≡ input_of (setting i).rules (read_form (setting i) form)
   tried = ap (λ (x : CodeResult ℕ Refusal). tried_by x walks) e ∙ tried_is (setting i).rules (read_form (setting i) form) walks (λ s q. steps_able (setting i) (able_at i) ends entered names (rooms_in i entered names known chains ends suits) form (all_bytes form all) s q)
 
-  pub input_refused : (why : Refusal) → r ≡ Err why → Err why ≡ input_of (setting i).rules (read_form (setting i) form)
-  input_refused why w = sym (ap (λ (x : CodeResult ℕ Refusal). tried_by x walks) w) ∙ tried
+  pub input_refused : (why : Refusal) → r ≡ Err why → (t : CodeResult ⊤ Refusal) → IsErrAnd t (λ refusal. refusal ≡ why) → t ≡ input_of (setting i).rules (read_form (setting i) form)
+  input_refused why w t q =
+      let p = err_from_is_err_and t q in
+      p.1 ∙ ap Err p.2 ∙ (sym (ap (λ (x : CodeResult ℕ Refusal). tried_by x walks) w) ∙ tried)
 
   pub input_whole : (rows : ℕ) → r ≡ Ok rows → (t : CodeResult ⊤ Refusal) → t ≡ walks → t ≡ input_of (setting i).rules (read_form (setting i) form)
   input_whole rows w t q = q ∙ (sym (ap (λ (x : CodeResult ℕ Refusal). tried_by x walks) w) ∙ tried)
@@ -178,9 +179,6 @@ areas_left v e e₁ e' n n₁ n' k k₁ k' c c₁ c' m m₁ m' K h =
       ends = area_left (slots_for v) 0 m m₁ m' K.4 h.ends;
     }
 
-pub told_as : (t v x : CodeResult ⊤ Refusal) → t ≡ x → t ≡ v → v ≡ x
-told_as t v x e w = sym w ∙ e
-
 -- ---- judge_lent
 
 module _ (i : ℕ) (table : List Slot) (index : List ℕ) (most all : ℕ) (m : most ≡ slots_of (version_of i)) (n : all ≡ links_of (version_of i)) (few : most ≤ 32766) where
@@ -192,9 +190,9 @@ module _ (i : ℕ) (table : List Slot) (index : List ℕ) (most all : ℕ) (m : 
       record { links_are = omega (arith, a, b, m, n); few = omega (arith, a, few) }
 
 module _ (i : ℕ) (form claim : List ℕ) (table : List Slot) (most : ℕ) (m : most ≡ slots_of (version_of i)) (h : slots_of (version_of i) ≤ length table) (d : CodeResult Verdict Refusal) (e : d ≡ claim_by i form claim (length (take most table)) (form_of (read_form (as_claimed (setting i)) claim))) where
-  pub claim_judged : (v : CodeResult Verdict Refusal) → d ≡ v → v ≡ claim_by i form claim (slots_of (version_of i)) (form_of (read_form (as_claimed (setting i)) claim))
-  claim_judged v q =
-      sym q ∙ (e ∙ ap (λ (room : ℕ). claim_by i form claim room (form_of (read_form (as_claimed (setting i)) claim))) (length-take-le most table (omega (arith, m, h)) ∙ m))
+  pub claim_judged : d ≡ claim_by i form claim (slots_of (version_of i)) (form_of (read_form (as_claimed (setting i)) claim))
+  claim_judged =
+      e ∙ ap (λ (room : ℕ). claim_by i form claim room (form_of (read_form (as_claimed (setting i)) claim))) (length-take-le most table (omega (arith, m, h)) ∙ m)
 
 pub front_cleared : {A : Type 0} (size n : ℕ) (z : A) (old front new : List A) → n ≡ size → size ≤ length old → length front ≡ length (take n old) → new ≡ cleared z size (front ++ drop n old) → new ≡ cleared z size old
 front_cleared size n z old front new e h k q = table_left [] size z old (front ++ drop n old) new (kept_front size n old front e (omega (arith, e, h)) k) q

@@ -3,12 +3,11 @@ use Rattle.std.specs.Prelude.{Result, Ok, Err, ⊤}
 use mathlib.Core.Path.{◌≡◌, refl, ap, sym, ◌∙◌, subst}
 use mathlib.Core.Bool.{Bool, true, false, ◌||◌, ◌&&◌, not}
 use mathlib.Core.Option.{Option, none, some}
-use mathlib.Core.List.{List, [], ◌∷◌}
+use mathlib.Core.List.{List}
 use native.Mathlib.Omega.{arith}
-use Prim.Native.Nat.{ℕ, zero, suc, ◌+◌, ◌*◌, ◌≤◌, ◌<◌}
-use lib.Dec.{leb, ltb}
+use Prim.Native.Nat.{ℕ, zero, suc, ◌≤◌, ◌<◌}
+use lib.Dec.{ltb}
 use lib.ListN.{length, get_or}
-use borrow.Author.Rules.{rules}
 use borrow.Author.Tests.{eqb-true, leb-true, lt-ltb, ltb-false}
 use mir.Syntax.{w8}
 use mir.Val.{Fits}
@@ -26,7 +25,7 @@ use Rattle.limits.specs.Held.{setting}
 use Rattle.names.specs.Table.{Slot, empty_slot}
 use Rattle.whole_form.specs.Whole.{form_of}
 use Rattle.resolver.proofs.Bytes.{all_bytes}
-use Rattle.resolver_with.specs.Areas.{slots_for, links_for, Lent, lent_of, roomy, Cleared}
+use Rattle.resolver_with.specs.Areas.{Lent, lent_of, roomy, Cleared}
 use Rattle.resolver_with.specs.Asked.{asked}
 use Rattle.resolver_with.proofs.Asked.{setting_asked}
 use Rattle.lent_areas.proofs.InForce.{first_asked}

@@ -23,7 +23,7 @@ use claim_check::Verdict;
 use claim_check::run::{clear, judge_claim, links, refuse_small, slots};
 use lent_areas::{are_roomy, clear_areas};
 use names::Slot;
-use refusal::Refused;
+use refusal::Refusal;
 use resolver::run::header_size;
 use resolver_with::run::{asked_for, walk_in};
 use resolver_with::sizes::{links_for, slots_for};
@@ -55,7 +55,7 @@ fn try_steps(
         ends,
     ) {
         Ok(_) => Ok(()),
-        Err(Refused { refusal, .. }) => Err(refusal),
+        Err(refused) => Err(refused.refusal),
     }
 }
 
@@ -72,10 +72,8 @@ fn try_input(
     requires { Suits i entered.old names.old known.old chains.old ends.old }
     ensures { result ≡ input_of (setting i).rules (read_form (setting i) form.now) }
 {
-    match read_input(form, i) {
-        Err(why) => Err(why),
-        Ok(_) => try_steps(form, i, entered, names, known, chains, ends),
-    }
+    read_input(form, i)?;
+    try_steps(form, i, entered, names, known, chains, ends)
 }
 
 // Only the fronts of the areas are lent on, so what lies beyond them stays as it was.
@@ -119,16 +117,9 @@ fn try_lent(
     ensures value { result ≡ input_of (setting i).rules (read_form (setting i) form.now) }
     ensures cleared { Cleared (version_of i) entered.old entered.new names.old names.new known.old known.new chains.old chains.new ends.old ends.new }
 {
-    match try_fronts(form, i, entered, names, known, chains, ends) {
-        Ok(()) => {
-            clear_areas(i, entered, names, known, chains, ends);
-            Ok(())
-        }
-        Err(why) => {
-            clear_areas(i, entered, names, known, chains, ends);
-            Err(why)
-        }
-    }
+    let tried = try_fronts(form, i, entered, names, known, chains, ends);
+    clear_areas(i, entered, names, known, chains, ends);
+    tried
 }
 
 // The conditions on a claim, where the input is accepted; the table and its index are handed back empty.
@@ -145,20 +136,9 @@ fn judge_lent(
 {
     let most = slots(i);
     let all = links(i);
-    match judge_claim(form, claim, i, &mut table[..most], &mut index[..all]) {
-        Ok(Verdict::Yes) => {
-            clear(table, index, i);
-            Ok(Verdict::Yes)
-        }
-        Ok(Verdict::No { condition, row }) => {
-            clear(table, index, i);
-            Ok(Verdict::No { condition, row })
-        }
-        Err(why) => {
-            clear(table, index, i);
-            Err(why)
-        }
-    }
+    let judged = judge_claim(form, claim, i, &mut table[..most], &mut index[..all]);
+    clear(table, index, i);
+    judged
 }
 
 // Whether an area is too small for a form of the setting at place i; `lent` says it of the areas of the steps.

@@ -12,14 +12,8 @@ slice_bounds-judge_claim-end-2 c = sym (length-take-le _ _ (omega arith))
 pub slice_bounds-judge_claim-end-4 : goal.slice_bounds-judge_claim-end-4
 slice_bounds-judge_claim-end-4 c = sym (length-take-le _ _ (omega arith))
 
-pub judge_claim-requires : goal.judge_claim-requires
-judge_claim-requires c = (search (claim_fits, rules), search rules)
+pub judge_claim-judged-requires : goal.judge_claim-judged-requires
+judge_claim-judged-requires c = (search (claim_fits, rules), search rules)
 
-pub returns-in-Ok-Yes : goal.returns-in-Ok-Yes
-returns-in-Ok-Yes c = record { value = search (claim_judged, rules); table_after = (search (front_cleared, rules), search (front_cleared, rules)) }
-
-pub returns-in-Ok-No : goal.returns-in-Ok-No
-returns-in-Ok-No c = record { value = search (claim_judged, rules); table_after = (search (front_cleared, rules), search (front_cleared, rules)) }
-
-pub returns-in-Err : goal.returns-in-Err
-returns-in-Err c = record { value = search (claim_judged, rules); table_after = (search (front_cleared, rules), search (front_cleared, rules)) }
+pub returns : goal.returns
+returns c = record { value = search (claim_judged, rules); table_after = (search (front_cleared, rules), search (front_cleared, rules)) }
