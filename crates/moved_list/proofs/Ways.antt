@@ -2,17 +2,18 @@
 use Rattle.std.specs.Prelude.{Option, Some, None}
 use mathlib.Core.Path.{◌≡◌, refl, sym, ap, ◌∙◌}
 use mathlib.Core.Bool.{Bool, true, false, ◌||◌}
+use mathlib.Core.Logic.{◌⊎◌, inl, inr}
 use mathlib.Core.List.{List, [], ◌∷◌, ◌++◌, append-nil, append_assoc}
 use native.Mathlib.Omega.{arith}
 use native.Mathlib.Nat.{add-zero}
-use Prim.Native.Nat.{ℕ, ◌+◌, ◌*◌, ◌-◌, ◌≤◌, ◌<◌}
+use Prim.Native.Nat.{ℕ, max, ◌+◌, ◌*◌, ◌-◌, ◌≤◌, ◌<◌}
 use borrow.Author.Rules.{rules}
 use lib.Dec.{eqb}
 use lib.ListN.{length, length-append}
 use lib.Seq.{sets}
 use Rattle.kit.specs.Pick.{pick}
 use Rattle.kit.specs.Out.{Out, ◌&◌}
-use Rattle.kit.proofs.Laws.{yes!, no!, left_suc, sets_append}
+use Rattle.kit.proofs.Laws.{yes!, no!, left_suc, lt_or_le, sets_append}
 use Rattle.rules.specs.Rows.{bytes}
 use Rattle.stores.proofs.Laws.{length_word}
 use Rattle.row_parts.specs.Parts.{code_at, rows_in}
@@ -31,7 +32,7 @@ unfolding behind_next
 behind_start out row rows h = rw h
 
 module _ (out : List ℕ) (row rows T : ℕ) (inv : behind_from out row (rows - row) ≡ T) where
-  pub behind_end : rows ≤ row → row ≡ T
+  behind_end : rows ≤ row → row ≡ T
   unfolding behind_from
   behind_end h = let e : rows - row ≡ 0 = omega arith in rw e at inv
 
@@ -46,6 +47,16 @@ module _ (out : List ℕ) (row rows T : ℕ) (inv : behind_from out row (rows - 
     pub behind_on : b ≡ false → behind_from out (row + 1) (rows - (row + 1)) ≡ T
     behind_on e = no! _ e refl ∙ step
 
+-- past the last row, which may be above where the search began
+module _ (out : List ℕ) (from row rows : ℕ) (h : rows ≡ rows_in out) (inv : behind_from out row (rows - row) ≡ behind_next out from) where
+  pub behind_last : rows ≤ row → (from ≤ rows → row ≤ rows) → (m : ℕ) → m ≡ max from rows → m ≡ behind_next out from
+  unfolding behind_next behind_from
+  behind_last past up m e = by (lt_or_le rows from)
+    where
+      by : (rows < from) ⊎ (from ≤ rows) → m ≡ behind_next out from
+      by (inl lt) = let none : rows_in out - from ≡ 0 = omega (arith, h) in let q : m ≡ from = omega (arith, e) in rw (none, q)
+      by (inr le) = let u = up le in let q : m ≡ row = omega (arith, e) in q ∙ behind_end out row rows (behind_next out from) inv past
+
 module _ (out : List ℕ) (at code : ℕ) (b : Bool) (bound : b ≡ (eqb code 7 || eqb code 8)) where
   pub follow_on : b ≡ true → (r : ℕ) → r ≡ behind_next out at → r ≡ follow out at code
   unfolding follow
@@ -55,7 +66,7 @@ module _ (out : List ℕ) (at code : ℕ) (b : Bool) (bound : b ≡ (eqb code 7 
   unfolding follow
   follow_stays h = no! _ (rw (← bound) h) refl
 
-pub ruleset behind_ways = (behind_start, behind_end, behind_hit, behind_on, follow_on, follow_stays, rules)
+pub ruleset behind_ways = (behind_start, behind_last, behind_hit, behind_on, follow_on, follow_stays, rules)
 
 -- ---- an entry
 

@@ -30,21 +30,21 @@ fn is_bound(code: u8) -> bool
 }
 
 // The row behind the next OPEN or CLOSE, from a row on.
+#[tactic(auto, using(crate::proofs::Ways::behind_ways))]
 fn behind_next(out: &[u8], from: u16) -> u16
     ensures { result ≡ behind_next out.now from }
 {
     let rows = rows_in(out);
-    let mut row = from;
-    while row < rows {
+    for row in from..rows {
         if is_bound(code_at(out, row)) {
             return row + 1;
         }
-        row += 1;
     }
-    row
+    from.max(rows)
 }
 
 // The output's row in the scope in which the input's next row is, behind a row of that code.
+#[tactic(auto, using(crate::proofs::Ways::behind_ways))]
 fn follow(out: &[u8], at: u16, code: u8) -> u16
     ensures { result ≡ follow out.now at code }
 {
@@ -56,23 +56,25 @@ fn follow(out: &[u8], at: u16, code: u8) -> u16
 }
 
 // Writes an entry of the first list, the n-th.
+#[tactic(auto, using(crate::proofs::Ways::put_ways))]
 fn put_moved(list: &mut [u8], n: u32, z: u32, space: u8, meant: u16, gets: u16)
     ensures { list.new ≡ sets list.old (16 * n) (moved_bytes (moved_number z space meant gets ∷ [])) }
 {
     let at = 16 * (n as usize);
     put_word(list, at, z as usize);
-    put_word(list, at + 4, space as usize);
-    put_word(list, at + 8, meant as usize);
-    put_word(list, at + 12, gets as usize);
+    put_word(list, at + 4, usize::from(space));
+    put_word(list, at + 8, usize::from(meant));
+    put_word(list, at + 12, usize::from(gets));
 }
 
 // Writes an entry of the second list, the n-th.
+#[tactic(auto, using(crate::proofs::Ways::put_ways))]
 fn put_apart(list: &mut [u8], n: u32, z: u32, space: u8, number: u32)
     ensures { list.new ≡ sets list.old (12 * n) (apart_bytes (no_item z space number ∷ [])) }
 {
     let at = 12 * (n as usize);
     put_word(list, at, z as usize);
-    put_word(list, at + 4, space as usize);
+    put_word(list, at + 4, usize::from(space));
     put_word(list, at + 8, number as usize);
 }
 
@@ -114,12 +116,10 @@ pub fn list_numbers(form: &[u8], out: &[u8], moved: &mut [u8], apart: &mut [u8])
 {
     let rows = rows_in(form);
     let mut s = Listed { moved: 0, apart: 0 };
-    let mut row: u16 = 0;
     let mut at: u16 = 0;
-    while row < rows {
+    for row in 0..rows {
         at = follow(out, at, code_at(form, row));
         s = put(entry_at(form, row, out, at), moved, apart, s);
-        row += 1;
     }
     s
 }

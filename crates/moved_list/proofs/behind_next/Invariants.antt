@@ -6,6 +6,3 @@ use Rattle.moved_list.proofs.behind_next.Given as goal
 
 abbrev pub invariant-loop-row : goal.invariant-loop-row
 invariant-loop-row l = behind_from l.out l.row (l.rows - l.row) ≡ behind_next l.out l.from
-
-abbrev pub decreases-loop-row : goal.decreases-loop-row
-decreases-loop-row l = l.rows - l.row

@@ -7,6 +7,3 @@ use Rattle.moved_list.proofs.list_numbers.Given as goal
 
 abbrev pub invariant-loop-row : goal.invariant-loop-row
 invariant-loop-row l = (noted l.s l.moved l.apart (entries_from l.form l.out l.row (l.rows - l.row) l.at) ≡ noted none l.initial.moved l.initial.apart (entries_in l.form l.out)) × (length l.moved ≡ length l.initial.moved) × (length l.apart ≡ length l.initial.apart) × (l.s.moved ≤ l.row) × (l.s.apart ≤ l.row)
-
-abbrev pub decreases-loop-row : goal.decreases-loop-row
-decreases-loop-row l = l.rows - l.row
