@@ -19,34 +19,28 @@ const LONGEST: usize = 2400;
 // The bytes of an answer.
 pub const ANSWER: usize = 8;
 
-fn wide(byte: u8) -> u32
-    ensures { (result ≡ byte) × (result < 256) }
-{
-    byte as u32
-}
-
 // The number in the four bytes from a place on.
+#[tactic(auto, using(crate::proofs::Ways::sound_ways))]
 fn word_at(sheet: &[u8], at: usize) -> u32
     requires { at + 4 ≤ length sheet.now }
     ensures { result ≡ value (take 4 (drop at sheet.now)) }
 {
-    wide(sheet[at])
-        + wide(sheet[at + 1]) * 256
-        + wide(sheet[at + 2]) * 65536
-        + wide(sheet[at + 3]) * 16777216
+    u32::from(sheet[at])
+        + u32::from(sheet[at + 1]) * 256
+        + u32::from(sheet[at + 2]) * 65536
+        + u32::from(sheet[at + 3]) * 16777216
 }
 
 // Whether every slot has a name.
+#[tactic(auto, using(crate::proofs::Ways::sound_ways))]
 fn all_named(sheet: &[u8]) -> bool
     ensures { result ≡ all_named (slots sheet.now) }
 {
     let count = sheet.len() / SLOT;
-    let mut n = 0;
-    while n < count {
+    for n in 0..count {
         if word_at(sheet, SLOT * n + 8) == 0 {
             return false;
         }
-        n += 1;
     }
     true
 }
@@ -65,6 +59,7 @@ pub fn is_sound(sheet: &[u8]) -> bool
 }
 
 // Writes an answer: its kind, and the row or 0.
+#[tactic(auto, using(crate::proofs::Ways::put_ways))]
 fn put_pair(answers: &mut [u8], n: usize, kind: usize, row: usize)
     requires { 8 * n + 8 < 18446744073709551616 }
     ensures { answers.new ≡ sets answers.old (8 * n) (pair_bytes kind row) }
@@ -75,6 +70,7 @@ fn put_pair(answers: &mut [u8], n: usize, kind: usize, row: usize)
 }
 
 // Writes the n-th answer, and counts it if it is not that the slot is bound as written.
+#[tactic(auto, using(crate::proofs::Ways::put_ways))]
 fn put(binding: Binding, answers: &mut [u8], n: usize, failing: usize) -> usize
     requires { (8 * n + 8 < 18446744073709551616) × (failing ≤ n) }
     ensures answers_after { (result & answers.new) ≡ noted n failing answers.old (ruled binding ∷ []) }
@@ -108,12 +104,10 @@ pub fn answer_slots(form: &[u8], sheet: &[u8], answers: &mut [u8]) -> usize
 {
     let count = sheet.len() / SLOT;
     let mut failing = 0;
-    let mut n = 0;
-    while n < count {
+    for n in 0..count {
         let place = word_at(sheet, SLOT * n + 4);
         let name = word_at(sheet, SLOT * n + 8);
         failing = put(binding_of(form, place, name), answers, n, failing);
-        n += 1;
     }
     failing
 }

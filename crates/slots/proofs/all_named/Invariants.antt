@@ -7,6 +7,3 @@ use Rattle.slots.proofs.all_named.Given as goal
 
 abbrev pub invariant-loop-n : goal.invariant-loop-n
 invariant-loop-n l = all_named (slots_of (l.count - l.n) (drop (12 * l.n) l.sheet)) ≡ all_named (slots l.sheet)
-
-abbrev pub decreases-loop-n : goal.decreases-loop-n
-decreases-loop-n l = l.count - l.n

@@ -9,6 +9,3 @@ use Rattle.slots.proofs.answer_slots.Given as goal
 
 abbrev pub invariant-loop-n : goal.invariant-loop-n
 invariant-loop-n l = (noted l.n l.failing l.answers (map (answer_to l.form) (slots_of (l.count - l.n) (drop (12 * l.n) l.sheet))) ≡ answered l.form l.sheet l.initial.answers) × (length l.answers ≡ length l.initial.answers) × (l.failing ≤ l.n) × (l.n ≤ l.count)
-
-abbrev pub decreases-loop-n : goal.decreases-loop-n
-decreases-loop-n l = l.count - l.n
