@@ -62,11 +62,9 @@ pub(crate) fn note_chains(form: &[u8], known: &[u16], chains: &mut [u16], kind: 
     ensures { Chains form.now kind chains.new (rows_in form.now) }
 {
     let rows = rows_in(form);
-    let mut row: u16 = 0;
-    while row < rows {
+    for row in 0..rows {
         let chain = chain_at(form, known, kind, row);
         link(form, chains, chain, row);
-        row += 1;
     }
 }
 
@@ -96,12 +94,10 @@ pub(crate) fn note_numbers(form: &[u8], known: &mut [u16], spaces: &mut [u16])
     ensures { Scopes form.now known.new 4096 × Counts form.now known.new (rows_in form.now) }
 {
     let rows = rows_in(form);
-    let mut row: u16 = 0;
-    while row < rows {
+    for row in 0..rows {
         let chain = chain_of(scope_at(form, known, row), b_at(form, row), 0);
         let number = number_on(form, known, spaces, chain, row);
         put(known, MOST + row as usize, number);
         link(form, spaces, chain, row);
-        row += 1;
     }
 }

@@ -8,6 +8,7 @@ use readings::Meaning;
 pub type Entry = [u32; 4];
 
 // The entry of a meaning.
+#[tactic(auto, using(crate::proofs::EntryLaws::told_ways))]
 pub(crate) fn told(meaning: Option<Meaning>) -> Entry
     ensures { result ≡ told meaning }
 {
@@ -34,6 +35,7 @@ pub(crate) fn read(entry: Entry) -> Option<Meaning>
 }
 
 // The entry of a row; that of no declaration past the end.
+#[tactic(auto, using(crate::proofs::EntryLaws::entry_ways))]
 pub(crate) fn entry_at(entries: &[Entry], row: u16) -> Entry
     ensures { result ≡ get_or entries.now row no_entry }
 {
@@ -46,6 +48,7 @@ pub(crate) fn entry_at(entries: &[Entry], row: u16) -> Entry
 }
 
 // Notes an entry, where there is room.
+#[tactic(auto, using(crate::proofs::EntryLaws::entry_ways))]
 pub(crate) fn put_entry(entries: &mut [Entry], row: u16, entry: Entry)
     ensures { entries.new ≡ set entries.old row entry }
 {

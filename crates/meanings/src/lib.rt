@@ -27,6 +27,7 @@ pub use scopes::tables::MOST;
 
 // ---- noted
 
+#[tactic(auto, using(crate::proofs::EntryLaws::note_ways))]
 fn entry_of(form: &[u8], known: &[u16], names: &[u16], numbers: &[u16], row: u16) -> Entry
     requires { Tabled form.now known.now names.now numbers.now × (row < rows_in form.now) }
     ensures { result ≡ told (meant_by form.now row) }
@@ -40,11 +41,9 @@ fn note_rows(form: &[u8], known: &[u16], names: &[u16], numbers: &[u16], entries
     ensures { entries.new ≡ note_from form.now entries.old 0 (rows_in form.now) }
 {
     let rows = rows_in(form);
-    let mut row: u16 = 0;
-    while row < rows {
+    for row in 0..rows {
         let entry = entry_of(form, known, names, numbers, row);
         put_entry(entries, row, entry);
-        row += 1;
     }
 }
 
@@ -69,6 +68,7 @@ pub fn note_meanings(form: &[u8], entries: &mut [Entry])
 // ---- read
 
 // Whether there is an entry of a row.
+#[tactic(auto, using(crate::proofs::EntryLaws::read_ways))]
 fn is_noted(form: &[u8], entries: &[Entry], row: u16) -> bool
     ensures { result ≡ is_noted form.now entries.now row }
 {
@@ -77,6 +77,7 @@ fn is_noted(form: &[u8], entries: &[Entry], row: u16) -> bool
 }
 
 // What a reference means: by its entry, and without one by the readings.
+#[tactic(auto, using(crate::proofs::EntryLaws::read_ways))]
 pub fn meaning_at(form: &[u8], entries: &[Entry], row: u16) -> Option<Meaning>
     ensures { result ≡ meaning_at form.now entries.now row }
 {
@@ -88,6 +89,7 @@ pub fn meaning_at(form: &[u8], entries: &[Entry], row: u16) -> Option<Meaning>
 }
 
 // The number of the declaration at a DECL row.
+#[tactic(auto, using(crate::proofs::EntryLaws::read_ways))]
 pub fn number_at(form: &[u8], entries: &[Entry], row: u16) -> u32
     ensures { result ≡ number_at form.now entries.now row }
 {

@@ -40,11 +40,9 @@ pub(crate) fn note_scopes(form: &[u8], known: &mut [u16])
     ensures { Scopes form.now known.new 4096 }
 {
     let mut around: u16 = 0;
-    let mut row: u16 = 0;
-    while row < 4096 {
+    for row in 0..4096 {
         let next = scope_behind(form, known, row, around);
         put(known, row as usize, around);
         around = next;
-        row += 1;
     }
 }

@@ -8,6 +8,3 @@ use Rattle.meanings.proofs.note_rows.Given as goal
 
 abbrev pub invariant-loop-row : goal.invariant-loop-row
 invariant-loop-row l = (note_from l.form l.entries l.row (l.rows - l.row) ≡ note_from l.form l.initial.entries 0 (rows_in l.form)) × (length l.entries ≡ length l.initial.entries)
-
-abbrev pub decreases-loop-row : goal.decreases-loop-row
-decreases-loop-row l = l.rows - l.row

@@ -1,6 +1,6 @@
 -- `meanings::chains::note_numbers` meets its contract.
 use mathlib.Core.Path.{◌≡◌}
-use Prim.Native.Nat.{◌-◌, ◌≤◌}
+use Prim.Native.Nat.{◌≤◌}
 use lib.ListN.{length}
 use Rattle.row_parts.specs.Parts.{rows_in}
 use Rattle.scopes.specs.Tables.{Scopes, Counts, Chains}
@@ -8,6 +8,3 @@ use Rattle.meanings.proofs.chains.note_numbers.Given as goal
 
 abbrev pub invariant-loop-row : goal.invariant-loop-row
 invariant-loop-row l = Scopes l.form l.known 4096 × Counts l.form l.known l.row × Chains l.form 0 l.spaces l.row × (l.row ≤ rows_in l.form) × (length l.known ≡ length l.initial.known) × (length l.spaces ≡ length l.initial.spaces)
-
-abbrev pub decreases-loop-row : goal.decreases-loop-row
-decreases-loop-row l = l.rows - l.row

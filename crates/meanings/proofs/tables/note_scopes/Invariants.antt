@@ -1,6 +1,6 @@
 -- `meanings::tables::note_scopes` meets its contract.
 use mathlib.Core.Path.{◌≡◌}
-use Prim.Native.Nat.{◌-◌, ◌≤◌}
+use Prim.Native.Nat.{◌≤◌}
 use lib.ListN.{length}
 use Rattle.scopes.specs.Scopes.{scope_of}
 use Rattle.scopes.specs.Tables.{Scopes}
@@ -8,6 +8,3 @@ use Rattle.meanings.proofs.tables.note_scopes.Given as goal
 
 abbrev pub invariant-loop-row : goal.invariant-loop-row
 invariant-loop-row l = Scopes l.form l.known l.row × (l.around ≡ scope_of l.form l.row) × (length l.known ≡ length l.initial.known) × (l.row ≤ 4096)
-
-abbrev pub decreases-loop-row : goal.decreases-loop-row
-decreases-loop-row l = 4096 - l.row
