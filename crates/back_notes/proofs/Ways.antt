@@ -6,27 +6,26 @@ use mathlib.Core.List.{List, [], ◌∷◌, ◌++◌}
 use Prim.Native.Nat.{ℕ, zero, suc, ◌+◌, ◌-◌, ◌/◌, ◌%◌, ◌<◌, ◌≤◌}
 use native.Mathlib.Omega.{arith}
 use native.Mathlib.Numerals.{add-one}
-use lib.Dec.{eqb, ltb}
-use lib.ListN.{length, get_or, set, take, drop, replicate, length-replicate, length-set}
+use lib.Dec.{eqb}
+use lib.ListN.{length, get_or, set, take, drop, replicate, length-replicate}
 use lib.Seq.{sets, set_out, length-take-le, take-append_seam}
 use borrow.Author.Rules.{rules}
 use borrow.Author.Tests.{lt-ltb, le-ltb, eq-eqb, ne_eqb}
 use Rattle.kit.specs.Pick.{pick}
 use Rattle.kit.specs.Out.{Out, ◌&◌}
-use Rattle.kit.proofs.Laws.{past, left_suc}
+use Rattle.kit.proofs.Laws.{left_suc}
 use Rattle.parts.specs.PartsAt.{parts_at}
 use Rattle.parts.specs.declared.Parts.{Parts}
 use Rattle.names.specs.Table.{Slot, pushed, no_scope, scope_at}
-use Rattle.names.proofs.Laws.{any_default}
 use Rattle.claim_rows.specs.Left.{rows_at}
 use Rattle.claim_rows.proofs.Ways.{rows_there, rows_past}
 use Rattle.claim_scopes.specs.Open.{open_behind_t, open_in, here_t, open_one_t}
-use Rattle.claim_scopes.specs.Entries.{slot_t, look_t, enter_t, laid_t}
+use Rattle.claim_scopes.specs.Entries.{slot_t, look_t, laid_t}
 use Rattle.claim_scopes.proofs.Held.{open_behind, Laid, laid_none, slot_enters, laid_is}
 use Rattle.claim_numbers.specs.Count.{no_counts, count_before_t, counts_in, number_before_t, counts_t}
 use Rattle.claim_numbers.specs.Enter.{laid_by}
 use Rattle.claim_numbers.proofs.Ways.{counted_behind}
-use Rattle.back_notes.specs.Note.{Note, note, no_note, Noted, row_at, noted_from, noted_at}
+use Rattle.back_notes.specs.Note.{Note, note, no_note, row_at, noted_from, noted_at}
 use Rattle.back_notes.specs.Number.{out_t, note_t, Went, went_t, on_t, number_row_t, notes_t}
 use Rattle.back_notes.specs.Names.{slot_of, entered_t, note_entry_t, slots_t, key_t, name_of_t, named_t, name_row_t, naming_t, named_from, names_t}
 
@@ -34,8 +33,6 @@ use Rattle.back_notes.specs.Names.{slot_of, entered_t, note_entry_t, slots_t, ke
 
 pub put_past : (noted : List Note) (i : ℕ) (n : Note) → length noted ≤ i → noted ≡ set noted i n
 put_past noted i n h = sym (set_out noted i n h)
-
-pub ruleset reads = (any_default, past, put_past, rules)
 
 -- ---- scope_out, note_of
 

@@ -1,5 +1,5 @@
 -- The other two passes: declarations under their numbers, and the names that OUTERs count to.
-use Rattle.std.specs.Prelude.{List, [], ◌∷◌, map, ℕ, zero, suc, ◌+◌, ◌%◌, ◌/◌, eqb, ltb, length, get_or, set, unwrap_or}
+use Rattle.std.specs.Prelude.{List, [], ◌∷◌, ℕ, zero, suc, ◌+◌, ◌%◌, ◌/◌, eqb, ltb, length, get_or, set, unwrap_or}
 use Rattle.kit.specs.Pick.{pick}
 use Rattle.kit.specs.Out.{Out, ◌&◌}
 use Rattle.parts.specs.declared.Parts.{Parts}

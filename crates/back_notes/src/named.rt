@@ -36,10 +36,8 @@ fn enter_names(rows: &[u8], noted: &[Note], table: &mut [Slot], index: &mut [u16
 {
     let n = rows.len() / 16;
     let mut used = 0;
-    let mut i = 0;
-    while i < n {
+    for i in 0..n {
         used = enter_row(parts_at(rows, i), note_at(noted, i), table, index, used);
-        i += 1;
     }
     used
 }
@@ -81,10 +79,8 @@ fn note_names(rows: &[u8], noted: &mut [Note], table: &[Slot], index: &[u16], us
     ensures { noted.new ≡ named_from (take used table.now) rows.now noted.old }
 {
     let n = rows.len() / 16;
-    let mut i = 0;
-    while i < n {
+    for i in 0..n {
         name_row(parts_at(rows, i), i, noted, table, index, used);
-        i += 1;
     }
 }
 

@@ -10,10 +10,11 @@ pub type Note = [u32; 2];
 pub fn note_at(noted: &[Note], i: usize) -> Note
     ensures { result ≡ get_or noted.now i no_note }
 {
-    if i < noted.len() { noted[i] } else { [0; 2] }
+    noted.get(i).copied().unwrap_or([0; 2])
 }
 
 // Notes something of row i, where there is room.
+#[tactic(auto, using(crate::proofs::Ways::put_past))]
 pub(crate) fn put_note(noted: &mut [Note], i: usize, n: Note)
     ensures { noted.new ≡ set noted.old i n }
 {

@@ -75,9 +75,7 @@ pub fn number_rows(rows: &[u8], noted: &mut [Note])
     let mut scopes: [Scope; SCOPES] = [[0usize; 4]; SCOPES];
     let mut counts: [Counts; SCOPES] = [[0u32; 13]; SCOPES];
     let mut depth = 0;
-    let mut i = 0;
-    while i < n {
+    for i in 0..n {
         depth = number_row(parts_at(rows, i), i, &mut scopes, &mut counts, noted, depth);
-        i += 1;
     }
 }

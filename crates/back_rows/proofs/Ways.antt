@@ -4,17 +4,17 @@ use lib.Seq.{sets}
 use borrow.Author.Tests.{not-true, not-false}
 use Rattle.kit.specs.Pick.{pick}
 use Rattle.kit.specs.Out.{Out, ◌&◌}
-use Rattle.kit.proofs.Laws.{down}
+use Rattle.kit.proofs.Laws.{down, left_suc}
 use Rattle.parts.specs.PartsAt.{parts_at}
 use Rattle.parts.specs.declared.Parts.{Parts}
-use Rattle.rows.specs.declared.row.Index.TheVariants.{Number, Name}
+use Rattle.rows.specs.declared.row.Index.TheVariants.{Name}
 use Rattle.rows.specs.declared.row.Row.{Row}
 use Rattle.rows.specs.declared.row.Row.TheVariants.{Ref, Path}
 use Rattle.put.specs.Put.{put_row, copy_row, row_bytes}
 use Rattle.back_notes.specs.Note.{Note, no_note, Noted, row_at}
 use Rattle.back_rows.specs.Below.{below, nth}
 use Rattle.back_rows.specs.Alias.{no_parts, no_alias_t, note_of, alias_of_t, alias_before_t, for_t, is_linked_t}
-use Rattle.back_rows.specs.Restore.{Wrote, put_bytes, put_back_t, copy_back_t, wrote_then, Rest, rest, rested_at, leaves, begin_t, path_t, restore_ref_t}
+use Rattle.back_rows.specs.Restore.{Wrote, put_bytes, put_back_t, wrote_then, Rest, rest, rested_at, leaves, begin_t, path_t, restore_ref_t}
 use Rattle.back_rows.specs.Write.{field_before_t, before_field, left_out_t, Going, going, cursor_at, start_t, goes, goes_on, served_t, back_ref_t, back_row_t, goes_then, write_back_t}
 use Rattle.back_rows.specs.declared.alias.Alias.{Alias}
 use Rattle.back_rows.specs.declared.restore.Restored.{Restored}
@@ -216,26 +216,29 @@ pub ruleset putting = (back_full, back_put, back_copy, rules)
 
 -- ---- restore_path, restore
 
-module _ (rows : List ℕ) (noted : List Note) (last first : Alias) (count at : ℕ) (out : List ℕ) (turns : ℕ) (T : Out Rest (List ℕ))
-    (inv : path_t turns last first (below rows noted first.start) count at out ≡ T) (r : ℕ) (out' : List ℕ) where
-  pub path_ends : turns ≤ 0 → (r & out') ≡ begin_t last first count at out → (rest r (below rows noted first.start) & out') ≡ T
+module _ (rows : List ℕ) (noted : List Note) (last first : Alias) (count at : ℕ) (out : List ℕ) (i n : ℕ) (T : Out Rest (List ℕ))
+    (inv : path_t (n - i) last first (below rows noted first.start) count at out ≡ T) (r : ℕ) (out' : List ℕ) where
+  pub path_ends : n ≤ i → (r & out') ≡ begin_t last first count at out → (rest r (below rows noted first.start) & out') ≡ T
   unfolding path_t leaves
-  path_ends h e = let z : turns ≡ 0 = omega arith in rw (z, ← e) at inv
+  path_ends h e = let z : n - i ≡ 0 = omega arith in rw (z, ← e) at inv
 
-  module _ (h : 0 < turns) (a : Alias) (q : a ≡ alias_before_t (below rows noted first.start)) (b : Bool) (l : b ≡ is_linked_t a first) where
+  module _ (h : i < n) (a : Alias) (q : a ≡ alias_before_t (below rows noted first.start)) (b : Bool) (l : b ≡ is_linked_t a first) where
     pub path_stops : not b ≡ true → (r & out') ≡ begin_t last first count at out → (rest r (below rows noted first.start) & out') ≡ T
     unfolding path_t leaves pick
     path_stops g e =
         let f : is_linked_t (alias_before_t (below rows noted first.start)) first ≡ false = rw (← q) (sym l ∙ not-true b g) in
-        rw (down turns h, f, ← e) at inv
+        rw (left_suc i n h, f, ← e) at inv
 
-    pub path_goes : not b ≡ false → (r & out') ≡ put_back_t (Path a.value) at out → (count' : ℕ) → count' ≡ (count + 1) % 4294967296 → path_t (turns - 1) last a (below rows noted a.start) count' r out' ≡ T
+    pub path_goes : not b ≡ false → (r & out') ≡ put_back_t (Path a.value) at out → (count' : ℕ) → count' ≡ (count + 1) % 4294967296 → path_t (n - (i + 1)) last a (below rows noted a.start) count' r out' ≡ T
     unfolding path_t wrote_then pick
     path_goes g e count' k =
         let f : is_linked_t (alias_before_t (below rows noted first.start)) first ≡ true = rw (← q) (sym l ∙ not-false b g) in
-        rw (rest_below rows noted first.start a q, k) (rw (down turns h, f, ← q, ← e) at inv)
+        rw (rest_below rows noted first.start a q, k) (rw (left_suc i n h, f, ← q, ← e) at inv)
 
-pub ruleset pathing = (path_ends, path_stops, path_goes, rules)
+pub path_starts : (rows : List ℕ) (noted : List Note) (last first : Alias) (count at n : ℕ) (out : List ℕ) → path_t (n - 0) last first (below rows noted first.start) count at out ≡ path_t n last first (below rows noted first.start) count at out
+path_starts rows noted last first count at n out = let z : n - 0 ≡ n = omega arith in rw z
+
+pub ruleset pathing = (path_starts, path_ends, path_stops, path_goes, rules)
 
 module _ (rows : List ℕ) (noted : List Note) (a : Alias) (to : ℕ) (out : List ℕ) where
   pub restores_name : a.operand.code ≡ 5 → (r : ℕ) (out' : List ℕ) → (r & out') ≡ put_back_t (Ref a.operand.b (Name a.value) 0 a.operand.z) to out

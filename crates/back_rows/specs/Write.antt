@@ -6,7 +6,7 @@ use Rattle.parts.specs.PartsAt.{parts_at}
 use Rattle.back_notes.specs.Note.{Note, Noted}
 use Rattle.back_rows.specs.Below.{below}
 use Rattle.back_rows.specs.Alias.{alias_before_t, for_t}
-use Rattle.back_rows.specs.Restore.{Wrote, copy_back_t, wrote_then, Rest, restore_ref_t}
+use Rattle.back_rows.specs.Restore.{Wrote, copy_back_t, Rest, restore_ref_t}
 use Rattle.back_rows.specs.declared.write.Cursor.{Cursor}
 
 -- the FIELD that is next before row i

@@ -63,9 +63,7 @@ fn restore_path(rows: &[u8], noted: &[Note], last: Alias, out: &mut [u8], to: us
     let mut first = last;
     let mut count: u32 = 1;
     let mut at = to;
-    let mut turns = last.start;
-    while 0 < turns {
-        turns -= 1;
+    for _ in 0..last.start {
         let a = alias_before(rows, noted, first.start);
         if !is_linked(a, first) {
             return Restored {

@@ -27,9 +27,7 @@ pub struct Cursor {
 fn field_before(rows: &[u8], i: usize) -> usize
     ensures { result ≡ field_before_t rows.now i }
 {
-    let mut k = i;
-    while 0 < k {
-        k -= 1;
+    for k in (0..i).rev() {
         if parts_at(rows, k).code == FIELD {
             return k;
         }
@@ -115,9 +113,7 @@ pub fn write_back(rows: &[u8], noted: &[Note], out: &mut [u8]) -> usize
         next: 0,
         to: out.len() / 16,
     };
-    let mut i = rows.len() / 16;
-    while 0 < i {
-        i -= 1;
+    for i in (0..rows.len() / 16).rev() {
         c = back_row(rows, noted, i, out, c);
     }
     c.to

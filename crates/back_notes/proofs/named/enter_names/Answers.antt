@@ -1,7 +1,6 @@
 -- `back_notes::named::enter_names` meets its contract.
 use Rattle.back_notes.proofs.Ways.{enterings}
 use borrow.Author.Rules.{rules}
-use Prim.Native.Nat.{◌-◌}
 use Rattle.back_notes.proofs.named.enter_names.Goals as goal
 
 pub loop-i-init : goal.loop-i-init

@@ -7,6 +7,3 @@ use Rattle.back_notes.proofs.named.note_names.Given as goal
 
 abbrev pub invariant-loop-i : goal.invariant-loop-i
 invariant-loop-i l = (naming_t (take l.used l.table) l.rows l.noted l.i (l.n - l.i) ≡ named_from (take l.used l.table) l.rows l.initial.noted) × (length l.noted ≡ length l.initial.noted)
-
-abbrev pub decreases-loop-i : goal.decreases-loop-i
-decreases-loop-i l = l.n - l.i

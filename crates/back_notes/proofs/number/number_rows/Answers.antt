@@ -1,7 +1,6 @@
 -- `back_notes::number::number_rows` meets its contract.
 use Rattle.back_notes.proofs.Ways.{turn_goes, turns}
 use borrow.Author.Rules.{rules}
-use Prim.Native.Nat.{◌-◌}
 use Rattle.back_notes.proofs.number.number_rows.Goals as goal
 
 pub loop-i-init : goal.loop-i-init

@@ -5,6 +5,3 @@ use Rattle.back_rows.proofs.write.field_before.Given as goal
 
 abbrev pub invariant-loop-k : goal.invariant-loop-k
 invariant-loop-k l = field_before_t l.rows l.k ≡ field_before_t l.rows l.i
-
-abbrev pub decreases-loop-k : goal.decreases-loop-k
-decreases-loop-k l = l.k
