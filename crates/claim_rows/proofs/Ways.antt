@@ -1,11 +1,10 @@
 -- Each way through the code finds what its twin finds.
 use Rattle.std.specs.Prelude.{Result, Ok, Err, ⊤, ℕ}
-use mathlib.Core.Path.{◌≡◌, refl, sym, ◌∙◌}
+use mathlib.Core.Path.{◌≡◌, refl, sym}
 use mathlib.Core.Bool.{Bool, true, false, not}
 use mathlib.Core.List.{List, [], ◌∷◌}
-use Prim.Native.Nat.{ℕ, zero, suc, ◌+◌, ◌-◌, ◌/◌, ◌<◌, ◌≤◌}
+use Prim.Native.Nat.{ℕ, ◌+◌, ◌-◌, ◌/◌, ◌<◌, ◌≤◌}
 use native.Mathlib.Omega.{arith}
-use lib.Dec.{eqb, leb, ltb}
 use lib.ListN.{length}
 use borrow.Author.Rules.{rules}
 use borrow.Author.Tests.{lt-ltb, le-ltb, le-leb, lt-leb, eq-eqb, ne_eqb}
@@ -140,9 +139,9 @@ pub ruleset breaking = (breaks_path, breaks_added, breaks_past, breaks_other, ru
 -- ---- past_paths, behind
 
 module _ (l : List ℕ) (i : ℕ) (T : List Parts) (inv : past_paths (rows_at l i) ≡ T) where
-  pub paths_none : length l / 16 ≤ i → rows_at l i ≡ T
+  pub paths_none : length l / 16 ≤ i → rows_at l (length l / 16) ≡ T
   unfolding past_paths
-  paths_none h = rw (rows_past l i h) (rw (rows_past l i h) at inv)
+  paths_none h = rw (rows_past l (length l / 16) (omega arith)) (rw (rows_past l i h) at inv)
 
   module _ (h : i < length l / 16) (p : Parts) (e : p ≡ parts_at l i) where
     pub paths_done : (p.code ≡ 4 → ⊥) → rows_at l i ≡ T

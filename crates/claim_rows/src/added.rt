@@ -12,8 +12,7 @@ fn any_fresh(rows: &[u8], from: usize) -> bool
     ensures { result ≡ any_fresh (rows_at rows.now from) }
 {
     let n = rows.len() / 16;
-    let mut i = from;
-    while i < n {
+    for i in from..n {
         let p = parts_at(rows, i);
         if p.code != DECL {
             return false;
@@ -21,7 +20,6 @@ fn any_fresh(rows: &[u8], from: usize) -> bool
         if FIRST_FRESH <= p.x {
             return true;
         }
-        i += 1;
     }
     false
 }

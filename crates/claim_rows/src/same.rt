@@ -61,14 +61,12 @@ pub fn past_paths(rows: &[u8], from: usize) -> usize
     ensures { rows_at rows.now result ≡ past_paths (rows_at rows.now from) }
 {
     let n = rows.len() / 16;
-    let mut i = from;
-    while i < n {
+    for i in from..n {
         if parts_at(rows, i).code != PATH {
             return i;
         }
-        i += 1;
     }
-    i
+    n
 }
 
 // The input's next row behind a claimed row: the same again behind an added one.
@@ -91,15 +89,13 @@ pub fn try_rows(input: &[u8], claim: &[u8]) -> Result<(), usize>
     let n = claim.len() / 16;
     let mut depth = 0;
     let mut j = 0;
-    let mut i = 0;
-    while i < n {
+    for i in 0..n {
         let p = parts_at(claim, i);
         depth = depth_behind(depth, p.code, is_added(false, p.code, claim, i + 1));
         if breaks(p, depth, input, j) {
             return Err(i);
         }
         j = behind(depth, input, j);
-        i += 1;
     }
     if j < input.len() / 16 {
         return Err(n);

@@ -1,5 +1,4 @@
 -- `claim_rows::added::any_fresh` meets its contract.
-use Prim.Native.Nat.{◌-◌}
 use Rattle.claim_rows.proofs.Ways.{freshes}
 use Rattle.claim_rows.proofs.added.any_fresh.Goals as goal
 

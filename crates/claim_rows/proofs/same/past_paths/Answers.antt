@@ -1,5 +1,4 @@
 -- `claim_rows::same::past_paths` meets its contract.
-use Prim.Native.Nat.{◌-◌}
 use Rattle.claim_rows.proofs.Ways.{passing}
 use Rattle.claim_rows.proofs.same.past_paths.Goals as goal
 
