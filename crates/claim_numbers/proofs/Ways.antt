@@ -1,6 +1,6 @@
 -- Each way through the code finds what its twin finds.
 use mathlib.Core.Path.{◌≡◌, refl, sym, ap, ◌∙◌}
-use mathlib.Core.Bool.{Bool, true, false, ◌&&◌, ◌||◌, not}
+use mathlib.Core.Bool.{Bool, true, false}
 use mathlib.Core.List.{List, [], ◌∷◌}
 use Prim.Native.Nat.{ℕ, zero, suc, ◌+◌, ◌-◌, ◌/◌, ◌%◌, ◌<◌, ◌≤◌}
 use native.Mathlib.Omega.{arith}
@@ -18,10 +18,10 @@ use Rattle.names.proofs.Laws.{any_default}
 use Rattle.index.specs.Indexed.{Holds}
 use Rattle.claim_rows.specs.Left.{rows_at}
 use Rattle.claim_rows.specs.Added.{is_added_t}
-use Rattle.claim_rows.proofs.Ways.{is_false, is_true, rows_there, rows_past}
+use Rattle.claim_rows.proofs.Ways.{rows_there, rows_past}
 use Rattle.claim_scopes.specs.Open.{open_scope_t, open_behind_t, open_in, here_t, open_one_t}
-use Rattle.claim_scopes.specs.Entries.{slot_t, enter_t, laid_t}
-use Rattle.claim_scopes.proofs.Held.{Behind, open_length, open_behind, Laid, laid_none, Entered, slot_enters, laid_is}
+use Rattle.claim_scopes.specs.Entries.{slot_t}
+use Rattle.claim_scopes.proofs.Held.{open_behind, Laid, laid_none, slot_enters, laid_is}
 use Rattle.claim_numbers.specs.Count.{no_counts, counts_at, more_count_t, bump_count_t, count_before_t, counts_in, number_in, more_in, less_in, number_before_t, counts_t}
 use Rattle.claim_numbers.specs.Enter.{decl_slot, enter_decl_t, enter_at_t, Went, enter_went_t, enter_counted_t, enter_on_t, enter_turn_t, decl_entry_t, entries_t, laid_by}
 use Rattle.claim_numbers.specs.declared.enter.Cursor.{Cursor}

@@ -124,10 +124,8 @@ pub fn enter_all(claim: &[u8], table: &mut [Slot], index: &mut [u16]) -> usize
         used: 0,
         added: false,
     };
-    let mut i = 0;
-    while i < n {
+    for i in 0..n {
         c = go_over(claim, i, table, index, &mut scopes, &mut counts, c);
-        i += 1;
     }
     c.used
 }

@@ -8,6 +8,7 @@ use parts::parts_at;
 use rows::row::{CLOSE, DECL, FIELD};
 
 // Whether one of the DECLs that stand from row `from` on has such a name.
+#[tactic(auto, using(crate::proofs::Ways::freshes))]
 fn any_fresh(rows: &[u8], from: usize) -> bool
     ensures { result ≡ any_fresh (rows_at rows.now from) }
 {

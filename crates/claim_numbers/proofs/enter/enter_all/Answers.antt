@@ -1,6 +1,5 @@
 -- `claim_numbers::enter::enter_all` meets its contract.
 use borrow.Author.Rules.{rules}
-use Prim.Native.Nat.{◌-◌}
 use Rattle.claim_numbers.proofs.Ways.{turns}
 use Rattle.claim_numbers.proofs.enter.enter_all.Goals as goal
 
