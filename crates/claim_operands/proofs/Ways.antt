@@ -1,12 +1,12 @@
 -- Each way through the code that tries an operand finds what its twin finds.
 use Rattle.std.specs.Prelude.{Option, Some, None, ℕ}
-use mathlib.Core.Path.{◌≡◌, refl, sym, ap, ◌∙◌}
+use mathlib.Core.Path.{◌≡◌, refl, ap, ◌∙◌}
 use mathlib.Core.Logic.{⊎_elim}
-use mathlib.Core.Bool.{Bool, true, false, ◌&&◌}
-use mathlib.Core.List.{List, [], ◌∷◌}
+use mathlib.Core.Bool.{Bool, false, ◌&&◌}
+use mathlib.Core.List.{List}
 use Prim.Native.Nat.{ℕ, zero, suc, ◌+◌, ◌-◌, ◌/◌, ◌%◌, ◌<◌, ◌≤◌}
 use native.Mathlib.Omega.{arith}
-use lib.Dec.{eqb, leb, ltb}
+use lib.Dec.{eqb}
 use lib.ListN.{length, get_or, take}
 use borrow.Author.Rules.{rules}
 use borrow.Author.Tests.{lt-ltb, le-ltb, le-leb, lt-leb, eq-eqb, ne_eqb}
@@ -18,7 +18,7 @@ use Rattle.names.specs.Table.{Slot, no_scope, scope_at, named_from}
 use Rattle.index.specs.Indexed.{Holds}
 use Rattle.claim_rows.specs.Left.{rows_at}
 use Rattle.claim_rows.proofs.Ways.{rows_there, rows_past}
-use Rattle.claim_scopes.specs.Open.{name_in, row_in, open_in, here_t, open_closed_t}
+use Rattle.claim_scopes.specs.Open.{open_in, here_t, open_closed_t}
 use Rattle.claim_scopes.specs.Entries.{look_t}
 use Rattle.claim_scopes.proofs.Held.{open_length}
 use Rattle.claim_reach.specs.Alias.{through_outer_t, through_export_t}

@@ -1,5 +1,5 @@
 -- OUTERs, as the code tries them: `ss` are the slots that were entered for the claim, `st` the scopes that are open, `q` is the input's OUTER.
-use Rattle.std.specs.Prelude.{Bool, true, false, ◌&&◌, List, [], ◌∷◌, ℕ, ◌+◌, ◌%◌, eqb, leb, ltb, length, get_or, Option, Some, None}
+use Rattle.std.specs.Prelude.{Bool, false, ◌&&◌, List, [], ◌∷◌, ℕ, ◌+◌, ◌%◌, eqb, leb, ltb, length, get_or, Option, Some, None}
 use Rattle.kit.specs.Pick.{pick}
 use Rattle.parts.specs.declared.Parts.{Parts}
 use Rattle.names.specs.Table.{Slot, no_scope}

@@ -1,6 +1,6 @@
 -- REFs, as the code tries them: `ss` are the slots that were entered for the claim, `st` the scopes that are open, `q` is the input's REF and
 -- `qs` are the rows behind it.
-use Rattle.std.specs.Prelude.{Bool, true, false, ◌&&◌, List, ℕ, eqb, ltb, Option, Some, None}
+use Rattle.std.specs.Prelude.{Bool, false, ◌&&◌, List, ℕ, eqb, ltb, Option, Some, None}
 use Rattle.kit.specs.Pick.{pick}
 use Rattle.parts.specs.declared.Parts.{Parts}
 use Rattle.names.specs.Table.{Slot}

@@ -37,9 +37,7 @@ pub(crate) fn through_paths(
     ensures { result ≡ through_paths_t (take sought.used table.now) claim.now (rows_at input.now first) count sought }
 {
     let mut s = sought;
-    let mut left = count as usize;
-    while 0 < left {
-        left -= 1;
+    for left in (0..count as usize).rev() {
         let path = parts_at(input, first + left);
         s = instance_in(s, through_export(claim, table, index, s, path.x)?);
     }

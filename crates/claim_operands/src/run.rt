@@ -104,16 +104,13 @@ pub fn try_operands(
         added: false,
         next: 0,
     };
-    let mut i = 0;
-    while i < n {
+    for i in 0..n {
         let p = parts_at(claim, i);
-        let behind = i + 1;
-        let at = at_row(p, claim, behind, c);
+        let at = at_row(p, claim, i + 1, c);
         if !is_right(input, claim, table, index, &scopes, at, p) {
             return Err(i);
         }
         c = go_on(p, i, input, &mut scopes, at);
-        i = behind;
     }
     Ok(())
 }

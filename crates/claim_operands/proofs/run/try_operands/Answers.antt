@@ -1,5 +1,4 @@
 -- `claim_operands::run::try_operands` meets its contract.
-use Prim.Native.Nat.{◌-◌}
 use Rattle.claim_operands.proofs.Turns.{held_at, turns}
 use borrow.Author.Rules.{rules}
 use Rattle.claim_operands.proofs.run.try_operands.Goals as goal
