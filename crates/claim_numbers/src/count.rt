@@ -45,5 +45,5 @@ pub fn count(counts: &mut [Counts], depth: usize, p: Parts) -> u32
     if depth == 0 {
         return 0;
     }
-    bump(counts, depth - 1, p.b as usize)
+    bump(counts, depth - 1, usize::from(p.b))
 }
