@@ -2,11 +2,12 @@
 use Rattle.std.specs.Prelude.{Option, Some, None}
 use mathlib.Core.Path.{◌≡◌, refl, ◌∙◌}
 use mathlib.Core.Bool.{Bool, true, false, not}
+use mathlib.Core.Logic.{◌⊎◌, inl, inr}
 use mathlib.Core.List.{List}
 use native.Mathlib.Omega.{arith}
-use Prim.Native.Nat.{ℕ, ◌+◌, ◌-◌, ◌≤◌, ◌<◌}
+use Prim.Native.Nat.{ℕ, max, ◌+◌, ◌-◌, ◌≤◌, ◌<◌}
 use borrow.Author.Rules.{rules}
-use Rattle.kit.proofs.Laws.{yes!, no!, tests, left_suc}
+use Rattle.kit.proofs.Laws.{yes!, no!, tests, left_suc, lt_or_le}
 use Rattle.row_parts.specs.Parts.{code_at, z_at, is_inserted, rows_in}
 use Rattle.readings.specs.Meaning.{final_meaning}
 use Rattle.bound.specs.declared.Reference.{Reference}
@@ -37,7 +38,7 @@ unfolding next_reference
 next_start form place row rows h = rw h
 
 module _ (form : List ℕ) (place row rows T : ℕ) (inv : next_from form place row (rows - row) ≡ T) where
-  pub next_end : rows ≤ row → row ≡ T
+  next_end : rows ≤ row → row ≡ T
   unfolding next_from
   next_end h = let e : rows - row ≡ 0 = omega arith in rw e at inv
 
@@ -50,7 +51,17 @@ module _ (form : List ℕ) (place row rows T : ℕ) (inv : next_from form place 
     unfolding next_from
     next_on e = no! _ (rw (← is) e) refl ∙ (rw (left_suc row rows h) at inv)
 
-pub ruleset row_ways = (not_a_ref, not_there, there, next_start, next_end, next_here, next_on, rules)
+-- past the last row, which may be above where the search began
+module _ (form : List ℕ) (place from row rows : ℕ) (h : rows ≡ rows_in form) (inv : next_from form place row (rows - row) ≡ next_reference form place from) where
+  pub next_last : rows ≤ row → (from ≤ rows → row ≤ rows) → (m : ℕ) → m ≡ max from rows → m ≡ next_reference form place from
+  unfolding next_reference next_from
+  next_last past up m e = by (lt_or_le rows from)
+    where
+      by : (rows < from) ⊎ (from ≤ rows) → m ≡ next_reference form place from
+      by (inl lt) = let none : rows_in form - from ≡ 0 = omega (arith, h) in let q : m ≡ from = omega (arith, e) in rw (none, q)
+      by (inr le) = let u = up le in let q : m ≡ row = omega (arith, e) in q ∙ next_end form place row rows (next_reference form place from) inv past
+
+pub ruleset row_ways = (not_a_ref, not_there, there, next_start, next_last, next_here, next_on, rules)
 
 module _ (form : List ℕ) (place rows row : ℕ) (all : rows ≡ rows_in form) (first : row ≡ next_reference form place 0) where
   pub at_none : rows ≤ row → Nothing ≡ reference_at form place

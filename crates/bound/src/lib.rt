@@ -31,41 +31,35 @@ pub enum Reference {
     Several,
 }
 
-// The row before a row.
-fn row_before(row: u16) -> u16
-    ensures { result ≡ row - 1 }
-{
-    if row == 0 { 0 } else { row - 1 }
-}
-
 // Whether a row is a reference at a place, in a field that is not inserted.
+#[tactic(auto, using(crate::proofs::Ways::row_ways))]
 fn is_reference(form: &[u8], row: u16, place: u32) -> bool
     ensures { result ≡ is_reference form.now row place }
 {
     if code_at(form, row) == REF {
         if z_at(form, row) == place {
-            return !is_inserted(form, row_before(row));
+            return !is_inserted(form, row.saturating_sub(1));
         }
     }
     false
 }
 
 // The first such row from a row on; the number of rows, if there is none.
+#[tactic(auto, using(crate::proofs::Ways::row_ways))]
 fn next_reference(form: &[u8], place: u32, from: u16) -> u16
     ensures { result ≡ next_reference form.now place from }
 {
     let rows = rows_in(form);
-    let mut row = from;
-    while row < rows {
+    for row in from..rows {
         if is_reference(form, row, place) {
             return row;
         }
-        row += 1;
     }
-    row
+    from.max(rows)
 }
 
 // The reference at a place, if there is one and no more.
+#[tactic(auto, using(crate::proofs::Ways::place_ways))]
 pub fn reference_at(form: &[u8], place: u32) -> Reference
     ensures { result ≡ reference_at form.now place }
 {
@@ -98,6 +92,7 @@ fn bound_at(form: &[u8], row: u16, name: u32) -> Binding
 }
 
 // What a slot of that place and name is bound to.
+#[tactic(auto, using(crate::proofs::Ways::binding_ways))]
 pub fn binding_of(form: &[u8], place: u32, name: u32) -> Binding
     ensures { result ≡ binding_of form.now place name }
 {

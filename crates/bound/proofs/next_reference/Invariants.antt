@@ -6,6 +6,3 @@ use Rattle.bound.proofs.next_reference.Given as goal
 
 abbrev pub invariant-loop-row : goal.invariant-loop-row
 invariant-loop-row l = next_from l.form l.place l.row (l.rows - l.row) ≡ next_reference l.form l.place l.from
-
-abbrev pub decreases-loop-row : goal.decreases-loop-row
-decreases-loop-row l = l.rows - l.row
