@@ -17,31 +17,24 @@ const ANSWER: usize = 8;
 
 // ---- the members
 
-// A length as a whole number.
-fn wide(n: u32) -> usize
-    ensures { result ≡ n }
-{
-    n as usize
-}
-
 // Whether the lengths add up to this number; what is left of it falls, so that no sum can wrap.
+#[tactic(auto, using(crate::proofs::Ways::add_ways))]
 fn adds_up(lengths: &[u32], total: usize) -> bool
     ensures { result ≡ eqb (sum lengths.now) total }
 {
     let mut left = total;
-    let mut i = 0;
-    while i < lengths.len() {
-        let n = wide(lengths[i]);
+    for length in lengths {
+        let n = *length as usize;
         if left < n {
             return false;
         }
         left -= n;
-        i += 1;
     }
     left == 0
 }
 
 // Whether there are too few or too many members, or other lengths than theirs.
+#[tactic(auto, using(crate::proofs::Ways::bad_ways))]
 pub fn are_bad(lengths: &[u32], members: &[u8]) -> bool
     ensures { result ≡ bad_members lengths.now members.now }
 {
@@ -58,7 +51,7 @@ pub fn are_bad(lengths: &[u32], members: &[u8]) -> bool
 fn clipped(n: u32, rest: usize) -> usize
     ensures { (result ≡ pick (ltb rest n) rest n) × (result ≤ rest) }
 {
-    let n = wide(n);
+    let n = n as usize;
     if rest < n { rest } else { n }
 }
 
@@ -70,10 +63,8 @@ pub fn member_at<'a>(members: &'a [u8], lengths: &[u32], i: usize) -> &'a [u8]
         return &members[0..0];
     }
     let mut at = 0;
-    let mut k = 0;
-    while k < i {
+    for k in 0..i {
         at += clipped(lengths[k], members.len() - at);
-        k += 1;
     }
     let end = at + clipped(lengths[i], members.len() - at);
     &members[at..end]
@@ -82,6 +73,7 @@ pub fn member_at<'a>(members: &'a [u8], lengths: &[u32], i: usize) -> &'a [u8]
 // ---- the shares
 
 // How many bytes of the output are a member's: all have as many.
+#[tactic(auto, using(crate::proofs::Ways::answer_ways))]
 pub fn share_of(room: usize, count: usize) -> usize
     ensures { result ≡ room / count }
 {
@@ -94,6 +86,7 @@ pub fn share_of(room: usize, count: usize) -> usize
 // ---- the answers
 
 // Whether the buffer has no room for an answer to each member.
+#[tactic(auto, using(crate::proofs::Ways::bad_ways))]
 pub fn is_short(lengths: &[u32], answers: &[u8]) -> bool
     ensures { result ≡ few_bytes lengths.now (length answers.now) }
 {
@@ -101,6 +94,7 @@ pub fn is_short(lengths: &[u32], answers: &[u8]) -> bool
 }
 
 // An answer in the eight bytes from `at` on, the lower first. What lies past the end is not stored.
+#[tactic(auto, using(crate::proofs::Ways::answer_ways))]
 pub fn put_answer(answers: &mut [u8], at: usize, answer: u64)
     ensures { answers.new ≡ sets answers.old at (bytes 8 answer) }
 {
