@@ -22,12 +22,16 @@ module _ (form : List ℕ) (above T : ℕ) (inv : field_of form above ≡ T) whe
   unfolding field_of
   field_end_lem h = let e : above ≡ 0 = omega arith in rw e at inv
 
-  module _ (h : 0 < above) (c : ℕ) (code : c ≡ code_at form above) where
-    pub field_hit : c ≡ 1 → above ≡ T
-    field_hit e = yes! _ (omega tests) refl ∙ field_step form above h ∙ inv
+  -- the row that is looked at is the one behind the row to which the search goes up
+  module _ (h : 0 < above) (c : ℕ) (code : c ≡ code_at form (above - 1 + 1)) where
+    here : c ≡ code_at form above
+    here = let e : above - 1 + 1 ≡ above = omega arith in rw e at code
+
+    pub field_hit : c ≡ 1 → above - 1 + 1 ≡ T
+    field_hit e = let up : above - 1 + 1 ≡ above = omega arith in up ∙ (yes! _ (omega (tests, here)) refl ∙ field_step form above h ∙ inv)
 
     pub field_on : (c ≡ 1 → ⊥) → field_of form (above - 1) ≡ T
-    field_on e = no! _ (omega tests) refl ∙ field_step form above h ∙ inv
+    field_on e = no! _ (omega (tests, here)) refl ∙ field_step form above h ∙ inv
 
 -- ---- exports with an ascribed type
 

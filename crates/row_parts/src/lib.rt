@@ -13,15 +13,14 @@ use rows::row::{FIELD, REF};
 pub use rows::row::{CASE, EXPORT, OUTER, PATH};
 
 // The FIELD row to which a row belongs: the last one up to it, or row 0.
+#[tactic(auto, using(crate::proofs::PartLaws::field_ways))]
 pub fn field_of(form: &[u8], row: u16) -> u16
     ensures { result ≡ field_of form.now row }
 {
-    let mut above = row;
-    while 0 < above {
-        if code_at(form, above) == FIELD {
-            return above;
+    for above in (0..row).rev() {
+        if code_at(form, above + 1) == FIELD {
+            return above + 1;
         }
-        above -= 1;
     }
     0
 }
@@ -29,6 +28,7 @@ pub fn field_of(form: &[u8], row: u16) -> u16
 // ---- exports with an ascribed type
 
 // Whether a FIELD is that of one.
+#[tactic(auto, using(crate::proofs::PartLaws::part_ways))]
 fn is_typed(form: &[u8], field: u16) -> bool
     ensures { result ≡ is_typed form.now field }
 {
@@ -37,6 +37,7 @@ fn is_typed(form: &[u8], field: u16) -> bool
 
 // Whether a reference is that of the ascribed type. Only in an export of a type are both references to the space that it declares, and
 // then the first has no PATHs.
+#[tactic(auto, using(crate::proofs::PartLaws::part_ways))]
 pub fn is_ascribed(form: &[u8], row: u16) -> bool
     ensures { result ≡ is_ascribed form.now row }
 {
@@ -53,10 +54,8 @@ pub fn inserted_in(form: &[u8]) -> u32
 {
     let rows = rows_in(form);
     let mut count: u32 = 0;
-    let mut row: u16 = 0;
-    while row < rows {
+    for row in 0..rows {
         count = counted(count, is_inserted(form, row));
-        row += 1;
     }
     count
 }

@@ -5,6 +5,3 @@ use Rattle.row_parts.proofs.field_of.Given as goal
 
 abbrev pub invariant-loop-above : goal.invariant-loop-above
 invariant-loop-above l = field_of l.form l.above ≡ field_of l.form l.row
-
-abbrev pub decreases-loop-above : goal.decreases-loop-above
-decreases-loop-above l = l.above

@@ -6,6 +6,3 @@ use Rattle.row_parts.proofs.inserted_in.Given as goal
 
 abbrev pub invariant-loop-row : goal.invariant-loop-row
 invariant-loop-row l = (inserted_from l.form l.row (l.rows - l.row) l.count ≡ inserted_in l.form) × (l.count ≤ l.row)
-
-abbrev pub decreases-loop-row : goal.decreases-loop-row
-decreases-loop-row l = l.rows - l.row
