@@ -11,12 +11,6 @@ use rows::row::{CLOSE, DECL, OPEN};
 
 // ---- levels
 
-fn one_less(level: u32) -> u32
-    ensures { result ≡ level - 1 }
-{
-    if 0 < level { level - 1 } else { level }
-}
-
 // How many scopes are open behind a row, of those that opened since the start.
 #[tactic(auto, using(crate::proofs::LevelLaws::level_ways))]
 pub fn level_behind(level: u32, code: u8) -> u32
@@ -25,13 +19,14 @@ pub fn level_behind(level: u32, code: u8) -> u32
     if code == OPEN {
         counted(level, true)
     } else if code == CLOSE {
-        one_less(level)
+        level.saturating_sub(1)
     } else {
         level
     }
 }
 
 // The same, going up: how many of those that closed since are not yet opened.
+#[tactic(auto, using(crate::proofs::LevelLaws::level_ways))]
 fn level_above(level: u32, code: u8) -> u32
     requires { level < 4294967295 }
     ensures { (result ≡ level_above level code) × (result ≤ level + 1) }
@@ -39,7 +34,7 @@ fn level_above(level: u32, code: u8) -> u32
     if code == CLOSE {
         level + 1
     } else if code == OPEN {
-        one_less(level)
+        level.saturating_sub(1)
     } else {
         level
     }
@@ -55,13 +50,12 @@ pub fn is_bound(level: u32, code: u8, bound: u8) -> bool
 // ---- the scope of a row
 
 // The innermost scope around a row; of an OPEN, the one around it.
+#[tactic(auto, using(crate::proofs::LevelLaws::climb_ways))]
 pub fn scope_of(form: &[u8], row: u16) -> u16
     ensures { (result ≡ scope_of form.now row) × (result ≤ row) }
 {
-    let mut above = row;
     let mut level: u32 = 0;
-    while 0 < above {
-        above -= 1;
+    for above in (0..row).rev() {
         let code = code_at(form, above);
         if is_bound(level, code, OPEN) {
             return above + 1;
@@ -74,6 +68,7 @@ pub fn scope_of(form: &[u8], row: u16) -> u16
 // ---- the number of a declaration
 
 // Whether a row declares something of a space, in the scope itself.
+#[tactic(auto, using(crate::proofs::LevelLaws::level_ways))]
 pub fn declares(form: &[u8], row: u16, level: u32, space: u8) -> bool
     ensures { result ≡ declares form.now row level space }
 {
@@ -86,13 +81,11 @@ pub fn number_of(form: &[u8], decl: u16) -> u32
 {
     let space = b_at(form, decl);
     let scope = scope_of(form, decl);
-    let mut row = scope;
     let mut level: u32 = 0;
     let mut number: u32 = 0;
-    while row < decl {
+    for row in scope..decl {
         number = counted(number, declares(form, row, level, space));
         level = level_behind(level, code_at(form, row));
-        row += 1;
     }
     number
 }

@@ -6,6 +6,3 @@ use Rattle.scope_rows.proofs.number_of.Given as goal
 
 abbrev pub invariant-loop-row : goal.invariant-loop-row
 invariant-loop-row l = (number_from l.form l.space l.row (l.decl - l.row) l.level l.number ≡ number_of l.form l.decl) × (l.level ≤ l.row) × (l.number ≤ l.row)
-
-abbrev pub decreases-loop-row : goal.decreases-loop-row
-decreases-loop-row l = l.decl - l.row

@@ -6,6 +6,3 @@ use Rattle.scope_rows.proofs.scope_of.Given as goal
 
 abbrev pub invariant-loop-above : goal.invariant-loop-above
 invariant-loop-above l = (scope_above l.form l.above l.level ≡ scope_of l.form l.row) × (l.level + l.above ≤ l.row)
-
-abbrev pub decreases-loop-above : goal.decreases-loop-above
-decreases-loop-above l = l.above
