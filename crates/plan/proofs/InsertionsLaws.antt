@@ -220,9 +220,9 @@ module _ (field : List ℕ) (entered names : List Slot) (scopes : List (List ℕ
     insertions_all e X x = no! _ (sym (rw got at t) ∙ e) x
 
   module _ (a : Result PlanState Refused) (ns : List Slot) (cs : List ℕ) (w : (a & ns & cs) ≡ plan_insertions_t field entered names scopes counts p) where
-    pub field_stop : (why : Refused) → a ≡ Err why → (Err why & ns & cs) ≡ plan_field_t field entered names scopes counts p
+    pub field_stop : (why : Refused) → a ≡ Err why → (a & ns & cs) ≡ plan_field_t field entered names scopes counts p
     unfolding plan_field_t
-    field_stop why m = then_stop w _ m
+    field_stop why m = rw m (then_stop w _ m)
 
     pub field_done : (q : PlanState) → a ≡ Ok q → (used : ℕ) (ns₂ : List Slot) (cs₂ : List ℕ) → (used & ns₂ & cs₂) ≡ plan_decls_t field ns cs q.at q.used 1 (length field / 16 - 1) → (Ok (record { at = q.at; entered = q.entered; depth = q.depth; used = used; fresh = q.fresh; first = q.first; before = q.before; early = q.early }) & ns₂ & cs₂) ≡ plan_field_t field entered names scopes counts p
     unfolding plan_field_t declare_then
@@ -235,9 +235,9 @@ module _ (rows ends : List ℕ) (entered names : List Slot) (scopes : List (List
   unfolding plan_next_t
   next_done q m next v q₂ u = rw (u, v, is) (then_done (rw is at w) _ m refl)
 
-  pub next_stop : (why : Refused) → a ≡ Err why → (Err why & ns & cs) ≡ plan_next_t rows ends entered names scopes counts p
+  pub next_stop : (why : Refused) → a ≡ Err why → (a & ns & cs) ≡ plan_next_t rows ends entered names scopes counts p
   unfolding plan_next_t
-  next_stop why m = then_stop (rw is at w) _ m
+  next_stop why m = rw m (then_stop (rw is at w) _ m)
 
 -- ---- plan_fields, plan_scope
 
@@ -265,8 +265,8 @@ module _ (rows ends : List ℕ) (entered names : List Slot) (scopes : List (List
       pub fields_turn : (q : PlanState) → a ≡ Ok q → plan_fields_t rows ends entered ns scopes cs q (turns - 1) ≡ T
       fields_turn q m = then_done w _ m refl ∙ step
 
-      pub fields_stop : (why : Refused) → a ≡ Err why → (Err why & ns & cs) ≡ T
-      fields_stop why m = then_stop w _ m ∙ step
+      pub fields_stop : (why : Refused) → a ≡ Err why → (a & ns & cs) ≡ T
+      fields_stop why m = rw m (then_stop w _ m ∙ step)
 
 pub scope_whole : (rows ends : List ℕ) (entered names : List Slot) (scopes : List (List ℕ)) (p : PlanState) (a : Result PlanState Refused) (ns : List Slot) (cs : List ℕ) → (a & ns & cs) ≡ plan_fields_t rows ends entered names scopes (replicate 13 0) p (length rows / 16) → (a & ns) ≡ plan_scope_t rows ends entered names scopes p
 unfolding plan_scope_t plan_seen_t

@@ -473,10 +473,15 @@ fn plan_field(
     requires { Serves names.old chains.old scopes.now plan × Covers entered.now known.now plan.entered }
     ensures { ((result & names.new & counts.new) ≡ plan_field_t field.now entered.now names.old scopes.now counts.old plan) × GrownBy result plan names.new chains.new }
 {
-    let p = plan_insertions(field, entered, known, names, chains, scopes, counts, plan)?;
-    let mut next = p;
-    next.used = plan_decls(field, names, chains, counts, p.at, p.used);
-    Ok(next)
+    let planned = plan_insertions(field, entered, known, names, chains, scopes, counts, plan);
+    match planned {
+        Err(_) => planned,
+        Ok(p) => {
+            let mut next = p;
+            next.used = plan_decls(field, names, chains, counts, p.at, p.used);
+            Ok(next)
+        }
+    }
 }
 
 // The same plan at another row.
@@ -512,8 +517,11 @@ fn plan_next(
 {
     let at = plan.at;
     let field = field_rows(rows, ends, at);
-    let next = plan_field(field, entered, known, names, chains, scopes, counts, plan)?;
-    Ok(moved(next, row_number(at, field.len() / 16) as usize))
+    let planned = plan_field(field, entered, known, names, chains, scopes, counts, plan);
+    match planned {
+        Ok(next) => { Ok(moved(next, row_number(at, field.len() / 16) as usize)) }
+        Err(_) => planned,
+    }
 }
 
 // The fields of a scope. It has no more fields than the form has rows, so on a form the CLOSE of the scope ends the loop.
@@ -538,7 +546,13 @@ fn plan_fields(
         if code_at(rows, p.at) != FIELD {
             return Ok(p);
         }
-        p = plan_next(rows, ends, entered, known, names, chains, scopes, counts, p)?;
+        let planned = plan_next(rows, ends, entered, known, names, chains, scopes, counts, p);
+        match planned {
+            Ok(next) => {
+                p = next;
+            }
+            Err(_) => return planned,
+        }
     }
     Ok(p)
 }

@@ -128,14 +128,14 @@ module _ (rows ends : List ℕ) where
         unfolding fields_walk_t
         fields_turn t m scopes' k = rw k (yes! _ (omega tests) (wrote₃_done (rw (q, same) at w) _ _ m refl) ∙ (rw (down turns h) at inv))
 
-        pub fields_fail : (why : Refused) → a ≡ Err why → Err why & e & n & o ≡ T
+        pub fields_fail : (why : Refused) → a ≡ Err why → a & e & n & o ≡ T
         unfolding fields_walk_t
-        fields_fail why m = yes! _ (omega tests) (wrote₃_stop (rw (q, same) at w) _ _ m refl) ∙ (rw (down turns h) at inv)
+        fields_fail why m = ap (λ b. b & e & n & o) m ∙ yes! _ (omega tests) (wrote₃_stop (rw (q, same) at w) _ _ m refl) ∙ (rw (down turns h) at inv)
 
   module _ (most : ℕ) (entered names : List Slot) (scopes : List (List ℕ)) (out : List ℕ) (s : WriteState) (field : List ℕ) (p : field ≡ field_rows rows ends s.at) (a : Result WriteState Refused) (e : List Slot) (o : List ℕ) (w : a & e & o ≡ write_head_t field entered names scopes out s) where
-    pub field_stop : (why : Refused) → a ≡ Err why → Err why & e & names & o ≡ field_walk_t rows ends (scope_walk_t rows ends (most - s.depth)) entered names scopes out s
+    pub field_stop : (why : Refused) → a ≡ Err why → a & e & names & o ≡ field_walk_t rows ends (scope_walk_t rows ends (most - s.depth)) entered names scopes out s
     unfolding field_walk_t
-    field_stop why m = wrote₂_stop (rw p at w) _ _ m refl
+    field_stop why m = ap (λ b. b & e & names & o) m ∙ wrote₂_stop (rw p at w) _ _ m refl
 
     module _ (t : WriteState) (m : a ≡ Ok t) (c : ℕ) (g : c ≡ code_at rows t.at) where
       pub field_flat : (c ≡ 7 → ⊥) → Ok t & e & names & o ≡ field_walk_t rows ends (scope_walk_t rows ends (most - s.depth)) entered names scopes out s
@@ -143,9 +143,9 @@ module _ (rows ends : List ℕ) where
       field_flat f = wrote₂_done (rw p at w) _ _ m (no! _ (omega tests) refl)
 
       module _ (f : c ≡ 7) (u : WriteState) (q : u ≡ at_depth_t t s.depth) (b : Result WriteState Refused) (e' n : List Slot) (o' : List ℕ) (v : b & e' & n & o' ≡ scope_walk_t rows ends (most - u.depth) e names scopes o u) where
-        pub field_fail : (why : Refused) → b ≡ Err why → Err why & e' & n & o' ≡ field_walk_t rows ends (scope_walk_t rows ends (most - s.depth)) entered names scopes out s
+        pub field_fail : (why : Refused) → b ≡ Err why → b & e' & n & o' ≡ field_walk_t rows ends (scope_walk_t rows ends (most - s.depth)) entered names scopes out s
         unfolding field_walk_t
-        field_fail why l = wrote₂_done (rw p at w) _ _ m (yes! _ (omega tests) (wrote₃_stop (rw q at v) _ _ l refl))
+        field_fail why l = ap (λ z. z & e' & n & o') l ∙ wrote₂_done (rw p at w) _ _ m (yes! _ (omega tests) (wrote₃_stop (rw q at v) _ _ l refl))
 
         pub field_deep : (x : WriteState) → b ≡ Ok x → (z : WriteState) → z ≡ after_scope_t t x → Ok z & e' & n & o' ≡ field_walk_t rows ends (scope_walk_t rows ends (most - s.depth)) entered names scopes out s
         unfolding field_walk_t

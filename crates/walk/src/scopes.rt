@@ -213,7 +213,7 @@ fn fields_walk(
         if code_at(rows, cur.at) != FIELD {
             return Ok(closed(rows, out, cur));
         }
-        cur = field_walk(
+        let walked = field_walk(
             rows,
             ends,
             entered,
@@ -223,7 +223,13 @@ fn fields_walk(
             scopes,
             out,
             begun(cur, depth),
-        )?;
+        );
+        match walked {
+            Ok(t) => {
+                cur = t;
+            }
+            Err(_) => return walked,
+        }
     }
     // Never reached on a form: the CLOSE of the scope ends the loop.
     Ok(cur)
@@ -245,7 +251,7 @@ fn field_walk(
     requires { Served entered.old known.old names.old chains.old s.used × Stacked scopes.old s }
     ensures { ((result & entered.new & names.new & out.new) ≡ field_walk_t rows.now ends.now (scope_walk_t rows.now ends.now (length scopes.old - s.depth)) entered.old names.old scopes.old out.old s) × FieldBy result s entered.new known.new names.new chains.new scopes.old scopes.new }
 {
-    let t = write_head(
+    let walked = write_head(
         field_rows(rows, ends, s.at),
         entered,
         known,
@@ -254,22 +260,30 @@ fn field_walk(
         scopes,
         out,
         s,
-    )?;
-    if code_at(rows, t.at) != OPEN {
-        return Ok(t);
+    );
+    match walked {
+        Err(_) => walked,
+        Ok(t) => {
+            if code_at(rows, t.at) != OPEN {
+                return Ok(t);
+            }
+            let inside = scope_walk(
+                rows,
+                ends,
+                entered,
+                known,
+                names,
+                chains,
+                scopes,
+                out,
+                at_depth(t, s.depth),
+            );
+            match inside {
+                Err(_) => inside,
+                Ok(u) => Ok(after_scope(t, u)),
+            }
+        }
     }
-    let u = scope_walk(
-        rows,
-        ends,
-        entered,
-        known,
-        names,
-        chains,
-        scopes,
-        out,
-        at_depth(t, s.depth),
-    )?;
-    Ok(after_scope(t, u))
 }
 
 // A field begins where `depth` scopes are open: its inserted slots are the scope's next, and none of its cases was seen. The
