@@ -25,7 +25,7 @@ use fixed::HEADER;
 use form::ends::mark_ends;
 use mark::mark_rows;
 use names::Slot;
-use refusal::Refused;
+use refusal::{Refusal, Refused};
 use resolver::run::{fill, header_size, resolve};
 
 // ---- the proposal
