@@ -139,7 +139,7 @@ module _ (env : Env) (outside : Outside) (here₀ : List Declaration) (h : Head)
       let r : Is field 0 (Field h.code h.builtin h.z) = at_head field 0 _ _ (rw (head_tail h tail) at all) in
       rw r.reads
 
-  -- nothing is inserted before a field whose operands are here_only_lem
+  -- nothing is inserted before a field whose operands are here-only
   here_none : (s : WriteState) (out : List ℕ) → here_only h.code ≡ true → write_fresh_t field names (innermost_t scopes s.depth) out s ≡ (Ok s & out)
   unfolding write_fresh_t write_inserted_t pick
   here_none s out q = rw (code_of_lem, q) (pick_same (ltb (name_of (slot_at names s.next)) 2147483648) (Ok s & out) (Ok s & out) (λ e. refl))
