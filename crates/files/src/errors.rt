@@ -10,10 +10,7 @@ const NO_TEXT: i32 = 84;
 
 // A path as the text that the system's functions take, or the error that it is none.
 pub(crate) fn text_of(path: &[u8]) -> std::io::Result<&str> {
-    match std::str::from_utf8(path) {
-        Ok(text) => Ok(text),
-        Err(_) => Err(Error::from_raw_os_error(NO_TEXT)),
-    }
+    std::str::from_utf8(path).map_err(|_| Error::from_raw_os_error(NO_TEXT))
 }
 
 fn say_path(host: Host<'_>, path: &[u8]) {

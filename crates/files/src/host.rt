@@ -35,19 +35,12 @@ impl<'a> Host<'a> {
 pub fn arg(host: Host<'_>, i: usize, buffer: &mut [u8]) -> usize
     ensures { result ≤ length buffer.new }
 {
-    match host.rt.arg(i, buffer) {
-        Ok(length) => length,
-        Err(_) => 0,
-    }
+    host.rt.arg(i, buffer).unwrap_or(0)
 }
 
 fn is_there(host: Host<'_>, i: usize) -> bool {
     let mut probe = [0u8; 1];
-    match host.rt.arg(i, &mut probe) {
-        Ok(_) => true,
-        Err(FillError::TooLong) => true,
-        Err(FillError::NotPresent) => false,
-    }
+    !matches!(host.rt.arg(i, &mut probe), Err(FillError::NotPresent))
 }
 
 // How many arguments the program was started with, its own name among them.

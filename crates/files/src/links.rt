@@ -6,26 +6,17 @@ use crate::errors::text_of;
 use crate::host::Host;
 use crate::path_parts::{copy, front};
 use std::fs;
-use std::io::Error;
+use std::path::PathBuf;
 
 // The most links that are followed, as many as Linux follows.
 const LINKS: u8 = 40;
 
-// What following links came to: a path of this many bytes that is no link, or none; or a link could not be read.
-#[derive(Clone, Copy)]
-pub(crate) enum Target {
-    At(usize),
-    Nowhere,
-    Unread(Error),
-}
-
-// What one link came to: a path of this many bytes, or one that there is no room for, or that it was no link; or it could not be read.
+// What one link came to, if it could be read: a path of this many bytes, or one that there is no room for, or that it was no link.
 #[derive(Clone, Copy)]
 enum Step {
     To(usize),
     TooLong,
     NoLink,
-    Unread(Error),
 }
 
 // How many bytes of a path name its folder, with the last slash.
@@ -69,36 +60,34 @@ fn step_by(path: &mut [u8], length: usize, text: &[u8]) -> Step {
     put_text(path, start, text)
 }
 
-// Goes along one link. Its text is copied to memory first, and has to be UTF-8.
-fn go_on(host: Host<'_>, path: &mut [u8], length: usize) -> Step {
-    let own = match text_of(front(&path[..], length)) {
-        Ok(text) => fs::read_link(&host.rt, text),
+// The text of a link. It is copied to memory first, and has to be UTF-8.
+fn read(host: Host<'_>, path: &[u8]) -> std::io::Result<PathBuf> {
+    fs::read_link(&host.rt, text_of(path)?)
+}
+
+// Goes along one link. An error of the system says that it is none.
+fn go_on(host: Host<'_>, path: &mut [u8], length: usize) -> std::io::Result<Step> {
+    match read(host, front(&path[..], length)) {
+        Ok(text) => Ok(step_by(path, length, text.as_str().as_bytes())),
+        Err(error) if error.raw_os_error().is_some() => Ok(Step::NoLink),
         Err(error) => Err(error),
-    };
-    match own {
-        Ok(text) => step_by(path, length, text.as_str().as_bytes()),
-        Err(error) => {
-            if error.raw_os_error().is_some() {
-                Step::NoLink
-            } else {
-                Step::Unread(error)
-            }
-        }
     }
 }
 
-// Follows the links from a path, whose bytes are at the start of a buffer, and leaves there the path to which they lead.
-pub(crate) fn follow(host: Host<'_>, path: &mut [u8], length: usize) -> Target {
+// Follows the links from a path, whose bytes are at the start of a buffer, and leaves there the path to which they lead, which is
+// no link. The answer is how many bytes it has; none where there is no room for it, or where there are too many links.
+pub(crate) fn follow(
+    host: Host<'_>,
+    path: &mut [u8],
+    length: usize,
+) -> std::io::Result<Option<usize>> {
     let mut end = length;
-    let mut links: u8 = 0;
-    while links < LINKS {
-        match go_on(host, path, end) {
+    for _ in 0..LINKS {
+        match go_on(host, path, end)? {
             Step::To(next) => end = next,
-            Step::TooLong => return Target::Nowhere,
-            Step::NoLink => return Target::At(end),
-            Step::Unread(error) => return Target::Unread(error),
+            Step::TooLong => return Ok(None),
+            Step::NoLink => return Ok(Some(end)),
         }
-        links += 1;
     }
-    Target::Nowhere
+    Ok(None)
 }

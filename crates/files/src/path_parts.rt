@@ -25,12 +25,10 @@ pub fn front(bytes: &[u8], count: usize) -> &[u8]
 
 // Copies a text to the start of a buffer, as far as there is room.
 pub(crate) fn copy(text: &[u8], buffer: &mut [u8]) {
-    let mut i = 0;
-    while i < text.len() {
+    for i in 0..text.len() {
         if buffer.len() <= i {
             return;
         }
         buffer[i] = text[i];
-        i += 1;
     }
 }

@@ -22,25 +22,20 @@ pub fn error_since(host: Host<'_>, before: i32) -> Option<Error> {
 
 // Opens a folder, and answers whether that took the place of a standard descriptor that was closed.
 fn fills_gap(host: Host<'_>) -> bool {
-    match File::open(&host.rt, "/") {
-        Ok(file) => {
-            if file.as_raw_fd() < 3 {
-                file.into_raw_fd();
-                true
-            } else {
-                false
-            }
-        }
-        Err(_) => false,
+    let Ok(file) = File::open(&host.rt, "/") else {
+        return false;
+    };
+    let is_standard = file.as_raw_fd() < 3;
+    if is_standard {
+        file.into_raw_fd();
     }
+    is_standard
 }
 
 // Sees to it that no file gets the number of a standard descriptor that is closed: what is said would go into it.
 // A folder takes that number, which can be neither read nor written.
 pub fn fill_gaps(host: Host<'_>) {
-    if fills_gap(host) {
-        if fills_gap(host) {
-            fills_gap(host);
-        }
+    if fills_gap(host) && fills_gap(host) {
+        fills_gap(host);
     }
 }

@@ -1,7 +1,7 @@
 // A file written: a regular one whole or not at all, a special one as it is.
 use crate::errors::{say_failure, say_wrong, text_of};
 use crate::host::Host;
-use crate::links::{Target, follow};
+use crate::links::follow;
 use crate::mode::{is_regular, mode_of, rights};
 use crate::path_parts::{copy, front, is_dash};
 use crate::temporary::create_temp;
@@ -68,7 +68,8 @@ fn place_whole(
         Ok(()) => true,
         Err(error) => {
             say_unwritten(host, path, error);
-            remove(host, name).is_ok() & false
+            let _ = remove(host, name);
+            false
         }
     }
 }
@@ -106,8 +107,8 @@ fn save_linked(host: Host<'_>, path: &[u8], mode: u32, bytes: &[u8]) -> bool {
     let mut target = io::buffer();
     copy(path, &mut target);
     match follow(host, &mut target, path.len()) {
-        Target::At(length) => save_regular(host, front(&target, length), mode, bytes),
-        Target::Nowhere => {
+        Ok(Some(length)) => save_regular(host, front(&target, length), mode, bytes),
+        Ok(None) => {
             say_wrong(
                 host,
                 path,
@@ -115,7 +116,7 @@ fn save_linked(host: Host<'_>, path: &[u8], mode: u32, bytes: &[u8]) -> bool {
             );
             false
         }
-        Target::Unread(error) => {
+        Err(error) => {
             say_unwritten(host, path, error);
             false
         }
@@ -154,10 +155,10 @@ fn open(host: Host<'_>, path: &[u8]) -> std::io::Result<File> {
 fn save_named(host: Host<'_>, path: &[u8], bytes: &[u8]) -> bool {
     match open(host, path) {
         Ok(file) => save_over(host, file, path, bytes),
+        Err(error) if error.raw_os_error() == Some(MISSING) => {
+            save_linked(host, path, NEW_MODE, bytes)
+        }
         Err(error) => {
-            if error.raw_os_error() == Some(MISSING) {
-                return save_linked(host, path, NEW_MODE, bytes);
-            }
             say_unwritten(host, path, error);
             false
         }

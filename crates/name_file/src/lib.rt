@@ -6,29 +6,27 @@ ghost use Rattle.std.specs.Prelude.{◌≡◌, true};
 ghost use Rattle.name_file.specs.Names.{new_line, turned, is_digit, is_word_byte, longer, with_digit, at_start, in_number, in_word, behind_word, with_byte, is_sound, is_for, is_of, word_in, one_more, word_for, wrong_line};
 
 // Where a line is: at its start, in its number, behind the blank, in its word, behind a CR; or it is wrong.
-const START: u8 = 0;
-
-const NUMBER: u8 = 1;
-
-const BLANK: u8 = 2;
-
-const WORD: u8 = 3;
-
-const RETURN: u8 = 4;
-
-const WRONG: u8 = 5;
+#[derive(Clone, Copy)]
+enum At {
+    Start,
+    Number,
+    Blank,
+    Letters,
+    Return,
+    Wrong,
+}
 
 // What was read of a line: its word stands from `from` up to `to`.
 #[derive(Clone, Copy)]
 struct Line {
-    at: u8,
+    at: At,
     exported: bool,
     number: u64,
     from: usize,
     to: usize,
 }
 
-// A part of the file; nothing where it begins at its end.
+// A word, as the part of the file that it is.
 #[derive(Clone, Copy)]
 pub struct Word {
     pub from: usize,
@@ -39,7 +37,7 @@ fn new_line() -> Line
     ensures { result ≡ new_line }
 {
     Line {
-        at: START,
+        at: At::Start,
         exported: false,
         number: 0,
         from: 0,
@@ -48,7 +46,7 @@ fn new_line() -> Line
 }
 
 // The line with its next part.
-fn turned(line: Line, at: u8) -> Line
+fn turned(line: Line, at: At) -> Line
     ensures { result ≡ turned line at }
 {
     Line {
@@ -89,14 +87,14 @@ fn with_digit(line: Line, byte: u8) -> Line
 {
     if is_digit(byte) {
         Line {
-            at: NUMBER,
+            at: At::Number,
             exported: line.exported,
             number: longer(line.number, byte),
             from: 0,
             to: 0,
         }
     } else {
-        turned(line, WRONG)
+        turned(line, At::Wrong)
     }
 }
 
@@ -105,11 +103,11 @@ fn at_start(line: Line, byte: u8) -> Line
     ensures { result ≡ at_start line byte }
 {
     if byte == b'\r' {
-        return turned(line, RETURN);
+        return turned(line, At::Return);
     }
     if (byte == b'#') & !line.exported {
         return Line {
-            at: START,
+            at: At::Start,
             exported: true,
             number: 0,
             from: 0,
@@ -124,9 +122,9 @@ fn in_number(line: Line, byte: u8) -> Line
 {
     if byte == b' ' {
         if line.number < 4294967296 {
-            turned(line, BLANK)
+            turned(line, At::Blank)
         } else {
-            turned(line, WRONG)
+            turned(line, At::Wrong)
         }
     } else {
         with_digit(line, byte)
@@ -139,14 +137,14 @@ fn in_word(line: Line, byte: u8, from: usize, to: usize) -> Line
 {
     if is_word_byte(byte) {
         Line {
-            at: WORD,
+            at: At::Letters,
             exported: line.exported,
             number: line.number,
             from,
             to,
         }
     } else {
-        turned(line, WRONG)
+        turned(line, At::Wrong)
     }
 }
 
@@ -155,7 +153,7 @@ fn behind_word(line: Line, byte: u8, to: usize) -> Line
     ensures { result ≡ behind_word line byte to }
 {
     if byte == b'\r' {
-        turned(line, RETURN)
+        turned(line, At::Return)
     } else {
         in_word(line, byte, line.from, to)
     }
@@ -165,13 +163,12 @@ fn behind_word(line: Line, byte: u8, to: usize) -> Line
 fn with_byte(line: Line, byte: u8, i: usize, to: usize) -> Line
     ensures { result ≡ with_byte line byte i to }
 {
-    let at = line.at;
-    match at {
-        START => at_start(line, byte),
-        NUMBER => in_number(line, byte),
-        BLANK => in_word(line, byte, i, to),
-        WORD => behind_word(line, byte, to),
-        _ => turned(line, WRONG),
+    match line.at {
+        At::Start => at_start(line, byte),
+        At::Number => in_number(line, byte),
+        At::Blank => in_word(line, byte, i, to),
+        At::Letters => behind_word(line, byte, to),
+        _ => turned(line, At::Wrong),
     }
 }
 
@@ -186,13 +183,12 @@ fn one_more(count: u32) -> u32
 fn is_sound(line: Line) -> bool
     ensures { result ≡ is_sound line }
 {
-    if (line.at == START) & !line.exported {
-        return true;
+    match line.at {
+        At::Start => !line.exported,
+        At::Return => (line.from < line.to) | !line.exported,
+        At::Letters => true,
+        _ => false,
     }
-    if line.at == RETURN {
-        return (line.from < line.to) | !line.exported;
-    }
-    line.at == WORD
 }
 
 // Whether it has a word, and this number.
@@ -223,7 +219,7 @@ fn word_in(line: Line) -> Word
 }
 
 // The word for a name, or for an export name: the first that the file has.
-pub fn find(names: &[u8], number: u32, exported: bool) -> Word
+pub fn find(names: &[u8], number: u32, exported: bool) -> Option<Word>
     ensures { result ≡ word_for names.now number exported }
 {
     let mut line = new_line();
@@ -234,7 +230,7 @@ pub fn find(names: &[u8], number: u32, exported: bool) -> Word
         i += 1;
         if byte == b'\n' {
             if is_of(line, number, exported) {
-                return word_in(line);
+                return Some(word_in(line));
             }
             line = new_line();
         } else {
@@ -242,13 +238,13 @@ pub fn find(names: &[u8], number: u32, exported: bool) -> Word
         }
     }
     if is_of(line, number, exported) {
-        return word_in(line);
+        return Some(word_in(line));
     }
-    Word { from: 0, to: 0 }
+    None
 }
 
-// The number of the first line that is wrong, counted from 1; 0 if no line is.
-pub fn wrong_line(names: &[u8]) -> u32
+// The number of the first line that is wrong, counted from 1, if one is.
+pub fn wrong_line(names: &[u8]) -> Option<u32>
     ensures { result ≡ wrong_line names.now }
 {
     let mut line = new_line();
@@ -260,7 +256,7 @@ pub fn wrong_line(names: &[u8]) -> u32
         i += 1;
         if byte == b'\n' {
             if !is_sound(line) {
-                return count;
+                return Some(count);
             }
             line = new_line();
             count = one_more(count);
@@ -268,5 +264,5 @@ pub fn wrong_line(names: &[u8]) -> u32
             line = with_byte(line, byte, at, i);
         }
     }
-    if is_sound(line) { 0 } else { count }
+    if is_sound(line) { None } else { Some(count) }
 }

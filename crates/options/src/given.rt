@@ -21,8 +21,8 @@ pub const SHARED: u8 = 16;
 #[derive(Clone, Copy)]
 pub struct Options {
     pub set: u8,
-    // The argument that is the path of a file of names; 0 if there is none.
-    pub names: u8,
+    // The argument that is the path of a file of names.
+    pub names: Option<u8>,
     // The argument behind which the command's other words stand.
     pub first: u8,
 }
@@ -35,7 +35,7 @@ enum Turn {
     Wrong,
 }
 
-// Whether an option is in a set of them; 0 is not an option.
+// Whether an option is in a set of them; 0 is no option.
 pub fn has(set: u8, option: u8) -> bool
     ensures { result ≡ is_in set option }
 {
@@ -61,20 +61,20 @@ fn begins_with_dashes(word: &[u8]) -> bool {
     (word[0] == b'-') & (word[1] == b'-')
 }
 
-// The option of a word, 0 for a word that is not an option.
-fn option_of(word: &[u8]) -> u8 {
+// The option that a word is, if it is one.
+fn option_of(word: &[u8]) -> Option<u8> {
     if same(word, b"--places") {
-        PLACES
+        Some(PLACES)
     } else if same(word, b"--fresh") {
-        FRESH
+        Some(FRESH)
     } else if same(word, b"--names") {
-        NAMES
+        Some(NAMES)
     } else if same(word, b"--json") {
-        JSON
+        Some(JSON)
     } else if same(word, b"--shared") {
-        SHARED
+        Some(SHARED)
     } else {
-        0
+        None
     }
 }
 
@@ -84,7 +84,7 @@ fn with_option(options: Options, option: u8) -> Options {
     if option == NAMES {
         Options {
             set: options.set | option,
-            names: after(next),
+            names: Some(after(next)),
             first: after(next),
         }
     } else {
@@ -109,12 +109,15 @@ fn by_word(host: Host<'_>, options: Options, takes: u8, word: &[u8]) -> Turn {
     if !begins_with_dashes(word) {
         return Turn::Done;
     }
-    let option = option_of(word);
-    if has(takes, option) & !has(options.set, option) {
-        return Turn::More(with_option(options, option));
+    match option_of(word) {
+        Some(option) if has(takes, option) & !has(options.set, option) => {
+            Turn::More(with_option(options, option))
+        }
+        _ => {
+            say_wrong(host, word);
+            Turn::Wrong
+        }
     }
-    say_wrong(host, word);
-    Turn::Wrong
 }
 
 fn by_next(host: Host<'_>, options: Options, takes: u8) -> Turn {
@@ -127,17 +130,15 @@ fn by_next(host: Host<'_>, options: Options, takes: u8) -> Turn {
 pub fn read_options(host: Host<'_>, first: u8, takes: u8) -> Option<Options> {
     let mut given = Options {
         set: 0,
-        names: 0,
+        names: None,
         first,
     };
-    let mut turns: u8 = 0;
-    while turns < 16 {
+    for _ in 0..16 {
         match by_next(host, given, takes) {
             Turn::More(more) => given = more,
             Turn::Done => return Some(given),
             Turn::Wrong => return None,
         }
-        turns += 1;
     }
     None
 }

@@ -18,26 +18,20 @@ fn say_wrong(host: Host<'_>, path: &[u8], line: u32) {
 
 // Reads the file of a path; a line of it that is wrong is a failure.
 fn load_path(host: Host<'_>, path: &[u8], names: &mut [u8; 65536]) -> Option<usize> {
-    match load(host, path, names) {
-        Some(length) => {
-            let line = wrong_line(front(names, length));
-            if line == 0 {
-                Some(length)
-            } else {
-                say_wrong(host, path, line);
-                None
-            }
-        }
-        None => None,
-    }
+    let length = load(host, path, names)?;
+    let Some(line) = wrong_line(front(names, length)) else {
+        return Some(length);
+    };
+    say_wrong(host, path, line);
+    None
 }
 
 // Reads the file of names that the options give; none is a file of no bytes.
 pub fn load_names(host: Host<'_>, options: Options, names: &mut [u8; 65536]) -> Option<usize> {
-    if options.names == 0 {
+    let Some(argument) = options.names else {
         return Some(0);
-    }
+    };
     let mut path = io::buffer();
-    let length = arg(host, options.names as usize, &mut path);
+    let length = arg(host, argument as usize, &mut path);
     load_path(host, &path[..length], names)
 }

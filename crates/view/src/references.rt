@@ -55,21 +55,19 @@ fn say_behind(
     meaning: Option<Meaning>,
     before: &[u8],
 ) {
-    match meaning {
-        Some(Meaning { row, .. }) => {
-            if is_inserted_outer(form, row) {
-                say(fd, before);
-                say(fd, b"through it: ");
-                say_meaning(
-                    fd,
-                    names,
-                    form,
-                    final_at(form, entries, reference),
-                    b"no declaration is there",
-                );
-            }
-        }
-        None => {}
+    let Some(Meaning { row, .. }) = meaning else {
+        return;
+    };
+    if is_inserted_outer(form, row) {
+        say(fd, before);
+        say(fd, b"through it: ");
+        say_meaning(
+            fd,
+            names,
+            form,
+            final_at(form, entries, reference),
+            b"no declaration is there",
+        );
     }
 }
 
@@ -109,13 +107,11 @@ fn say_step(fd: Talk<'_>, names: &[u8], export: u32) {
 // The export names of the PATHs behind a REF.
 fn say_path(fd: Talk<'_>, names: &[u8], form: &[u8], reference: u16) {
     let rows = rows_in(form);
-    let mut row = next(reference);
-    while row < rows {
+    for row in next(reference)..rows {
         if code_at(form, row) != PATH {
             return;
         }
         say_step(fd, names, x_at(form, row));
-        row += 1;
     }
 }
 

@@ -7,7 +7,7 @@ ghost use Rattle.view.specs.Shown.{is_there, any_there};
 use json_parts::{say_count, say_null, say_string, say_truth};
 use meanings::entries::Entry;
 use meanings::{MOST, final_at, meaning_at, note_meanings, number_at};
-use name_file::find;
+use name_file::{Word, find};
 use readings::{Meaning, Reading, reading_of};
 use row_parts::{
     CASE, EXPORT, PATH, b_at, code_at, e_at, field_of, inserted_in, is_inserted, is_reference,
@@ -29,11 +29,8 @@ fn say_parts(fd: Talk<'_>, form: &[u8], row: u16) {
 
 // The word that the file has for a name, or for an export name.
 pub fn say_word(fd: Talk<'_>, names: &[u8], number: u32, is_export: bool) {
-    let word = find(names, number, is_export);
-    let from = word.from;
-    let to = word.to;
-    if to <= names.len() {
-        if from < to {
+    if let Some(Word { from, to }) = find(names, number, is_export) {
+        if (from < to) & (to <= names.len()) {
             say_string(fd, b",\"word\":", &names[from..to]);
             return;
         }
@@ -132,10 +129,8 @@ fn tell_row(fd: Talk<'_>, names: &[u8], form: &[u8], entries: &[Entry], row: u16
 
 fn tell_noted(fd: Talk<'_>, names: &[u8], form: &[u8], entries: &[Entry]) {
     let rows = rows_in(form);
-    let mut row: u16 = 0;
-    while row < rows {
+    for row in 0..rows {
         tell_row(fd, names, form, entries, row);
-        row += 1;
     }
 }
 

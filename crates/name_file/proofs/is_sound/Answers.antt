@@ -2,11 +2,14 @@
 use Rattle.name_file.proofs.Laws.{end_ways}
 use Rattle.name_file.proofs.is_sound.Goals as goal
 
-pub returns-then-line : goal.returns-then-line
-returns-then-line c = search end_ways
+pub returns-in-Start : goal.returns-in-Start
+returns-in-Start c = search end_ways
 
-pub returns-then-line-eq-RETURN : goal.returns-then-line-eq-RETURN
-returns-then-line-eq-RETURN c = search end_ways
+pub returns-in-Return : goal.returns-in-Return
+returns-in-Return c = search end_ways
 
-pub returns : goal.returns
-returns c = search end_ways
+pub returns-in-Letters : goal.returns-in-Letters
+returns-in-Letters c = search end_ways
+
+pub returns-in_default : goal.returns-in_default
+returns-in_default c = search end_ways

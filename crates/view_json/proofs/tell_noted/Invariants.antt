@@ -1,6 +1,0 @@
--- `view_json::tell_noted` is safe and ends. The measure is the rows that are left.
-use Prim.Native.Nat.{◌-◌}
-use Rattle.view_json.proofs.tell_noted.Given as goal
-
-abbrev pub decreases-loop-row : goal.decreases-loop-row
-decreases-loop-row l = l.rows - l.row
