@@ -79,8 +79,7 @@ pub fn say_told(talk: Talk<'_>, form: &[u8], refusal: Refusal, told: Told) {
     match what_is(refusal.number, is_resolved(form)) {
         Known::NoForm => say_no_form(talk, form, refusal),
         Known::Resolved => say_resolved_before(talk, form, refusal),
-        Known::Whole => say_steps(talk, form, refusal, told),
-        Known::Broken => say_steps(talk, form, refusal, told),
+        Known::Whole | Known::Broken => say_steps(talk, form, refusal, told),
     }
 }
 

@@ -7,7 +7,6 @@ use Prim.Native.Nat.{ℕ, ◌-◌}
 use borrow.Author.Rules.{rules}
 use lib.Dec.{ltb}
 use Rattle.kit.specs.Out.{Out, ◌&◌}
-use Rattle.text.specs.declared.lines.Why.{Why}
 use Rattle.texts.specs.Made.{made}
 use Rattle.row_parts.specs.Parts as parts
 use Rattle.texts.specs.Whole.{is_whole}
@@ -24,8 +23,8 @@ module _ (out : List ℕ) (p : Result ℕ Wrong) (got : Out (Result ℕ Wrong) (
   unfolding made
   made_form rows q = rw (← h, q)
 
-  pub made_nothing : (line : ℕ) (why : Why) → p ≡ Err (record { line = line; why = why }) → (None & out) ≡ made got
+  pub made_nothing : (wrong : Wrong) → p ≡ Err wrong → (None & out) ≡ made got
   unfolding made
-  made_nothing line why q = rw (← h, q)
+  made_nothing wrong q = rw (← h, q)
 
 pub ruleset made_ways = (made_form, made_nothing, rules)

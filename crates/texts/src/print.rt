@@ -101,10 +101,8 @@ fn say_row(fd: Talk<'_>, row: Parts, next: Parts) {
 }
 
 fn say_rows(fd: Talk<'_>, rows: &[u8], count: usize) {
-    let mut i = 0;
-    while i < count {
+    for i in 0..count {
         say_row(fd, parts_at(rows, i), parts_at(rows, i + 1));
-        i += 1;
     }
 }
 
