@@ -26,14 +26,12 @@ fn say_pair(talk: Talk<'_>, old: u32, new: u32) {
 
 // The key, a line a name.
 fn say_key(talk: Talk<'_>, key: &[u32; 2048], names: u32) {
-    let mut i = 0;
-    while i < names {
+    for i in 0..names {
         let at = i as usize;
         if NAMES <= at {
             return;
         }
         say_pair(talk, key[at], i + 1);
-        i += 1;
     }
 }
 
@@ -67,10 +65,10 @@ fn anonymise_form(host: Host<'_>, form: &[u8], path: &[u8]) -> u8 {
 // Writes the form in a file into another file with its new names.
 fn anonymise_paths(host: Host<'_>, from: &[u8], to: &[u8]) -> u8 {
     let mut buffer = io::large_buffer();
-    match load(host, from, &mut buffer) {
-        Some(length) => anonymise_form(host, part(&buffer, length), to),
-        None => FAILED,
-    }
+    let Some(length) = load(host, from, &mut buffer) else {
+        return FAILED;
+    };
+    anonymise_form(host, part(&buffer, length), to)
 }
 
 fn run_anonymise(host: Host<'_>, first: u8) -> u8 {

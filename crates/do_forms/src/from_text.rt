@@ -43,13 +43,11 @@ fn print_form(host: Host<'_>, form: &[u8]) -> u8 {
 // Prints the rows of the form in a file.
 fn rows_path(host: Host<'_>, path: &[u8]) -> u8 {
     let mut buffer = io::large_buffer();
-    match load(host, path, &mut buffer) {
-        Some(length) => {
-            let before = error_noted(host);
-            said(host, print_form(host, part(&buffer, length)), before)
-        }
-        None => FAILED,
-    }
+    let Some(length) = load(host, path, &mut buffer) else {
+        return FAILED;
+    };
+    let before = error_noted(host);
+    said(host, print_form(host, part(&buffer, length)), before)
 }
 
 fn run_rows(host: Host<'_>, first: u8) -> u8 {
@@ -102,10 +100,10 @@ fn form_text(host: Host<'_>, text: &[u8], from: &[u8], to: &[u8]) -> u8 {
 // Turns the text in a file into the form of another file.
 fn form_paths(host: Host<'_>, from: &[u8], to: &[u8]) -> u8 {
     let mut buffer = [0u8; 524289];
-    match load_text(host, from, &mut buffer) {
-        Some(length) => form_text(host, text_part(&buffer, length), from, to),
-        None => FAILED,
-    }
+    let Some(length) = load_text(host, from, &mut buffer) else {
+        return FAILED;
+    };
+    form_text(host, text_part(&buffer, length), from, to)
 }
 
 fn run_form(host: Host<'_>, first: u8) -> u8 {

@@ -51,10 +51,10 @@ fn unresolve_form(host: Host<'_>, form: &[u8], path: &[u8]) -> u8 {
 // Gives an input for the resolved form in a file, into another file.
 fn unresolve_paths(host: Host<'_>, from: &[u8], to: &[u8]) -> u8 {
     let mut buffer = io::large_buffer();
-    match load(host, from, &mut buffer) {
-        Some(length) => unresolve_form(host, part(&buffer, length), to),
-        None => FAILED,
-    }
+    let Some(length) = load(host, from, &mut buffer) else {
+        return FAILED;
+    };
+    unresolve_form(host, part(&buffer, length), to)
 }
 
 fn run_unresolve(host: Host<'_>, first: u8) -> u8 {

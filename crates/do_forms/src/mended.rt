@@ -60,10 +60,10 @@ fn mend_loaded(host: Host<'_>, mut buffer: [u8; 65536], length: usize, path: &[u
 // Mends the form in a file into another file.
 fn mend_paths(host: Host<'_>, from: &[u8], to: &[u8]) -> u8 {
     let mut buffer = io::large_buffer();
-    match load(host, from, &mut buffer) {
-        Some(length) => mend_loaded(host, buffer, length, to),
-        None => FAILED,
-    }
+    let Some(length) = load(host, from, &mut buffer) else {
+        return FAILED;
+    };
+    mend_loaded(host, buffer, length, to)
 }
 
 fn run_mend(host: Host<'_>, first: u8) -> u8 {

@@ -93,10 +93,10 @@ fn convert_form(host: Host<'_>, form: &[u8], version: u32, path: &[u8]) -> u8 {
 
 fn convert_paths(host: Host<'_>, from: &[u8], version: u32, to: &[u8]) -> u8 {
     let mut buffer = [0u8; 524289];
-    match load_text(host, from, &mut buffer) {
-        Some(length) => convert_form(host, text_part(&buffer, length), version, to),
-        None => FAILED,
-    }
+    let Some(length) = load_text(host, from, &mut buffer) else {
+        return FAILED;
+    };
+    convert_form(host, text_part(&buffer, length), version, to)
 }
 
 fn version_in(host: Host<'_>, i: usize) -> Option<u32> {

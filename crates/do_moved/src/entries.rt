@@ -116,10 +116,8 @@ pub(crate) fn say_moved(
     list: &[u8],
     count: u32,
 ) {
-    let mut entry = 0;
-    while entry < count {
+    for entry in 0..count {
         say_moved_entry(fd, names, form, out, list, entry);
-        entry += 1;
     }
 }
 
@@ -139,10 +137,8 @@ fn tell_moved_entry(fd: Talk<'_>, form: &[u8], list: &[u8], entry: u32) {
 }
 
 pub(crate) fn tell_moved(fd: Talk<'_>, form: &[u8], list: &[u8], count: u32) {
-    let mut entry = 0;
-    while entry < count {
+    for entry in 0..count {
         tell_moved_entry(fd, form, list, entry);
-        entry += 1;
     }
 }
 
@@ -158,10 +154,8 @@ fn say_apart_entry(fd: Talk<'_>, list: &[u8], entry: u32) {
 
 // Writes a line for each of the numbers without an item, this many.
 pub(crate) fn say_apart(fd: Talk<'_>, list: &[u8], count: u32) {
-    let mut entry = 0;
-    while entry < count {
+    for entry in 0..count {
         say_apart_entry(fd, list, entry);
-        entry += 1;
     }
 }
 
@@ -180,9 +174,7 @@ fn tell_apart_entry(fd: Talk<'_>, list: &[u8], entry: u32) {
 }
 
 pub(crate) fn tell_apart(fd: Talk<'_>, list: &[u8], count: u32) {
-    let mut entry = 0;
-    while entry < count {
+    for entry in 0..count {
         tell_apart_entry(fd, list, entry);
-        entry += 1;
     }
 }

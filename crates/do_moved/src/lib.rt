@@ -90,34 +90,30 @@ fn say_of_form(host: Host<'_>, names: &[u8], form: &[u8], is_json: bool) -> u8 {
 
 fn say_of_path(host: Host<'_>, names: &[u8], path: &[u8], is_json: bool) -> u8 {
     let mut buffer = io::large_buffer();
-    match load(host, path, &mut buffer) {
-        Some(length) => {
-            let before = error_noted(host);
-            said(
-                host,
-                say_of_form(host, names, part(&buffer, length), is_json),
-                before,
-            )
-        }
-        None => FAILED,
-    }
+    let Some(length) = load(host, path, &mut buffer) else {
+        return FAILED;
+    };
+    let before = error_noted(host);
+    said(
+        host,
+        say_of_form(host, names, part(&buffer, length), is_json),
+        before,
+    )
 }
 
 fn say_with(host: Host<'_>, options: Options) -> u8 {
     let mut names = io::large_buffer();
     let mut path = io::buffer();
-    match load_names(host, options, &mut names) {
-        Some(count) => {
-            let length = arg(host, behind(options.first, 1), &mut path);
-            say_of_path(
-                host,
-                part(&names, count),
-                &path[..length],
-                has(options.set, JSON),
-            )
-        }
-        None => FAILED,
-    }
+    let Some(count) = load_names(host, options, &mut names) else {
+        return FAILED;
+    };
+    let length = arg(host, behind(options.first, 1), &mut path);
+    say_of_path(
+        host,
+        part(&names, count),
+        &path[..length],
+        has(options.set, JSON),
+    )
 }
 
 fn moved_with(host: Host<'_>, options: Options) -> u8 {
@@ -129,10 +125,10 @@ fn moved_with(host: Host<'_>, options: Options) -> u8 {
 }
 
 fn run_moved(host: Host<'_>, first: u8) -> u8 {
-    match read_options(host, first, NAMES | JSON) {
-        Some(given) => moved_with(host, given),
-        None => FAILED,
-    }
+    let Some(given) = read_options(host, first, NAMES | JSON) else {
+        return FAILED;
+    };
+    moved_with(host, given)
 }
 
 pub fn moved_command(host: Host<'_>, task: Task, first: u8) -> u8 {

@@ -61,10 +61,7 @@ fn refuse_second(host: Host<'_>, path: &[u8]) -> u8 {
 // Whether the left is refused by itself: then it is the left that is refused.
 fn is_refused(left: &[u8]) -> bool {
     let mut none = [0u8; 1];
-    match compare(left, left, 0, &mut none) {
-        Ok(_) => false,
-        Err(_) => true,
-    }
+    compare(left, left, 0, &mut none).is_err()
 }
 
 // ---- the answer
@@ -143,21 +140,21 @@ fn compare_first(
 fn compare_paths(host: Host<'_>, names: &[u8], left_path: &[u8], right_path: &[u8], set: u8) -> u8 {
     let mut left = io::large_buffer();
     let mut right = io::large_buffer();
-    match load(host, left_path, &mut left) {
-        None => FAILED,
-        Some(one) => match load(host, right_path, &mut right) {
-            None => FAILED,
-            Some(other) => compare_first(
-                host,
-                names,
-                part(&left, one),
-                part(&right, other),
-                left_path,
-                right_path,
-                set,
-            ),
-        },
-    }
+    let Some(one) = load(host, left_path, &mut left) else {
+        return FAILED;
+    };
+    let Some(other) = load(host, right_path, &mut right) else {
+        return FAILED;
+    };
+    compare_first(
+        host,
+        names,
+        part(&left, one),
+        part(&right, other),
+        left_path,
+        right_path,
+        set,
+    )
 }
 
 fn compare_named(host: Host<'_>, options: Options, names: &[u8]) -> u8 {
@@ -183,17 +180,17 @@ fn diff_with(host: Host<'_>, options: Options) -> u8 {
         return FAILED;
     }
     let mut names = io::large_buffer();
-    match load_names(host, options, &mut names) {
-        Some(count) => compare_named(host, options, part(&names, count)),
-        None => FAILED,
-    }
+    let Some(count) = load_names(host, options, &mut names) else {
+        return FAILED;
+    };
+    compare_named(host, options, part(&names, count))
 }
 
 fn run_diff(host: Host<'_>, first: u8) -> u8 {
-    match read_options(host, first, PLACES | FRESH | NAMES | JSON) {
-        Some(given) => diff_with(host, given),
-        None => FAILED,
-    }
+    let Some(given) = read_options(host, first, PLACES | FRESH | NAMES | JSON) else {
+        return FAILED;
+    };
+    diff_with(host, given)
 }
 
 pub fn diff_command(host: Host<'_>, task: Task, first: u8) -> u8 {

@@ -17,7 +17,7 @@ use known::file::say_told;
 use names::Slot;
 use options::given::{JSON, NAMES, Options, has, read_options};
 use options::names::load_names;
-use refusal::Refused;
+use refusal::{Refusal, Refused};
 use resolver::run::resolve;
 use words::say;
 
@@ -126,15 +126,13 @@ fn verify_paths(
 ) -> u8 {
     let mut form = io::large_buffer();
     let mut claim = io::large_buffer();
-    match load(host, form_path, &mut form) {
-        None => FAILED,
-        Some(one) => match load(host, claim_path, &mut claim) {
-            None => FAILED,
-            Some(other) => {
-                verify_forms(host, names, part(&form, one), part(&claim, other), is_json)
-            }
-        },
-    }
+    let Some(one) = load(host, form_path, &mut form) else {
+        return FAILED;
+    };
+    let Some(other) = load(host, claim_path, &mut claim) else {
+        return FAILED;
+    };
+    verify_forms(host, names, part(&form, one), part(&claim, other), is_json)
 }
 
 fn verify_named(host: Host<'_>, options: Options, names: &[u8]) -> u8 {
@@ -157,17 +155,17 @@ fn verify_with(host: Host<'_>, options: Options) -> u8 {
         return FAILED;
     }
     let mut names = io::large_buffer();
-    match load_names(host, options, &mut names) {
-        Some(count) => verify_named(host, options, part(&names, count)),
-        None => FAILED,
-    }
+    let Some(count) = load_names(host, options, &mut names) else {
+        return FAILED;
+    };
+    verify_named(host, options, part(&names, count))
 }
 
 fn run_verify(host: Host<'_>, first: u8) -> u8 {
-    match read_options(host, first, NAMES | JSON) {
-        Some(given) => verify_with(host, given),
-        None => FAILED,
-    }
+    let Some(given) = read_options(host, first, NAMES | JSON) else {
+        return FAILED;
+    };
+    verify_with(host, given)
 }
 
 pub fn verify_command(host: Host<'_>, task: Task, first: u8) -> u8 {

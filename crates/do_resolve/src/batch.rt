@@ -67,10 +67,10 @@ fn resolve_member(host: Host<'_>, root: &[u8], form: &[u8], name: &[u8], path: &
 
 fn member_paths(host: Host<'_>, root: &[u8], name: &[u8], path: &[u8]) -> u8 {
     let mut buffer = io::large_buffer();
-    match load(host, name, &mut buffer) {
-        Some(length) => resolve_member(host, root, part(&buffer, length), name, path),
-        None => FAILED,
-    }
+    let Some(length) = load(host, name, &mut buffer) else {
+        return FAILED;
+    };
+    resolve_member(host, root, part(&buffer, length), name, path)
 }
 
 // The member whose two words begin with the argument that is `i` behind the first.
@@ -86,14 +86,12 @@ fn member_words(host: Host<'_>, root: &[u8], first: u8, i: u8) -> u8 {
 fn each_member(host: Host<'_>, root: &[u8], first: u8) -> u8 {
     let count = arg_count(host);
     let mut status = DONE;
-    let mut i = 0;
-    while i < MOST {
+    for i in 0..MOST {
         let at = 3 + 2 * i;
         if count <= behind(first, at) {
             return status;
         }
         status = worse(status, member_words(host, root, first, at));
-        i += 1;
     }
     status
 }
@@ -126,10 +124,10 @@ fn batch_form(host: Host<'_>, form: &[u8], name: &[u8], path: &[u8], first: u8) 
 
 fn batch_paths(host: Host<'_>, name: &[u8], path: &[u8], first: u8) -> u8 {
     let mut buffer = io::large_buffer();
-    match load(host, name, &mut buffer) {
-        Some(length) => batch_form(host, part(&buffer, length), name, path, first),
-        None => FAILED,
-    }
+    let Some(length) = load(host, name, &mut buffer) else {
+        return FAILED;
+    };
+    batch_form(host, part(&buffer, length), name, path, first)
 }
 
 // ---- the arguments
@@ -146,36 +144,30 @@ fn is_same(host: Host<'_>, i: usize, j: usize) -> bool {
 fn is_again(host: Host<'_>, first: u8, i: u8) -> bool {
     let count = arg_count(host);
     let at = behind(first, i);
-    let mut j = at + 1;
-    while j < count {
+    for j in at + 1..count {
         if is_same(host, at, j) {
             return true;
         }
-        j += 1;
     }
     false
 }
 
 // Whether a file that is written would be read or written after that: each OUT is held to all words behind it.
 fn is_spoilt(host: Host<'_>, first: u8) -> bool {
-    let mut i = 0;
-    while i <= MOST {
+    for i in 0..=MOST {
         if is_again(host, first, 2 + 2 * i) {
             return true;
         }
-        i += 1;
     }
     false
 }
 
 // Whether there are as many words as a prelude and 1 to 8 members need, two each.
 fn are_pairs(host: Host<'_>, first: u8) -> bool {
-    let mut i = 0;
-    while i < MOST {
+    for i in 0..MOST {
         if has_words(host, first, 5 + 2 * i) {
             return true;
         }
-        i += 1;
     }
     false
 }

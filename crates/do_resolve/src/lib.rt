@@ -93,10 +93,10 @@ fn moved_to(form: &[u8], out: &[u8]) -> u32 {
 // How many aliases fewer this many rows have than the resolver's own output: an alias is three rows.
 fn spared_in(form: &[u8], rows: u32) -> u32 {
     let mut buffer = io::large_buffer();
-    match resolve(form, &mut buffer) {
-        Ok(own) => { if rows < own { (own - rows) / 3 } else { 0 } }
-        Err(_) => 0,
-    }
+    let Ok(own) = resolve(form, &mut buffer) else {
+        return 0;
+    };
+    if rows < own { (own - rows) / 3 } else { 0 }
 }
 
 fn share_form(host: Host<'_>, form: &[u8], path: &[u8]) -> u8 {
@@ -115,15 +115,13 @@ fn share_form(host: Host<'_>, form: &[u8], path: &[u8]) -> u8 {
 // Resolves the form in a file into another file.
 fn resolve_paths(host: Host<'_>, from: &[u8], to: &[u8], is_shared: bool) -> u8 {
     let mut buffer = io::large_buffer();
-    match load(host, from, &mut buffer) {
-        Some(length) => {
-            if is_shared {
-                share_form(host, part(&buffer, length), to)
-            } else {
-                resolve_form(host, part(&buffer, length), to)
-            }
-        }
-        None => FAILED,
+    let Some(length) = load(host, from, &mut buffer) else {
+        return FAILED;
+    };
+    if is_shared {
+        share_form(host, part(&buffer, length), to)
+    } else {
+        resolve_form(host, part(&buffer, length), to)
     }
 }
 
@@ -146,10 +144,10 @@ fn resolve_with(host: Host<'_>, options: Options) -> u8 {
 }
 
 fn run_resolve(host: Host<'_>, first: u8) -> u8 {
-    match read_options(host, first, SHARED) {
-        Some(given) => resolve_with(host, given),
-        None => FAILED,
-    }
+    let Some(given) = read_options(host, first, SHARED) else {
+        return FAILED;
+    };
+    resolve_with(host, given)
 }
 
 pub fn resolve_command(host: Host<'_>, task: Task, first: u8) -> u8 {
@@ -220,15 +218,13 @@ fn tell_named(host: Host<'_>, path: &[u8], form: &[u8]) -> u8 {
 // Says whether the form in a file is accepted.
 fn check_path(host: Host<'_>, path: &[u8], is_json: bool) -> u8 {
     let mut buffer = io::large_buffer();
-    match load(host, path, &mut buffer) {
-        Some(length) => {
-            if is_json {
-                tell_named(host, path, part(&buffer, length))
-            } else {
-                check_named(host, path, part(&buffer, length))
-            }
-        }
-        None => FAILED,
+    let Some(length) = load(host, path, &mut buffer) else {
+        return FAILED;
+    };
+    if is_json {
+        tell_named(host, path, part(&buffer, length))
+    } else {
+        check_named(host, path, part(&buffer, length))
     }
 }
 
@@ -241,10 +237,8 @@ fn check_argument(host: Host<'_>, i: usize, is_json: bool) -> u8 {
 fn check_from(host: Host<'_>, from: usize, is_json: bool) -> u8 {
     let count = arg_count(host);
     let mut status = DONE;
-    let mut i = from;
-    while i < count {
+    for i in from..count {
         status = worse(status, check_argument(host, i, is_json));
-        i += 1;
     }
     status
 }
@@ -259,10 +253,10 @@ fn check_with(host: Host<'_>, options: Options) -> u8 {
 }
 
 fn run_check(host: Host<'_>, first: u8) -> u8 {
-    match read_options(host, first, JSON) {
-        Some(given) => check_with(host, given),
-        None => FAILED,
-    }
+    let Some(given) = read_options(host, first, JSON) else {
+        return FAILED;
+    };
+    check_with(host, given)
 }
 
 pub fn check_command(host: Host<'_>, task: Task, first: u8) -> u8 {

@@ -43,10 +43,8 @@ fn say_meaning(fd: Talk<'_>, names: &[u8], form: &[u8], reference: u16) {
 
 // What the one reference at a place reaches.
 fn say_reached(fd: Talk<'_>, names: &[u8], form: &[u8], place: u32) {
-    match reference_at(form, place) {
-        Reference::Nothing => {}
-        Reference::At(row) => say_meaning(fd, names, form, row),
-        Reference::Several => {}
+    if let Reference::At(row) = reference_at(form, place) {
+        say_meaning(fd, names, form, row);
     }
 }
 
@@ -86,9 +84,7 @@ pub(crate) fn say_slots(
     answers: &[u8],
     count: usize,
 ) {
-    let mut slot = 0;
-    while slot < count {
+    for slot in 0..count {
         say_slot(fd, names, form, sheet, answers, (slot % 65536) as u32);
-        slot += 1;
     }
 }

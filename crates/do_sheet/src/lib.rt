@@ -149,17 +149,15 @@ fn say_with_sheet(
     is_json: bool,
 ) -> u8 {
     let mut buffer = io::large_buffer();
-    match load(host, path, &mut buffer) {
-        Some(length) => {
-            let before = error_noted(host);
-            said(
-                host,
-                say_of_forms(host, names, form, resolved, part(&buffer, length), is_json),
-                before,
-            )
-        }
-        None => FAILED,
-    }
+    let Some(length) = load(host, path, &mut buffer) else {
+        return FAILED;
+    };
+    let before = error_noted(host);
+    said(
+        host,
+        say_of_forms(host, names, form, resolved, part(&buffer, length), is_json),
+        before,
+    )
 }
 
 fn say_with_resolved(
@@ -171,10 +169,10 @@ fn say_with_resolved(
     is_json: bool,
 ) -> u8 {
     let mut buffer = io::large_buffer();
-    match load(host, path, &mut buffer) {
-        Some(length) => { say_with_sheet(host, names, form, part(&buffer, length), sheet, is_json) }
-        None => FAILED,
-    }
+    let Some(length) = load(host, path, &mut buffer) else {
+        return FAILED;
+    };
+    say_with_sheet(host, names, form, part(&buffer, length), sheet, is_json)
 }
 
 fn say_of_paths(
@@ -186,12 +184,10 @@ fn say_of_paths(
     is_json: bool,
 ) -> u8 {
     let mut buffer = io::large_buffer();
-    match load(host, form, &mut buffer) {
-        Some(length) => {
-            say_with_resolved(host, names, part(&buffer, length), resolved, sheet, is_json)
-        }
-        None => FAILED,
-    }
+    let Some(length) = load(host, form, &mut buffer) else {
+        return FAILED;
+    };
+    say_with_resolved(host, names, part(&buffer, length), resolved, sheet, is_json)
 }
 
 // Of the files in the arguments behind the options, with these names.
@@ -221,17 +217,17 @@ fn sheet_with(host: Host<'_>, options: Options) -> u8 {
         return FAILED;
     }
     let mut names = io::large_buffer();
-    match load_names(host, options, &mut names) {
-        Some(count) => say_called(host, options, part(&names, count)),
-        None => FAILED,
-    }
+    let Some(count) = load_names(host, options, &mut names) else {
+        return FAILED;
+    };
+    say_called(host, options, part(&names, count))
 }
 
 fn run_sheet(host: Host<'_>, first: u8) -> u8 {
-    match read_options(host, first, NAMES | JSON) {
-        Some(given) => sheet_with(host, given),
-        None => FAILED,
-    }
+    let Some(given) = read_options(host, first, NAMES | JSON) else {
+        return FAILED;
+    };
+    sheet_with(host, given)
 }
 
 pub fn sheet_command(host: Host<'_>, task: Task, first: u8) -> u8 {

@@ -36,14 +36,13 @@ fn tell_kind(host: Host<'_>, kind: u32) {
 // What the one reference at a place reaches.
 fn tell_reached(host: Host<'_>, form: &[u8], place: u32) {
     match reference_at(form, place) {
-        Reference::Nothing => say_null(host.out(), b",\"reached\":"),
         Reference::At(row) => say_meaning(
             host.out(),
             b",\"reached\":",
             form,
             final_meaning(form, row),
         ),
-        Reference::Several => say_null(host.out(), b",\"reached\":"),
+        Reference::Nothing | Reference::Several => say_null(host.out(), b",\"reached\":"),
     }
 }
 
@@ -68,9 +67,7 @@ pub(crate) fn tell_slots(
     answers: &[u8],
     count: usize,
 ) {
-    let mut slot = 0;
-    while slot < count {
+    for slot in 0..count {
         tell_slot(host, names, form, sheet, answers, (slot % 65536) as u32);
-        slot += 1;
     }
 }

@@ -1,6 +1,6 @@
 -- The ways through the code: each law is one unfolding of a definition, with the facts in the form in which the code gives them.
 use Rattle.std.specs.Prelude.{Option, Some, None, ℕ}
-use mathlib.Core.Path.{◌≡◌, refl}
+use mathlib.Core.Path.{◌≡◌, refl, ◌∙◌}
 use mathlib.Core.List.{List, [], ◌∷◌}
 use native.Mathlib.Omega.{arith}
 use Prim.Native.Nat.{ℕ, ◌+◌, ◌*◌, ◌-◌, ◌≤◌, ◌<◌}
@@ -52,9 +52,9 @@ module _ (text : List ℕ) (i number : ℕ) (T : Option ℕ) (inv : with_digits 
     unfolding parsed_then
     text_on longer q = rw q at turn
 
-    pub text_stop : p ≡ None → None ≡ T
+    pub text_stop : p ≡ None → (X : Option ℕ) → X ≡ None → X ≡ T
     unfolding parsed_then
-    text_stop q = rw q at turn
+    text_stop q X x = x ∙ (rw q at turn)
 
 pub ruleset ways = (digit_below, digit_above, digit_more, digit_full, rules)
 

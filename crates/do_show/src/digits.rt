@@ -30,10 +30,7 @@ pub(crate) fn number_in(text: &[u8]) -> Option<u32>
     let mut number: u32 = 0;
     let mut i = 0;
     while i < text.len() {
-        match with_digit(number, text[i]) {
-            Some(longer) => number = longer,
-            None => return None,
-        }
+        number = with_digit(number, text[i])?;
         i += 1;
     }
     Some(number)

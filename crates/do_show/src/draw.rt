@@ -96,13 +96,11 @@ fn draw_form(host: Host<'_>, names: &[u8], form: &[u8]) -> u8 {
 
 fn draw_path(host: Host<'_>, names: &[u8], path: &[u8]) -> u8 {
     let mut buffer = io::large_buffer();
-    match load(host, path, &mut buffer) {
-        Some(length) => {
-            let before = error_noted(host);
-            said(host, draw_form(host, names, part(&buffer, length)), before)
-        }
-        None => FAILED,
-    }
+    let Some(length) = load(host, path, &mut buffer) else {
+        return FAILED;
+    };
+    let before = error_noted(host);
+    said(host, draw_form(host, names, part(&buffer, length)), before)
 }
 
 // Draws the form of the argument behind the options, with these names.
@@ -120,17 +118,17 @@ fn draw_with(host: Host<'_>, options: Options) -> u8 {
         return FAILED;
     }
     let mut names = io::large_buffer();
-    match load_names(host, options, &mut names) {
-        Some(count) => draw_called(host, options, part(&names, count)),
-        None => FAILED,
-    }
+    let Some(count) = load_names(host, options, &mut names) else {
+        return FAILED;
+    };
+    draw_called(host, options, part(&names, count))
 }
 
 fn run_draw(host: Host<'_>, first: u8) -> u8 {
-    match read_options(host, first, NAMES) {
-        Some(given) => draw_with(host, given),
-        None => FAILED,
-    }
+    let Some(given) = read_options(host, first, NAMES) else {
+        return FAILED;
+    };
+    draw_with(host, given)
 }
 
 pub fn draw_command(host: Host<'_>, task: Task, first: u8) -> u8 {

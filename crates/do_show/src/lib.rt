@@ -103,29 +103,27 @@ fn answer(host: Host<'_>, form: &[u8], names: &[u8], asked: Option<u32>, is_json
 // Says of the form in a file what is asked.
 fn say_of_path(host: Host<'_>, path: &[u8], names: &[u8], asked: Option<u32>, is_json: bool) -> u8 {
     let mut buffer = io::large_buffer();
-    match load(host, path, &mut buffer) {
-        Some(length) => answer(host, part(&buffer, length), names, asked, is_json),
-        None => FAILED,
-    }
+    let Some(length) = load(host, path, &mut buffer) else {
+        return FAILED;
+    };
+    answer(host, part(&buffer, length), names, asked, is_json)
 }
 
 // Says it of the form in the argument behind the options.
 fn say_with(host: Host<'_>, options: Options, asked: Option<u32>) -> u8 {
     let mut names = io::large_buffer();
     let mut path = io::buffer();
-    match load_names(host, options, &mut names) {
-        Some(count) => {
-            let length = arg(host, behind(options.first, 1), &mut path);
-            say_of_path(
-                host,
-                &path[..length],
-                part(&names, count),
-                asked,
-                has(options.set, JSON),
-            )
-        }
-        None => FAILED,
-    }
+    let Some(count) = load_names(host, options, &mut names) else {
+        return FAILED;
+    };
+    let length = arg(host, behind(options.first, 1), &mut path);
+    say_of_path(
+        host,
+        &path[..length],
+        part(&names, count),
+        asked,
+        has(options.set, JSON),
+    )
 }
 
 fn show_with(host: Host<'_>, options: Options) -> u8 {
@@ -137,10 +135,10 @@ fn show_with(host: Host<'_>, options: Options) -> u8 {
 }
 
 fn run_show(host: Host<'_>, first: u8) -> u8 {
-    match read_options(host, first, NAMES | JSON) {
-        Some(given) => show_with(host, given),
-        None => FAILED,
-    }
+    let Some(given) = read_options(host, first, NAMES | JSON) else {
+        return FAILED;
+    };
+    show_with(host, given)
 }
 
 fn place_in(host: Host<'_>, i: usize) -> Option<u32> {
@@ -164,10 +162,10 @@ fn explain_with(host: Host<'_>, options: Options) -> u8 {
 }
 
 fn run_explain(host: Host<'_>, first: u8) -> u8 {
-    match read_options(host, first, NAMES | JSON) {
-        Some(given) => explain_with(host, given),
-        None => FAILED,
-    }
+    let Some(given) = read_options(host, first, NAMES | JSON) else {
+        return FAILED;
+    };
+    explain_with(host, given)
 }
 
 pub fn show_command(host: Host<'_>, task: Task, first: u8) -> u8 {

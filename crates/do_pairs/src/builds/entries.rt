@@ -100,14 +100,12 @@ fn end_in(list: &[u8]) -> u32 {
 pub(crate) fn say_entries(fd: Talk<'_>, names: &[u8], left: &[u8], right: &[u8], list: &[u8]) {
     let end = end_in(list);
     let mut at: u32 = 0;
-    let mut turns: u32 = 0;
-    while turns < MOST {
+    for turns in 0..MOST {
         if end <= at {
             return;
         }
         say_entry(fd, names, left, right, list, at);
         at = behind_entry(list, at);
-        turns += 1;
     }
 }
 
@@ -133,13 +131,11 @@ fn tell_entry(fd: Talk<'_>, list: &[u8], at: u32) {
 pub(crate) fn tell_entries(fd: Talk<'_>, list: &[u8]) {
     let end = end_in(list);
     let mut at: u32 = 0;
-    let mut turns: u32 = 0;
-    while turns < MOST {
+    for turns in 0..MOST {
         if end <= at {
             return;
         }
         tell_entry(fd, list, at);
         at = behind_entry(list, at);
-        turns += 1;
     }
 }

@@ -14,10 +14,8 @@ fn is_added(claim: &[u8], row: u16) -> bool {
 // How many rows before a row of a claim are the form's.
 fn own_before(claim: &[u8], row: u16) -> u32 {
     let mut count: u32 = 0;
-    let mut i: u16 = 0;
-    while i < row {
+    for i in 0..row {
         count = counted(count, !is_added(claim, i));
-        i += 1;
     }
     count
 }
@@ -35,14 +33,12 @@ fn left_behind(left: u32, is_one: bool) -> u32 {
 fn form_row(form: &[u8], count: u32) -> u16 {
     let rows = rows_in(form);
     let mut left = count;
-    let mut row: u16 = 0;
-    while row < rows {
+    for row in 0..rows {
         let is_own = code_at(form, row) != PATH;
         if is_own & (left == 0) {
             return row;
         }
         left = left_behind(left, is_own);
-        row += 1;
     }
     rows
 }
@@ -55,10 +51,8 @@ pub(crate) fn row_of(form: &[u8], claim: &[u8], row: u16) -> u16 {
 // How many rows before a row of a form are no PATH rows.
 fn rows_before(form: &[u8], row: u16) -> u32 {
     let mut count: u32 = 0;
-    let mut i: u16 = 0;
-    while i < row {
+    for i in 0..row {
         count = counted(count, code_at(form, i) != PATH);
-        i += 1;
     }
     count
 }
@@ -67,14 +61,12 @@ fn rows_before(form: &[u8], row: u16) -> u32 {
 pub(crate) fn claim_row(form: &[u8], claim: &[u8], row: u16) -> u16 {
     let rows = rows_in(claim);
     let mut left = rows_before(form, row);
-    let mut i: u16 = 0;
-    while i < rows {
+    for i in 0..rows {
         let is_own = !is_added(claim, i);
         if is_own & (left == 0) {
             return i;
         }
         left = left_behind(left, is_own);
-        i += 1;
     }
     rows
 }

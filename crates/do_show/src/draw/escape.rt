@@ -7,14 +7,12 @@ pub(crate) const ROOM: usize = 327680;
 // Copies bytes to the place `at` and those behind it, as far as there is room, and answers where they end.
 fn put(text: &[u8], to: &mut [u8; ROOM], at: usize) -> usize {
     let mut end = at;
-    let mut i = 0;
-    while i < text.len() {
+    for i in 0..text.len() {
         if ROOM <= end {
             return end;
         }
         to[end] = text[i];
         end += 1;
-        i += 1;
     }
     end
 }
@@ -31,10 +29,8 @@ fn put_byte(byte: u8, to: &mut [u8; ROOM], at: usize) -> usize {
 // Writes the names so, and answers how many bytes that are.
 pub(crate) fn escape(names: &[u8], to: &mut [u8; ROOM]) -> usize {
     let mut end = 0;
-    let mut i = 0;
-    while i < names.len() {
+    for i in 0..names.len() {
         end = put_byte(names[i], to, end);
-        i += 1;
     }
     end
 }

@@ -9,8 +9,8 @@ returns-then-text-eq0 c = search text_ways
 pub loop-i-init : goal.loop-i-init
 loop-i-init c = search text_ways
 
-pub returns-in-None : goal.returns-in-None
-returns-in-None c = search text_ways
+pub returns-in_err-number : goal.returns-in_err-number
+returns-in_err-number c = search text_ways
 
 pub loop-i-preserved : goal.loop-i-preserved
 loop-i-preserved c = search text_ways

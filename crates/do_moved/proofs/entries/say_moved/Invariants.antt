@@ -1,6 +1,0 @@
--- `do_moved::entries::say_moved` is safe and ends. The measure is the entries that are left.
-use Prim.Native.Nat.{◌-◌}
-use Rattle.do_moved.proofs.entries.say_moved.Given as goal
-
-abbrev pub decreases-loop-entry : goal.decreases-loop-entry
-decreases-loop-entry l = l.count - l.entry
