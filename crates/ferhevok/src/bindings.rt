@@ -10,6 +10,7 @@ ghost use Rattle.ferhevok.specs.Packed.{packed};
 
 use names::Slot;
 use packed::packed_refusal;
+use refusal::Refusal;
 use sheet::check;
 use sheet_with::check_with;
 

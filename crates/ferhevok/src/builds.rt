@@ -9,6 +9,7 @@ ghost use Rattle.ferhevok.specs.Packed.{packed_answer};
 
 use diff::run::compare;
 use packed::packed_refusal;
+use refusal::Refusal;
 
 // The refusal's number times 2^32 plus its place; else the bytes of the list.
 fn packed_list(answer: Result<u32, Refusal>) -> u64

@@ -13,6 +13,7 @@ use claim_check::Verdict;
 use claim_check::run::check;
 use names::Slot;
 use packed::{packed_no, packed_refusal};
+use refusal::Refusal;
 
 // 0 for yes; for no 100 and the condition, for a refusal its number, times 2^32, plus the row or the place.
 fn packed_verdict(verdict: Result<Verdict, Refusal>) -> u64

@@ -7,6 +7,7 @@ ghost use Rattle.ferhevok.specs.Packed.{packed_mending};
 
 use mend::run::mend;
 use packed::packed_refusal;
+use refusal::Refusal;
 
 // The refusal's number times 2^32 plus its place; else the number of changes.
 fn packed_in(answer: Result<u32, Refusal>) -> u64

@@ -9,9 +9,11 @@ ghost use Rattle.resolver_with.specs.Areas.{lent_of, Cleared};
 ghost use Rattle.ferhevok.specs.Packed.{packed};
 
 use moved::run::moved as list_moved;
+use moved_list::Listed;
 use moved_with::moved_with as list_moved_with;
 use names::Slot;
 use packed::{packed_counts, packed_refusal};
+use refusal::Refusal;
 
 // The refusal's number times 2^32 plus its place; else how many numbers are apart times 65536 plus how many have moved.
 fn packed_lists(answer: Result<Listed, Refusal>) -> u64

@@ -8,6 +8,7 @@ ghost use Rattle.ferhevok.specs.Packed.{packed_answer};
 
 use convert::run::convert;
 use packed::packed_refusal;
+use refusal::Refusal;
 
 // The refusal's number times 2^32 plus its place; else the rows of the converted form.
 fn packed_rows(answer: Result<u32, Refusal>) -> u64

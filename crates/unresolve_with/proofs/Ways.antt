@@ -176,6 +176,3 @@ back_left i r r₁ r' a a₁ a' n n₁ n' K C =
       again = table_left [] (output_size (setting i).version) 0 a a₁ a' K.1 C.again;
       noted = table_left [] (notes_for (setting i).version) no_note n n₁ n' K.2 C.noted;
     }
-
-pub said_as : (r s : Result ℕ Refused) {x : Rattle.resolver.specs.Meaning.Said} → meaning r ≡ x → r ≡ s → meaning s ≡ x
-said_as r s e q = sym (ap meaning q) ∙ e

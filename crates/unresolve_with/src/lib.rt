@@ -116,7 +116,7 @@ fn resolves_to(
     ensures { (result ≡ same_numbers (take (length claim.now) (output (alone i) input.now (set again.old 0 0))) claim.now) × Bytes input.now }
 {
     unmark(again);
-    run_in(input, again, i, entered, names, known, chains, ends);
+    let _ = run_in(input, again, i, entered, names, known, chains, ends);
     begins_with(again, claim)
 }
 
@@ -294,20 +294,12 @@ fn give_lent(
     ensures cleared_back { ClearedBack (setting i).version restored.old restored.new again.old again.new noted.old noted.new }
     ensures cleared { Cleared (setting i).version entered.old entered.new names.old names.new known.old known.new chains.old chains.new ends.old ends.new }
 {
-    match give_in_fronts(
+    let answer = give_in_fronts(
         form, out, i, restored, again, noted, entered, names, known, chains, ends,
-    ) {
-        Ok(rows) => {
-            clear_back(i, restored, again, noted);
-            clear_areas(i, entered, names, known, chains, ends);
-            Ok(rows)
-        }
-        Err(Refused { refusal: why, told }) => {
-            clear_back(i, restored, again, noted);
-            clear_areas(i, entered, names, known, chains, ends);
-            Err(Refused { refusal: why, told })
-        }
-    }
+    );
+    clear_back(i, restored, again, noted);
+    clear_areas(i, entered, names, known, chains, ends);
+    answer
 }
 
 // Writes an input that resolves to the form, of any setting in force, to the front of `out`. After every return all areas are zero up
