@@ -1,15 +1,16 @@
 -- Each way through the code that tries an operand finds what its twin finds.
 use Rattle.std.specs.Prelude.{Option, Some, None, ℕ}
-use mathlib.Core.Path.{◌≡◌, refl, ap, ◌∙◌}
+use Rattle.std.specs.Option.{option_eq}
+use mathlib.Core.Path.{◌≡◌, refl, sym, ap, ◌∙◌}
 use mathlib.Core.Logic.{⊎_elim}
-use mathlib.Core.Bool.{Bool, false, ◌&&◌}
+use mathlib.Core.Bool.{Bool, true, false, ◌&&◌}
 use mathlib.Core.List.{List}
 use Prim.Native.Nat.{ℕ, zero, suc, ◌+◌, ◌-◌, ◌/◌, ◌%◌, ◌<◌, ◌≤◌}
 use native.Mathlib.Omega.{arith}
 use lib.Dec.{eqb}
 use lib.ListN.{length, get_or, take}
 use borrow.Author.Rules.{rules}
-use borrow.Author.Tests.{lt-ltb, le-ltb, le-leb, lt-leb, eq-eqb, ne_eqb}
+use borrow.Author.Tests.{lt-ltb, le-ltb, le-leb, lt-leb, eq-eqb, ne_eqb, eqb-true, eqb-false}
 use Rattle.kit.specs.Pick.{pick}
 use Rattle.kit.proofs.Laws.{down, lt_or_le}
 use Rattle.parts.specs.PartsAt.{parts_at}
@@ -85,21 +86,30 @@ pub instance_other : (space : ℕ) → 6 < space → 10 ≡ instance_space space
 unfolding instance_space pick
 instance_other space h = rw (lt-leb _ _ h)
 
+eqb_turned : (a b : ℕ) → eqb a b ≡ eqb b a
+eqb_turned a b = go (eqb a b) refl
+  where
+    go : (t : Bool) → eqb a b ≡ t → t ≡ eqb b a
+    go true e = sym (eq-eqb b a (sym (eqb-true a b e)))
+    go false e = sym (ne_eqb b a (λ h. eqb-false a b e (sym h)))
+
+-- what `==` says of a number that is found, and one that is asked for
+number_is : (e : Option ℕ) (number : ℕ) → option_eq eqb e (Some number) ≡ is_number e number
+unfolding is_number
+number_is (Some own) number = eqb_turned own number
+number_is None number = refl
+
 module _ (ss : List Slot) (scope : ℕ) (q : Parts) (number : ℕ) where
   pub instance_written : q.e ≡ 0 → eqb number q.x ≡ instance_t ss scope q number
   unfolding instance_t pick
   instance_written h = rw (eq-eqb _ _ h)
 
   module _ (h : q.e ≡ 0 → ⊥) (space : ℕ) (k : space ≡ instance_space q.b) (e : Option ℕ) (f : e ≡ look_t ss scope space q.x) where
-    pub instance_named : (own : ℕ) → e ≡ Some own → eqb number own ≡ instance_t ss scope q number
-    unfolding instance_t pick is_number
-    instance_named own z = rw (ne_eqb _ _ h, ← k, ← f, z)
+    pub instance_found : (t : Bool) → t ≡ option_eq eqb e (Some number) → t ≡ instance_t ss scope q number
+    unfolding instance_t pick
+    instance_found t g = rw (ne_eqb _ _ h, ← k, ← f) (g ∙ number_is e number)
 
-    pub instance_none : e ≡ None → false ≡ instance_t ss scope q number
-    unfolding instance_t pick is_number
-    instance_none z = rw (ne_eqb _ _ h, ← k, ← f, z)
-
-pub ruleset instances = (instance_core, instance_other, instance_written, instance_named, instance_none, rules)
+pub ruleset instances = (instance_core, instance_other, instance_written, instance_found, rules)
 
 -- ---- other references
 
@@ -232,15 +242,10 @@ module _ (ss : List Slot) (scopes : List (List ℕ)) (d up : ℕ) (q p : Parts) 
         unfolding at_right_t pick
         at_is = rw (open_length scopes d, lt-leb _ _ h, eq-eqb _ _ g, le-ltb _ _ k, scope_out scopes d up h, ← s, ← f)
 
-        pub at_named : (own : ℕ) → e ≡ Some own → eqb p.y own ≡ at_right_t ss (open_in scopes d) up q p
-        unfolding is_number
-        at_named own z = rw z at at_is
+        pub at_found : (t : Bool) → t ≡ option_eq eqb e (Some p.y) → t ≡ at_right_t ss (open_in scopes d) up q p
+        at_found t g = g ∙ (number_is e p.y ∙ at_is)
 
-        pub at_none : e ≡ None → false ≡ at_right_t ss (open_in scopes d) up q p
-        unfolding is_number
-        at_none z = rw z at at_is
-
-pub ruleset reaching = (at_far, at_other, at_written, at_named, at_none, rules)
+pub ruleset reaching = (at_far, at_other, at_written, at_found, rules)
 
 module _ (ss : List Slot) (st : List (List ℕ)) (q p : Parts) where
   pub outer_named : 0 < p.e → false ≡ outer_right_t ss st q p

@@ -42,10 +42,7 @@ fn at_right(
         return p.y == q.y;
     }
     let scope = scope_at(scopes, c.depth - 1 - up);
-    match look_up(table, index, c.used, scope[1], q.b, q.y) {
-        Some(own) => p.y == own,
-        None => false,
-    }
+    look_up(table, index, c.used, scope[1], q.b, q.y) == Some(p.y)
 }
 
 // Whether a claimed OUTER is right: two written numbers stay.

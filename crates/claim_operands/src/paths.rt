@@ -70,8 +70,5 @@ pub(crate) fn is_instance(
     if q.e == 0 {
         return number == q.x;
     }
-    match look_up(table, index, used, scope, instance_space(q.b), q.x) {
-        Some(own) => number == own,
-        None => false,
-    }
+    look_up(table, index, used, scope, instance_space(q.b), q.x) == Some(number)
 }

@@ -11,8 +11,5 @@ returns-then-p-up c = search reaching
 pub returns-then-q-lt2 : goal.returns-then-q-lt2
 returns-then-q-lt2 c = search reaching
 
-pub returns-in-Some : goal.returns-in-Some
-returns-in-Some c = search reaching
-
-pub returns-in-None : goal.returns-in-None
-returns-in-None c = search reaching
+pub returns : goal.returns
+returns c = search reaching
