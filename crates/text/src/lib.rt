@@ -18,7 +18,7 @@ use fixed::{HEADER, bytes_of};
 // The most rows that a form has: those of the longest output.
 pub const MOST: u32 = 4092;
 
-// A form, with the number of its rows; or the first line that is wrong, and why.
+// The first line that is wrong, and why.
 #[derive(Clone, Copy)]
 pub struct Wrong {
     pub line: usize,
